@@ -21,7 +21,7 @@ use Rattle.capnp_pack.proofs.words.AllLemmas.{AllByRecursion-append}
 use Rattle.capnp_pack.proofs.encodings.PackedFrameLemmas.{packed_text_is}
 use Rattle.capnp.specs.declared.streams.Format.{Format}
 use Rattle.capnp.specs.declared.streams.Format.TheVariants.{Framed, Packed}
-use Rattle.capnp.specs.Prelude.{ReadsMessages, grammar_of, rules_of, StandsNext, IsStream, ExternalError, by_format, ReadsMessage, OrFailsAtEnd, HasRootTree, IsTextOf, AppendsEach}
+use Rattle.capnp.specs.Prelude.{ReadsMessages, grammar_of, rules_of, FoundNext, IsStream, ExternalError, by_format, ReadsMessage, OrFailsAtEnd, HasRootTree, IsTextOf, AppendsEach}
 use Rattle.capnp.proofs.FormatLemmas.{or_fails_advances, or_fails_failed}
 use Rattle.capnp.proofs.ReaderLemmas.{or_fails_accepted, or_fails_reads}
 use Rattle.capnp.proofs.RunLemmas.{format_parts}
@@ -35,7 +35,7 @@ AllByRecursion-push P xs ys x e all here = subst (AllByRecursion P) (sym e) (All
 pub texts_next : {X : Type 0} (rule : Padding) (format : Format) (limit : Option ℕ) (segments : X → List (List ℕ)) (xs ys : List X)
     (x : X) (old mid new : Option (List ℕ)) → ys ≡ xs ++ x ∷ []
     → IfKnown old mid (AreEncodings (grammar_of rule format) limit (map segments xs))
-    → IfKnown mid new (StandsNext rule format limit (segments x))
+    → IfKnown mid new (FoundNext rule format limit (segments x))
     → IfKnown old new (AreEncodings (grammar_of rule format) limit (map segments ys))
 texts_next rule format limit segments xs ys x old mid new e texts begins =
     let both : map segments ys ≡ map segments xs ++ segments x ∷ [] = ap (map segments) e ∙ map-append segments xs (x ∷ []) in
@@ -57,7 +57,7 @@ texts_further {IsText} {limit = limit} parts (n ∷ ns) (m ∷ ms) raw mid rest 
 -- so where there are as many as are asked for, an error is an external one
 accepted_later : (rule : Padding) (format : Format) (limit : Option ℕ) (F : Type 0) (ns : List (List (List ℕ))) (count : ℕ)
     (old mid : Option (List ℕ)) → length ns < count → IfKnown old mid (AreEncodings (grammar_of rule format) limit ns)
-    → IfSome mid (λ raw. (m : List (List ℕ)) (rest : List ℕ) → StandsNext rule format limit m raw rest → F)
+    → IfSome mid (λ raw. (m : List (List ℕ)) (rest : List ℕ) → FoundNext rule format limit m raw rest → F)
     → IfSome old (λ raw. (ms : List (List (List ℕ))) (rest : List ℕ) → AreEncodings (grammar_of rule format) limit ms raw rest
     → length ms ≡ count → F)
 accepted_later rule format limit F ns count None mid few had accepted = tt
@@ -150,21 +150,21 @@ few_next segments xs index x here is before few = subst (AllByRecursion IsWithin
     (AllByRecursion-append IsWithinSegmentLimit (map segments (take index xs)) (segments x ∷ []) before (few, tt))
 
 -- the encoding of a message is one whatever follows it
-pub text_stands : (rule : Padding) (format : Format) (limit : Option ℕ) (m : List (List ℕ)) (text rest : List ℕ) → IsWritable m → IsWithinSegmentLimit m → KeepsLimit (lengths m) limit
-    → IsTextOf format m text → StandsNext rule format limit m (text ++ rest) rest
-text_stands rule format limit m text rest writable few size here =
+pub text_found : (rule : Padding) (format : Format) (limit : Option ℕ) (m : List (List ℕ)) (text rest : List ℕ) → IsWritable m → IsWithinSegmentLimit m → KeepsLimit (lengths m) limit
+    → IsTextOf format m text → FoundNext rule format limit m (text ++ rest) rest
+text_found rule format limit m text rest writable few size here =
     record { text = text; is_text = text_is rule format m text writable here; within = IsWithin-written m limit writable few size; spelled = refl }
 
 -- so what is read of it is the message
 pub written_is_read : (rule : Padding) (format : Format) (limit : Option ℕ) (m read : List (List ℕ)) (text rest left : List ℕ) → IsWritable m → IsWithinSegmentLimit m
-    → KeepsLimit (lengths m) limit → IsTextOf format m text → StandsNext rule format limit read (text ++ rest) left → (read ≡ m) × (left ≡ rest)
-written_is_read rule format limit m read text rest left writable few size here stands =
-    (format_parts rule format limit).begins_once read m (text ++ rest) left rest stands (text_stands rule format limit m text rest writable few size here)
+    → KeepsLimit (lengths m) limit → IsTextOf format m text → FoundNext rule format limit read (text ++ rest) left → (read ≡ m) × (left ≡ rest)
+written_is_read rule format limit m read text rest left writable few size here is_found =
+    (format_parts rule format limit).begins_once read m (text ++ rest) left rest is_found (text_found rule format limit m text rest writable few size here)
 
 pub root_is_read : (rule : Padding) (format : Format) (limit : Option ℕ) (spaces : List Space) (trees : Trees) (text rest left : List ℕ) (read : List (List ℕ))
     → HasRootTree (map used_of spaces) trees → IsWritable (map used_of spaces) → IsWithinSegmentLimit (map used_of spaces)
     → KeepsLimit (lengths (map used_of spaces)) limit → IsTextOf format (map used_of spaces) text
-    → StandsNext rule format limit read (text ++ rest) left → HasRootTree read trees × (left ≡ rest)
-root_is_read rule format limit spaces trees text rest left read root writable few size here stands =
-    let same = written_is_read rule format limit (map used_of spaces) read text rest left writable few size here stands in
+    → FoundNext rule format limit read (text ++ rest) left → HasRootTree read trees × (left ≡ rest)
+root_is_read rule format limit spaces trees text rest left read root writable few size here is_found =
+    let same = written_is_read rule format limit (map used_of spaces) read text rest left writable few size here is_found in
     (subst (λ (segments : List (List ℕ)). HasRootTree segments trees) (sym same.0) root, same.1)

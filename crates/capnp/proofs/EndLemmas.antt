@@ -9,7 +9,7 @@ use Rattle.capnp_frame.specs.Prelude.{IsReaderKind, IfKnown, Advances, Fails, Gr
 use Rattle.capnp_frame.proofs.encodings.TextLemmas.{AreEncodings-once, AreEncodings-most, EndsEncodings-once}
 use Rattle.capnp.specs.declared.streams.Format.{Format}
 use Rattle.capnp.specs.declared.streams.FailedAt.{FailedAt}
-use Rattle.capnp.specs.Prelude.{grammar_of, refuses_of, StandsNext, NextError, EndsBy, IsStream, Writing, WritingErrors, most_messages, RanOut, HasWritten, FailedReading, FailedWriting, HasFailed, HasRun, IsResultOf, WritingErrorAt, RunErrorOf, FailsByRun, RunError, WritesEach}
+use Rattle.capnp.specs.Prelude.{grammar_of, refuses_of, FoundNext, NextError, EndsBy, IsStream, Writing, WritingErrors, most_messages, RanOut, HasWritten, FailedReading, FailedWriting, HasFailed, HasRun, IsResultOf, WritingErrorAt, RunErrorOf, FailsByRun, RunError, WritesEach}
 use Rattle.capnp.proofs.RunLemmas.{format_lawful, format_parts}
 
 pub ran_out_ends : (rule : Padding) (format : Format) (limit : Option ℕ) (Writes : Writing) (left before after : Option (List ℕ))
@@ -55,33 +55,33 @@ few_written rule format limit Writes count before after raw rest written message
 
 -- the message after some of a stream's messages is the next of them
 next_listed : (rule : Padding) (format : Format) (limit : Option ℕ) (ending : Option ErrorKind) (ms messages : List (List (List ℕ))) (message : List (List ℕ))
-    (raw between left rest : List ℕ) → AreEncodings (grammar_of rule format) limit ms raw between → StandsNext rule format limit message between left
+    (raw between left rest : List ℕ) → AreEncodings (grammar_of rule format) limit ms raw between → FoundNext rule format limit message between left
     → AreEncodings (grammar_of rule format) limit messages raw rest → EndsBy rule format limit ending rest
     → (others : List (List (List ℕ))) × (messages ≡ ms ++ message ∷ others)
-next_listed rule format limit ending [] [] message raw between left rest texts stands all ends =
+next_listed rule format limit ending [] [] message raw between left rest texts is_found all ends =
     absurd ((format_parts rule format limit).ends_apart ending message raw left (subst (λ l. EndsBy rule format limit ending l) all ends)
-    (subst (λ l. StandsNext rule format limit message l left) texts stands))
-next_listed rule format limit ending [] (n ∷ ns) message raw between left rest texts stands all ends =
-    let here : StandsNext rule format limit message raw left = subst (λ l. StandsNext rule format limit message l left) texts stands in
+    (subst (λ l. FoundNext rule format limit message l left) texts is_found))
+next_listed rule format limit ending [] (n ∷ ns) message raw between left rest texts is_found all ends =
+    let here : FoundNext rule format limit message raw left = subst (λ l. FoundNext rule format limit message l left) texts is_found in
     let same = (format_parts rule format limit).begins_once message n raw left all.0 here all.1 in
     (ns, ap (λ x. x ∷ ns) (sym same.0))
-next_listed rule format limit ending (m ∷ ms) [] message raw between left rest texts stands all ends =
+next_listed rule format limit ending (m ∷ ms) [] message raw between left rest texts is_found all ends =
     absurd ((format_parts rule format limit).ends_apart ending m raw texts.0 (subst (λ l. EndsBy rule format limit ending l) all ends) texts.1)
-next_listed rule format limit ending (m ∷ ms) (n ∷ ns) message raw between left rest texts stands all ends =
+next_listed rule format limit ending (m ∷ ms) (n ∷ ns) message raw between left rest texts is_found all ends =
     let same = (format_parts rule format limit).begins_once m n raw texts.0 all.0 texts.1 all.1 in
     let moved = subst (λ l. AreEncodings (grammar_of rule format) limit ms l between) same.1 texts.2 in
-    let inner = next_listed rule format limit ending ms ns message all.0 between left rest moved stands all.2 ends in
+    let inner = next_listed rule format limit ending ms ns message all.0 between left rest moved is_found all.2 ends in
     (inner.0, ap (λ x. x ∷ ns) (sym same.0) ∙ ap (λ l. m ∷ l) inner.1)
 
 -- a message at which a run stopped is the stream's of that index
 writing_error_at : (rule : Padding) (format : Format) (limit : Option ℕ) (Writes : Writing) (Errors : WritingErrors) (count : ℕ) (kind : ErrorKind)
     (left before after : Option (List ℕ)) (raw : List ℕ) (failed : FailedWriting rule format limit Writes Errors count kind left before after raw)
-    → IfKnown (Some failed.rest) left (StandsNext rule format limit failed.message) → (messages : List (List (List ℕ))) (ending : Option ErrorKind)
+    → IfKnown (Some failed.rest) left (FoundNext rule format limit failed.message) → (messages : List (List (List ℕ))) (ending : Option ErrorKind)
     → IsStream rule format limit messages ending raw → WritingErrorAt Errors messages count kind
-writing_error_at rule format limit Writes Errors count kind None before after raw failed stands messages ending stream = absurd stands
-writing_error_at rule format limit Writes Errors count kind (Some left) before after raw failed stands messages ending stream =
+writing_error_at rule format limit Writes Errors count kind None before after raw failed is_found messages ending stream = absurd is_found
+writing_error_at rule format limit Writes Errors count kind (Some left) before after raw failed is_found messages ending stream =
     let written = failed.written in
-    let next = next_listed rule format limit ending written.messages messages failed.message raw failed.rest left stream.rest written.texts stands stream.texts stream.ends in
+    let next = next_listed rule format limit ending written.messages messages failed.message raw failed.rest left stream.rest written.texts is_found stream.texts stream.ends in
     record {
       before = written.messages;
       message = failed.message;
@@ -104,7 +104,7 @@ failed_returns rule format limit Writes Errors count kind left before after raw 
       | inr (inr line) ↦ inl (failed_ends rule format limit Writes count kind left before after raw failed (error_ends rule format limit kind failed.rest left line) messages ending stream)
     ]
 failed_returns rule format limit Writes Errors count kind left before after raw (inr failed) messages ending stream =
-    inr (inr (writing_error_at rule format limit Writes Errors count kind left before after raw failed failed.stands messages ending stream))
+    inr (inr (writing_error_at rule format limit Writes Errors count kind left before after raw failed failed.is_found messages ending stream))
 
 returned : (rule : Padding) (format : Format) (limit : Option ℕ) (Writes : Writing) (Errors : WritingErrors)
     (result : Result (Unit {0}) FailedAt) (left before after : Option (List ℕ)) (raw : List ℕ)

@@ -47,11 +47,11 @@ error_on P (Err e) is p = subst P (sym is) p
 -- the engine's error is one of the form's
 form_writing_error : (pointer : Pointer) (refuses : Declining) (form : List ℕ) (segments : List (List ℕ)) (kind : ErrorKind) → IsForm pointer form → segments ≡ form ∷ []
     → WriterError refuses segments kind → (kind ≡ DeviceFailed) ⊎ (kind ≡ OutOfMemory) ⊎ WrittenFormError pointer refuses kind
-form_writing_error pointer refuses form segments kind stands is (inl failed) = inl failed
-form_writing_error pointer refuses form segments kind stands is (inr (inl chunk_errors)) =
-    inr (inr (inr (form, stands, subst (λ (s : List (List ℕ)). ChunksError refuses (chunks s) kind) is chunk_errors)))
-form_writing_error pointer refuses form segments kind stands is (inr (inr (inl many))) = absurd (omega (arith, many.0, ap length is))
-form_writing_error pointer refuses form segments kind stands is (inr (inr (inr memory))) = inr (inl memory.1)
+form_writing_error pointer refuses form segments kind is_found is (inl failed) = inl failed
+form_writing_error pointer refuses form segments kind is_found is (inr (inl chunk_errors)) =
+    inr (inr (inr (form, is_found, subst (λ (s : List (List ℕ)). ChunksError refuses (chunks s) kind) is chunk_errors)))
+form_writing_error pointer refuses form segments kind is_found is (inr (inr (inl many))) = absurd (omega (arith, many.0, ap length is))
+form_writing_error pointer refuses form segments kind is_found is (inr (inr (inr memory))) = inr (inl memory.1)
 
 -- so where there is no form, nothing is written
 pub without_form : {S X : Type 0} (sink : Ghosts S) (keeps : IsPreorder sink.same) (s : S) (pointer : Pointer) (e : Error) (r : Result X Error)
@@ -72,19 +72,19 @@ without_form {X = X} sink keeps s pointer e (Err o) is form_error = record {
 pub form_written : {S X : Type 0} (sink : Ghosts S) (old new : S) (pointer : Pointer) (form : List ℕ) (segments : List (List ℕ)) (r : Result X Error)
     → IsForm pointer form → segments ≡ form ∷ [] → WritesSegments sink old new segments r
     → WritesTo sink old new (AppendsForm pointer sink.appends) (LeavesForm pointer sink.appends sink.leaves) (λ kind. (kind ≡ OutOfMemory) ⊎ WrittenFormError pointer sink.refuses kind) r
-form_written sink old new pointer form segments (Ok x) stands is reported = record {
+form_written sink old new pointer form segments (Ok x) is_found is reported = record {
   written = IfKnown-weaker (sink.written old) (sink.written new) (λ before after (text, p, e).
-      (text, (form, stands, subst (λ (s : List (List ℕ)). AppendsAll sink.appends (chunks s) text) is p), e)) reported.parts.written;
+      (text, (form, is_found, subst (λ (s : List (List ℕ)). AppendsAll sink.appends (chunks s) text) is p), e)) reported.parts.written;
   left = tt;
   errors = tt;
   failed = tt;
   grows = reported.parts.grows;
 }
-form_written sink old new pointer form segments (Err e) stands is reported = record {
+form_written sink old new pointer form segments (Err e) is_found is reported = record {
   written = tt;
   left = IfKnown-weaker (sink.written old) (sink.written new) (λ before after (text, p, e).
-      (text, inr (form, stands, subst (λ (s : List (List ℕ)). LeavesSome sink.appends sink.leaves (chunks s) text) is p), e)) reported.parts.left;
-  errors = form_writing_error pointer sink.refuses form segments e.kind stands is reported.parts.errors;
+      (text, inr (form, is_found, subst (λ (s : List (List ℕ)). LeavesSome sink.appends sink.leaves (chunks s) text) is p), e)) reported.parts.left;
+  errors = form_writing_error pointer sink.refuses form segments e.kind is_found is reported.parts.errors;
   failed = reported.parts.failed;
   grows = reported.parts.grows;
 }
@@ -92,9 +92,9 @@ form_written sink old new pointer form segments (Err e) stands is reported = rec
 -- nothing of it is written unless the sink fails for a chunk
 pub form_untouched : {S X : Type 0} (sink : Ghosts S) (old new : S) (pointer : Pointer) (form : List ℕ) (segments : List (List ℕ)) (r : Result X Error)
     → IsForm pointer form → segments ≡ form ∷ [] → WritesSegments sink old new segments r → FailsOr r (λ kind. FormSinkError pointer sink.refuses kind ⊎ (new ≡ old))
-form_untouched sink old new pointer form segments (Ok x) stands is reported = tt
-form_untouched sink old new pointer form segments (Err e) stands is reported = elim reported.parts.untouched [
+form_untouched sink old new pointer form segments (Ok x) is_found is reported = tt
+form_untouched sink old new pointer form segments (Err e) is_found is reported = elim reported.parts.untouched [
   | inl failed ↦ inl failed
-  | inr (inl chunk_errors) ↦ inr (inl (form, stands, subst (λ (s : List (List ℕ)). ChunksError sink.refuses (chunks s) e.kind) is chunk_errors))
+  | inr (inl chunk_errors) ↦ inr (inl (form, is_found, subst (λ (s : List (List ℕ)). ChunksError sink.refuses (chunks s) e.kind) is chunk_errors))
   | inr (inr same) ↦ inr (inr same)
 ]

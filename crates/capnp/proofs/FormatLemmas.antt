@@ -6,17 +6,17 @@ use Rattle.capnp_frame.specs.declared.error.Error.{Error}
 use Rattle.capnp_frame.specs.declared.error.ErrorKind.{ErrorKind}
 use Rattle.capnp_frame.specs.declared.error.ErrorKind.TheVariants.{DeviceFailed, OutOfMemory}
 use Rattle.capnp_frame.specs.declared.io.Read.{Ghosts}
-use Rattle.capnp_frame.specs.Prelude.{IsWithin, Giving, Refusing, Splits, RunsShort, IfKnown, Advances, Fails, CountStands, StreamError, Outgrows, TakesMemory, TakesForLengths, IsReaderKind, MessageStands, SkipsMessage, StreamRules, framed_rules, reusing_rules, skipping_rules, ReadsStream}
+use Rattle.capnp_frame.specs.Prelude.{IsWithin, Giving, Refusing, Splits, RunsShort, IfKnown, Advances, Fails, CountFound, StreamError, Outgrows, TakesMemory, TakesForLengths, IsReaderKind, MessageFound, SkipsMessage, StreamRules, framed_rules, reusing_rules, skipping_rules, ReadsStream}
 use Rattle.capnp_frame.proofs.sources.SourceLemmas.{IfKnown-weaker}
 use Rattle.capnp_frame.proofs.errors.StreamErrorLemmas.{StreamError-map}
 use Rattle.capnp.specs.declared.streams.Format.{Format}
 use Rattle.capnp.specs.declared.streams.Format.TheVariants.{Framed}
-use Rattle.capnp.specs.Prelude.{OrFailsAtEnd, IsPlainSource, rules_of, skipping_rules_of, StandsNext, ReadingError}
+use Rattle.capnp.specs.Prelude.{OrFailsAtEnd, IsPlainSource, rules_of, skipping_rules_of, FoundNext, ReadingError}
 use Rattle.capnp.proofs.ReaderLemmas.{frames_requested}
 
-CountStands-map : {gives others : Giving} (given : (raw : List ℕ) (n : ℕ) (bytes rest : List ℕ) → gives raw n bytes rest → others raw n bytes rest)
-    (raw left : List ℕ) → CountStands gives raw left → CountStands others raw left
-CountStands-map given raw left count = record {
+CountFound-map : {gives others : Giving} (given : (raw : List ℕ) (n : ℕ) (bytes rest : List ℕ) → gives raw n bytes rest → others raw n bytes rest)
+    (raw left : List ℕ) → CountFound gives raw left → CountFound others raw left
+CountFound-map given raw left count = record {
   word = count.word;
   count = count.count;
   given = given raw 8 count.word left count.given;
@@ -26,8 +26,8 @@ CountStands-map given raw left count = record {
 
 TakesForLengths-map : (kept : ℕ) {gives others : Giving} (given : (raw : List ℕ) (n : ℕ) (bytes rest : List ℕ) → gives raw n bytes rest → others raw n bytes rest)
     (raw left : List ℕ) → TakesForLengths kept gives raw left → TakesForLengths kept others raw left
-unfolding CountStands-map
-TakesForLengths-map kept given raw left (count, more) = (CountStands-map given raw left count, more)
+unfolding CountFound-map
+TakesForLengths-map kept given raw left (count, more) = (CountFound-map given raw left count, more)
 
 Outgrows-map : (segments bytes : ℕ) (rule : Padding) {gives others : Giving}
     (given : (raw : List ℕ) (n : ℕ) (bytes rest : List ℕ) → gives raw n bytes rest → others raw n bytes rest)
@@ -50,7 +50,7 @@ Outgrows-map segments bytes rule given limit raw left (inr (lengths, table, with
 -- with less memory at hand it is outgrown sooner
 pub Outgrows-none : (segments bytes : ℕ) (rule : Padding) (gives : Giving) (limit : Option ℕ) (raw left : List ℕ)
     → Outgrows segments bytes rule gives limit raw left → TakesMemory rule gives limit raw left
-Outgrows-none segments bytes rule gives limit raw left (inl (stands, more)) = inl (stands, omega arith)
+Outgrows-none segments bytes rule gives limit raw left (inl (is_found, more)) = inl (is_found, omega arith)
 Outgrows-none segments bytes rule gives limit raw left (inr (lengths, table, within, more)) = inr (lengths, table, within, omega arith)
 
 kinds_of : (rule : Padding) {refuses also : Refusing} (errors : (raw : List ℕ) (n : ℕ) (kind : ErrorKind) → refuses raw n kind → also raw n kind)
@@ -65,17 +65,17 @@ kinds_of rule errors kind (inr (inr (inr (inr (inr (raw, n, line)))))) = inr (in
 -- Over a source of plain bytes what is read by its requests is read by the framed format's rules.
 module _ {S : Type 0} (rule : Padding) (source : Ghosts S) (plain : IsPlainSource source.gives source.refuses) (limit : Option ℕ) where
   texts_found : (old new : Option (List ℕ)) (r : Result (Option (List (List ℕ))) Error)
-      → IfOk r (λ found. IfSome found (λ m. IfKnown old new (MessageStands rule source.gives m)))
-      → IfOk r (λ found. IfSome found (λ m. IfKnown old new ((rules_of rule Framed).stands m)))
+      → IfOk r (λ found. IfSome found (λ m. IfKnown old new (MessageFound rule source.gives m)))
+      → IfOk r (λ found. IfSome found (λ m. IfKnown old new ((rules_of rule Framed).finds m)))
   texts_found old new (Err e) found = tt
   texts_found old new (Ok None) found = tt
   texts_found old new (Ok (Some m)) found = IfKnown-weaker old new (λ raw rest. (frames_requested rule _ _ plain m raw rest).0) found
 
   texts_accepted : (F : Type 0) (old : Option (List ℕ))
-      → IfSome old (λ raw. (m : List (List ℕ)) (rest : List ℕ) → MessageStands rule source.gives m raw rest → IsWithin m limit → F)
-      → IfSome old (λ raw. (m : List (List ℕ)) (rest : List ℕ) → (rules_of rule Framed).stands m raw rest → IsWithin m limit → F)
+      → IfSome old (λ raw. (m : List (List ℕ)) (rest : List ℕ) → MessageFound rule source.gives m raw rest → IsWithin m limit → F)
+      → IfSome old (λ raw. (m : List (List ℕ)) (rest : List ℕ) → (rules_of rule Framed).finds m raw rest → IsWithin m limit → F)
   texts_accepted F None accepted = tt
-  texts_accepted F (Some raw) accepted = λ m rest stands within. accepted m rest ((frames_requested rule _ _ plain m raw rest).1 stands) within
+  texts_accepted F (Some raw) accepted = λ m rest is_found within. accepted m rest ((frames_requested rule _ _ plain m raw rest).1 is_found) within
 
   texts_error : (takes also : List ℕ → List ℕ → Type 0) → ((raw left : List ℕ) → takes raw left → also raw left)
       → (old new : Option (List ℕ)) (r : Result (Option (List (List ℕ))) Error)
@@ -153,11 +153,11 @@ or_fails_failed source old new rules limit e (inl reads) = reads.failed
 or_fails_failed source old new rules limit e (inr (kind, reads)) = λ device. cc
 
 -- a message of a format, within the limit, is an encoding at the front
-pub stands_next : (rule : Padding) (format : Format) (limit : Option ℕ) (segments : List (List ℕ)) (old new : Option (List ℕ))
-    → IsWithin segments limit → IfKnown old new ((rules_of rule format).stands segments)
-    → IfKnown old new (StandsNext rule format limit segments)
-stands_next rule format limit segments old new within stands = IfKnown-weaker old new (λ raw rest (text, is_text, spelled).
-    record { text = text; is_text = is_text; within = within; spelled = spelled }) stands
+pub found_next : (rule : Padding) (format : Format) (limit : Option ℕ) (segments : List (List ℕ)) (old new : Option (List ℕ))
+    → IsWithin segments limit → IfKnown old new ((rules_of rule format).finds segments)
+    → IfKnown old new (FoundNext rule format limit segments)
+found_next rule format limit segments old new within is_found = IfKnown-weaker old new (λ raw rest (text, is_text, spelled).
+    record { text = text; is_text = is_text; within = within; spelled = spelled }) is_found
 
 -- and a reader's failure is a cause that the run knows
 pub reading_error : (rule : Padding) (format : Format) (limit : Option ℕ) (kind : ErrorKind) (old new : Option (List ℕ))

@@ -5,10 +5,10 @@ use Rattle.capnp_frame.specs.declared.error.Error.{Error}
 use Rattle.capnp_frame.specs.declared.serialize.segment_table.Padding.{Padding}
 use Rattle.capnp_frame.specs.declared.io.Read.{Ghosts}
 use Rattle.capnp_frame.specs.declared.message.options.ReaderOptions.{ReaderOptions}
-use Rattle.capnp_frame.specs.Prelude.{IsWithin, IsFrame, Giving, Refusing, IsSource, IfKnown, MessageStands, StreamRules, next_in, ReadsStream, ReadsStreamInto, Grammar, BeginsWith, SeenBuffer}
+use Rattle.capnp_frame.specs.Prelude.{IsWithin, IsFrame, Giving, Refusing, IsSource, IfKnown, MessageFound, StreamRules, next_in, ReadsStream, ReadsStreamInto, Grammar, BeginsWith, SeenBuffer}
 use Rattle.capnp_frame.proofs.errors.StreamErrorLemmas.{given_some}
 use Rattle.capnp_frame.proofs.sources.SourceLemmas.{IfKnown-weaker}
-use Rattle.capnp_frame.proofs.encodings.RequestLemmas.{MessageStands-map}
+use Rattle.capnp_frame.proofs.encodings.RequestLemmas.{MessageFound-map}
 use Rattle.capnp_frame.proofs.encodings.FrameLemmas.{plain_requests}
 use Rattle.capnp_frame.proofs.encodings.TextLemmas.{AreRequested}
 use Rattle.capnp_pack.specs.Prelude.{unpacking}
@@ -18,38 +18,38 @@ use Rattle.capnp.specs.Prelude.{IsPlainSource, ExternalError, MessageRules, fram
 -- the requests of a plain source take just the frames
 pub frames_requested : (rule : Padding) (gives : Giving) (refuses : Refusing) → IsPlainSource gives refuses → AreRequested (IsFrame rule) rule gives
 frames_requested rule gives refuses plain segments raw rest = (
-  λ stands. (plain_requests rule segments raw rest).0 (MessageStands-map (λ w n b t. (plain.given w n b t).1) segments raw rest stands),
-  λ text. MessageStands-map (λ w n b t. (plain.given w n b t).0) segments raw rest ((plain_requests rule segments raw rest).1 text),
+  λ is_found. (plain_requests rule segments raw rest).0 (MessageFound-map (λ w n b t. (plain.given w n b t).1) segments raw rest is_found),
+  λ text. MessageFound-map (λ w n b t. (plain.given w n b t).0) segments raw rest ((plain_requests rule segments raw rest).1 text),
 )
 
 -- where a message is by these rules, there is an encoding of it in this grammar
 abbrev pub AreEncodingsBy : Grammar → StreamRules → Type 0
-AreEncodingsBy IsText rules = (m : List (List ℕ)) (raw rest : List ℕ) → rules.stands m raw rest ↔ ((text : List ℕ) × IsText text m × (raw ≡ text ++ rest))
+AreEncodingsBy IsText rules = (m : List (List ℕ)) (raw rest : List ℕ) → rules.finds m raw rest ↔ ((text : List ℕ) × IsText text m × (raw ≡ text ++ rest))
 
 -- so it begins the stream, within the limit
 begins_next : (IsText : Grammar) (rules : StreamRules) (limit : Option ℕ) (old new : Option (List ℕ)) (r : Result (Option (List (List ℕ))) Error)
     → AreEncodingsBy IsText rules → IfOk r (λ found. IfSome found (λ m. IsWithin m limit))
-    → IfOk r (λ found. IfSome found (λ m. IfKnown old new (rules.stands m)))
+    → IfOk r (λ found. IfSome found (λ m. IfKnown old new (rules.finds m)))
     → IfOk r (λ found. IfSome found (λ m. IfKnown old new (BeginsWith IsText limit m)))
 begins_next IsText rules limit old new (Err e) texts within found = tt
 begins_next IsText rules limit old new (Ok None) texts within found = tt
-begins_next IsText rules limit old new (Ok (Some m)) texts within found = IfKnown-weaker old new (λ raw rest stands.
-    let text = (texts m raw rest).0 stands in
+begins_next IsText rules limit old new (Ok (Some m)) texts within found = IfKnown-weaker old new (λ raw rest is_found.
+    let text = (texts m raw rest).0 is_found in
     record { text = text.0; is_text = text.1; within = within; spelled = text.2 }) found
 
 -- where nothing is unread, there is no message
-pub nothing_stands : (rule : Padding) {gives : Giving} {refuses : Refusing} → IsSource gives refuses → (m : List (List ℕ))
-    (old new : Option (List ℕ)) → old ≡ Some [] → IfKnown old new (MessageStands rule gives m) → ⊥
-nothing_stands rule laws m None new none stands = cc
-nothing_stands rule laws m (Some raw) None none stands = stands
-nothing_stands rule laws m (Some raw) (Some rest) none stands =
+pub nothing_found : (rule : Padding) {gives : Giving} {refuses : Refusing} → IsSource gives refuses → (m : List (List ℕ))
+    (old new : Option (List ℕ)) → old ≡ Some [] → IfKnown old new (MessageFound rule gives m) → ⊥
+nothing_found rule laws m None new none is_found = cc
+nothing_found rule laws m (Some raw) None none is_found = is_found
+nothing_found rule laws m (Some raw) (Some rest) none is_found =
     let empty : raw ≡ [] = cc in
-    given_some laws raw 8 stands.table.first stands.table.between stands.table.first_given (lit< tt) empty
+    given_some laws raw 8 is_found.table.first is_found.table.between is_found.table.first_given (lit< tt) empty
 
 pub nothing_begins_known : {IsText : Grammar} (rule : Padding) {gives : Giving} {refuses : Refusing} → IsSource gives refuses
     → AreRequested IsText rule gives → (limit : Option ℕ) (m : List (List ℕ)) (old new : Option (List ℕ)) → old ≡ Some []
     → IfKnown old new (BeginsWith IsText limit m) → ⊥
-nothing_begins_known rule laws texts limit m old new none begins = nothing_stands rule laws m old new none
+nothing_begins_known rule laws texts limit m old new none begins = nothing_found rule laws m old new none
     (IfKnown-weaker old new (λ raw rest b. (texts m raw rest).1 (b.text, b.is_text, b.spelled)) begins)
 
 pub nothing_begins : {IsText : Grammar} (rule : Padding) {gives : Giving} {refuses : Refusing} → IsSource gives refuses
@@ -58,8 +58,8 @@ pub nothing_begins : {IsText : Grammar} (rule : Padding) {gives : Giving} {refus
     → IfSome old (λ raw. (m : List (List ℕ)) (rest : List ℕ) → BeginsWith IsText limit m raw rest → F m)
 nothing_begins rule laws texts limit F None none = tt
 nothing_begins rule laws texts limit F (Some raw) none = λ m rest begins.
-    let stands = (texts m raw rest).1 (begins.text, begins.is_text, begins.spelled) in
-    absurd (given_some laws raw 8 stands.table.first stands.table.between stands.table.first_given (lit< tt) none)
+    let is_found = (texts m raw rest).1 (begins.text, begins.is_text, begins.spelled) in
+    absurd (given_some laws raw 8 is_found.table.first is_found.table.between is_found.table.first_given (lit< tt) none)
 
 -- Where the rules' encodings are what the stream's rules read: a message is by these exactly where an encoding of it is, and no
 -- encoding begins where nothing is unread.
@@ -81,7 +81,7 @@ packed_read rule plain = (λ m raw rest. (λ x. x, λ x. x), are_read rule unpac
 -- So of a result what follows where a message is there, follows where its encoding is: of a message always, of none at no encoding.
 module _ (F : List (List ℕ) → Type 0) (rules : MessageRules) (limit : Option ℕ) where
   accepts : (old : Option (List ℕ)) → AreRead rules → rules.plain
-      → IfSome old (λ raw. (m : List (List ℕ)) (rest : List ℕ) → rules.stream.stands m raw rest → IsWithin m limit → F m)
+      → IfSome old (λ raw. (m : List (List ℕ)) (rest : List ℕ) → rules.stream.finds m raw rest → IsWithin m limit → F m)
       → IfSome old (λ raw. (m : List (List ℕ)) (rest : List ℕ) → BeginsWith rules.is_text limit m raw rest → F m)
   accepts None laws plain accepted = tt
   accepts (Some raw) laws plain accepted = λ m rest begins.
@@ -101,7 +101,7 @@ module _ (F : List (List ℕ) → Type 0) (rules : MessageRules) (limit : Option
 module _ {S : Type 0} (source : Ghosts S) (old new : S) (rules : MessageRules) (options : ReaderOptions) where
   begins : (r : Result (Option (List (List ℕ))) Error) → AreRead rules → rules.plain
       → IfOk r (λ found. IfSome found (λ m. IsWithin m options.traversal_limit_in_words))
-      → IfOk r (λ found. IfSome found (λ m. IfKnown (source.unread old) (source.unread new) (rules.stream.stands m)))
+      → IfOk r (λ found. IfSome found (λ m. IfKnown (source.unread old) (source.unread new) (rules.stream.finds m)))
       → IfOk r (λ found. IfSome found (λ m. IfKnown (source.unread old) (source.unread new) (BeginsWith rules.is_text options.traversal_limit_in_words m)))
   begins r laws plain = begins_next rules.is_text rules.stream options.traversal_limit_in_words (source.unread old) (source.unread new) r (laws plain).0
 

@@ -14,7 +14,7 @@ use Rattle.capnp.specs.declared.streams.Format.{Format}
 use Rattle.capnp.specs.declared.streams.Format.TheVariants.{Framed, Packed}
 use Rattle.capnp.specs.declared.streams.FailedAt.{FailedAt}
 use Rattle.capnp.specs.Prelude.{grammar_of, gives_of, refuses_of, rules_of, Writing, WritingErrors, WritesFrom, WritesAll, HasWrittenNext, HasWritten, ReadingError, WritingError, FailsWithinOr, RunError, most_messages, HasRun, by_format}
-use Rattle.capnp.proofs.FormatLemmas.{stands_next}
+use Rattle.capnp.proofs.FormatLemmas.{found_next}
 use Rattle.capnp.proofs.ReaderLemmas.{AreRead, are_read}
 use Rattle.capnp.proofs.WriterLemmas.{IsWritable-within}
 
@@ -75,7 +75,7 @@ pub HasWritten-next : (rule : Padding) (format : Format) (limit : Option ℕ) (W
 HasWritten-next rule format limit Writes count before between after raw mid rest written next = record {
   messages = written.messages ++ next.message ∷ [];
   counted = length_push written.messages next.message ∙ ap (λ k. k + 1) written.counted;
-  texts = AreEncodings-push (grammar_of rule format) limit written.messages next.message raw mid rest written.texts next.stands;
+  texts = AreEncodings-push (grammar_of rule format) limit written.messages next.message raw mid rest written.texts next.is_found;
   written = IfKnown-join before between after (Adds-join Writes written.messages next.message) written.written
       (subst (λ k. IfKnown between after (Adds (Writes k next.message))) (sym written.counted) next.written);
 }
@@ -83,11 +83,11 @@ HasWritten-next rule format limit Writes count before between after raw mid rest
 -- the next message is there, and is written, or not completely
 pub written_next : (rule : Padding) (format : Format) (limit : Option ℕ) (Writes : Writing) (index : ℕ) (message : List (List ℕ))
     (old new before after : Option (List ℕ)) → IsWithin message limit
-    → IfKnown old new ((rules_of rule format).stands message) → IfKnown before after (Adds (Writes index message))
+    → IfKnown old new ((rules_of rule format).finds message) → IfKnown before after (Adds (Writes index message))
     → IfKnown old new (HasWrittenNext rule format limit Writes index before after)
-written_next rule format limit Writes index message old new before after within stands written =
-    IfKnown-weaker old new (λ raw rest begins. record { message = message; stands = begins; written = written })
-    (stands_next rule format limit message old new within stands)
+written_next rule format limit Writes index message old new before after within is_found written =
+    IfKnown-weaker old new (λ raw rest begins. record { message = message; is_found = begins; written = written })
+    (found_next rule format limit message old new within is_found)
 
 -- a run stops by an error of writing also where a reader accepts the message
 pub message_run_error : (limit : Option ℕ) (Errors : WritingErrors) (index : ℕ) (message : List (List ℕ))
@@ -145,19 +145,19 @@ pub failed_at_message : (rule : Padding) (format : Format) (limit : Option ℕ) 
     (failure : FailedAt) (message : List (List ℕ)) (old mid left before between after : Option (List ℕ))
     → IsWithin message limit → AllByRecursion IsWholeWords message
     → IfKnown old mid (HasWritten rule format limit Writes failure.message before between)
-    → IfKnown mid left ((rules_of rule format).stands message)
+    → IfKnown mid left ((rules_of rule format).finds message)
     → WritingError Errors failure.message message failure.error.kind → IfKnown between after (Adds (Errors.leaves failure.message message))
     → FailsWithinOr Errors failure.message message (after ≡ between) failure.error.kind
     → IfSome old (HasRun rule format limit Writes Errors (Err failure) left before after)
-failed_at_message rule format limit Writes Errors failure message None mid left before between after within whole written stands error of_it untouched = tt
-failed_at_message rule format limit Writes Errors failure message (Some raw) None left before between after within whole written stands error of_it untouched = absurd written
-failed_at_message rule format limit Writes Errors failure message (Some raw) (Some rest) left before between after within whole written stands error of_it untouched =
+failed_at_message rule format limit Writes Errors failure message None mid left before between after within whole written is_found error of_it untouched = tt
+failed_at_message rule format limit Writes Errors failure message (Some raw) None left before between after within whole written is_found error of_it untouched = absurd written
+failed_at_message rule format limit Writes Errors failure message (Some raw) (Some rest) left before between after within whole written is_found error of_it untouched =
     inr (record {
       rest = rest;
       between = between;
       written = written;
       message = message;
-      stands = stands_next rule format limit message (Some rest) left within stands;
+      is_found = found_next rule format limit message (Some rest) left within is_found;
       writable = IsWritable-within message limit within whole;
       error = error;
       left_of_it = of_it;

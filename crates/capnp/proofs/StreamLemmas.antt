@@ -9,7 +9,7 @@ use Rattle.capnp_frame.specs.Prelude.{IsWithin, Fails, Grammar, AreEncodings, Ta
 use Rattle.capnp_frame.proofs.sources.AskLemmas.{never_fails}
 use Rattle.capnp_frame.proofs.encodings.TextLemmas.{AreEncodings-push}
 use Rattle.capnp.specs.declared.streams.Format.{Format}
-use Rattle.capnp.specs.Prelude.{grammar_of, gives_of, StandsNext, NextError, TakesForNext, EndsBy, IsStream, kind_of, IsMemoryError, TakesForListed, EndsReading}
+use Rattle.capnp.specs.Prelude.{grammar_of, gives_of, FoundNext, NextError, TakesForNext, EndsBy, IsStream, kind_of, IsMemoryError, TakesForListed, EndsReading}
 use Rattle.capnp.proofs.EndLemmas.{stream_once}
 use Rattle.capnp.proofs.RunLemmas.{format_parts}
 
@@ -27,9 +27,9 @@ memory_at_bytes [] kind end memory = let device : kind ≡ DeviceFailed = end re
 memory_at_bytes (byte ∷ raw) kind end memory = omega arith
 
 -- an encoding has bytes
-pub stands_at_bytes : (rule : Padding) (format : Format) (limit : Option ℕ) (m : List (List ℕ)) (raw rest : List ℕ) → StandsNext rule format limit m raw rest → 0 < length raw
-stands_at_bytes rule format limit m [] rest stands = absurd ((format_parts rule format limit).ends_apart None m [] rest refl stands)
-stands_at_bytes rule format limit m (byte ∷ raw) rest stands = omega arith
+pub found_in_bytes : (rule : Padding) (format : Format) (limit : Option ℕ) (m : List (List ℕ)) (raw rest : List ℕ) → FoundNext rule format limit m raw rest → 0 < length raw
+found_in_bytes rule format limit m [] rest is_found = absurd ((format_parts rule format limit).ends_apart None m [] rest refl is_found)
+found_in_bytes rule format limit m (byte ∷ raw) rest is_found = omega arith
 
 -- and is read from more bytes than what follows it
 moves_on_by : (rule : Padding) (format : Format) (limit : Option ℕ) (m : List (List ℕ)) (text raw rest : List ℕ) → grammar_of rule format text m → IsWithin m limit
@@ -38,8 +38,8 @@ moves_on_by rule format limit m [] raw rest is_text within spelled = absurd ((fo
     (record { text = []; is_text = is_text; within = within; spelled = refl }))
 moves_on_by rule format limit m (byte ∷ text) raw rest is_text within spelled = omega (arith, ap length spelled, length-append (byte ∷ text) rest)
 
-pub moves_on : (rule : Padding) (format : Format) (limit : Option ℕ) (m : List (List ℕ)) (raw rest : List ℕ) → StandsNext rule format limit m raw rest → length rest < length raw
-moves_on rule format limit m raw rest stands = moves_on_by rule format limit m stands.text raw rest stands.is_text stands.within stands.spelled
+pub moves_on : (rule : Padding) (format : Format) (limit : Option ℕ) (m : List (List ℕ)) (raw rest : List ℕ) → FoundNext rule format limit m raw rest → length rest < length raw
+moves_on rule format limit m raw rest is_found = moves_on_by rule format limit m is_found.text raw rest is_found.is_text is_found.within is_found.spelled
 
 -- the kind of an error for which memory is lacking
 pub memory_kind : (error : Error) → IsMemoryError (Some error) → error.kind ≡ OutOfMemory
@@ -82,9 +82,9 @@ texts_within IsText limit ms raw rest texts =
 
 -- one message more
 pub next_texts : (rule : Padding) (format : Format) (limit : Option ℕ) (ms ns : List (List (List ℕ))) (raw rest left : List ℕ) → AreEncodings (grammar_of rule format) limit ms raw rest
-    → (message : List (List ℕ)) × StandsNext rule format limit message rest left × (ns ≡ ms ++ message ∷ []) → AreEncodings (grammar_of rule format) limit ns raw left
-next_texts rule format limit ms ns raw rest left texts (message, stands, more) =
-    subst (λ l. AreEncodings (grammar_of rule format) limit l raw left) (sym more) (AreEncodings-push (grammar_of rule format) limit ms message raw rest left texts stands)
+    → (message : List (List ℕ)) × FoundNext rule format limit message rest left × (ns ≡ ms ++ message ∷ []) → AreEncodings (grammar_of rule format) limit ns raw left
+next_texts rule format limit ms ns raw rest left texts (message, is_found, more) =
+    subst (λ l. AreEncodings (grammar_of rule format) limit l raw left) (sym more) (AreEncodings-push (grammar_of rule format) limit ms message raw rest left texts is_found)
 
 pub error_ends : (error : Error) (P T Q : Type 0) → ((error.kind ≡ OutOfMemory) × T) ⊎ Q → (IsMemoryError (Some error) × (P → T)) ⊎ Q
 error_ends error P T Q (inl memory) = inl (ap Some memory.0, λ few. memory.1)

@@ -58,7 +58,7 @@ HasFailed-weaker rule format limit P Q Errors weaker count kind left before afte
   between = failed.between;
   written = HasWritten-weaker rule format limit P Q weaker count before failed.between raw failed.rest failed.written;
   message = failed.message;
-  stands = failed.stands;
+  is_found = failed.is_found;
   writable = failed.writable;
   error = failed.error;
   left_of_it = failed.left_of_it;

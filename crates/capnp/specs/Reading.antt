@@ -6,7 +6,7 @@ use Rattle.capnp_frame.specs.declared.error.ErrorKind.TheVariants.{FailedToFillT
 use Rattle.capnp_frame.specs.declared.serialize.segment_table.Padding.{Padding}
 use Rattle.capnp_frame.specs.Prelude.{AreEncodings}
 use Rattle.capnp.specs.declared.streams.Format.{Format}
-use Rattle.capnp.specs.Streams.{grammar_of, StandsNext, TakesForNext, EndsBy, IsStream}
+use Rattle.capnp.specs.Streams.{grammar_of, FoundNext, TakesForNext, EndsBy, IsStream}
 
 -- the kind of an error, if there is one
 abbrev pub kind_of : Option Error → Option ErrorKind
@@ -29,7 +29,7 @@ TellsCut reason reported = IsTrue reported ↔ IsCut reason
 -- memory is taken for the next message of these bytes: to read it, or, once it is read, for its place in a list
 abbrev pub TakesForListed : Padding → Format → Option ℕ → List ℕ → Type 0
 TakesForListed rule format limit rest = TakesForNext rule format limit rest
-    ⊎ ((message : List (List ℕ)) × (left : List ℕ) × StandsNext rule format limit message rest left)
+    ⊎ ((message : List (List ℕ)) × (left : List ℕ) × FoundNext rule format limit message rest left)
 
 -- Why no further message is read of a stream, of which `rest` is left: memory is lacking, and is taken there (a list of 2^64 - 1
 -- messages takes no further one; a stream of fewer bytes has fewer), or the stream ends, or its reader fails.

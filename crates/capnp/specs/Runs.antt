@@ -6,11 +6,11 @@ use Rattle.capnp_frame.specs.declared.error.ErrorKind.TheVariants.{DeviceFailed,
 use Rattle.capnp_frame.specs.declared.serialize.segment_table.Padding.{Padding}
 use Rattle.capnp_frame.specs.declared.io.Read.{Ghosts}
 use Rattle.capnp_frame.specs.declared.io.Write.{Ghosts as SinkGhosts}
-use Rattle.capnp_frame.specs.Prelude.{CountStands, TakesMemory, IsReaderKind, IfKnown, Advances, Fails, Adds, Grows, AreEncodings, IsWritable}
+use Rattle.capnp_frame.specs.Prelude.{CountFound, TakesMemory, IsReaderKind, IfKnown, Advances, Fails, Adds, Grows, AreEncodings, IsWritable}
 use Rattle.capnp.specs.declared.streams.Format.{Format}
 use Rattle.capnp.specs.declared.streams.FailedAt.{FailedAt}
 use Rattle.capnp.specs.Headline.{ExternalError}
-use Rattle.capnp.specs.Streams.{grammar_of, gives_of, refuses_of, StandsNext, NextError, IsStream}
+use Rattle.capnp.specs.Streams.{grammar_of, gives_of, refuses_of, FoundNext, NextError, IsStream}
 
 -- What is written for a message, by its index, as a relation: `Writes index message text`.
 abbrev pub Writing : Type 1
@@ -38,7 +38,7 @@ WritesAll Writes messages text = WritesFrom Writes 0 messages text
 -- the next message of a stream was written, under this index
 pub record HasWrittenNext (rule : Padding) (format : Format) (limit : Option ℕ) (Writes : Writing) (index : ℕ) (before after : Option (List ℕ)) (raw rest : List ℕ) : Type 0 where
   pub message : List (List ℕ)
-  pub stands : StandsNext rule format limit message raw rest
+  pub is_found : FoundNext rule format limit message raw rest
   pub written : IfKnown before after (Adds (Writes index message))
 
 -- This many messages from the front of `raw` were written, and then `rest` is unread.
@@ -51,7 +51,7 @@ pub record HasWritten (rule : Padding) (format : Format) (limit : Option ℕ) (W
 -- where memory is taken for the next message, as its reader takes it, or as a call that skips it takes it for the lengths of any number
 -- of segments
 abbrev pub TakesInRun : Padding → Format → Option ℕ → List ℕ → List ℕ → Type 0
-TakesInRun rule format limit raw left = CountStands (gives_of format) raw left ⊎ TakesMemory rule (gives_of format) limit raw left
+TakesInRun rule format limit raw left = CountFound (gives_of format) raw left ⊎ TakesMemory rule (gives_of format) limit raw left
 
 -- why the next message was not read: the device's failure; want of memory where memory is taken, with
 -- no more consumed than was asked for until then; or an error of the unread bytes
@@ -108,7 +108,7 @@ pub record FailedWriting (rule : Padding) (format : Format) (limit : Option ℕ)
   pub between : Option (List ℕ)
   pub written : HasWritten rule format limit Writes count before between raw rest
   pub message : List (List ℕ)
-  pub stands : IfKnown (Some rest) left (StandsNext rule format limit message)
+  pub is_found : IfKnown (Some rest) left (FoundNext rule format limit message)
   pub writable : IsWritable message
   pub error : WritingError Errors count message kind
   pub left_of_it : IfKnown between after (Adds (Errors.leaves count message))

@@ -37,7 +37,7 @@ refuses_of Packed = ChunkError
 -- the rules of the readers of a format, over a source of plain bytes
 abbrev pub rules_of : Padding → Format → StreamRules
 rules_of rule format = record {
-  stands = λ message raw rest. (text : List ℕ) × grammar_of rule format text message × (raw ≡ text ++ rest);
+  finds = λ message raw rest. (text : List ℕ) × grammar_of rule format text message × (raw ≡ text ++ rest);
   takes_memory = TakesMemory rule (gives_of format);
   fails = StreamError rule (gives_of format) (refuses_of format);
   kinds = IsReaderKind rule (refuses_of format);
@@ -49,8 +49,8 @@ abbrev pub skipping_rules_of : Padding → Format → ℕ → StreamRules
 skipping_rules_of rule format kept = record (rules_of rule format) { takes_memory = λ limit. TakesForLengths kept (gives_of format) }
 
 -- an encoding of the message in this format is at the front, and the message is within the limit
-abbrev pub StandsNext : Padding → Format → Option ℕ → List (List ℕ) → List ℕ → List ℕ → Type 0
-StandsNext rule format limit message raw rest = BeginsWith (grammar_of rule format) limit message raw rest
+abbrev pub FoundNext : Padding → Format → Option ℕ → List (List ℕ) → List ℕ → List ℕ → Type 0
+FoundNext rule format limit message raw rest = BeginsWith (grammar_of rule format) limit message raw rest
 
 -- the reader of this format fails there with this kind, and leaves `left` unread
 abbrev pub NextError : Padding → Format → Option ℕ → ErrorKind → List ℕ → List ℕ → Type 0

@@ -9,7 +9,7 @@ ghost use Rattle.capnp_layout.specs.Prelude.{Trees};
 ghost use Rattle.capnp_build.specs.Prelude.{Space, used_of};
 ghost use Rattle.capnp.specs.declared.streams.Format.{Format};
 ghost use Rattle.capnp.specs.Roots.{HasRootTree};
-ghost use Rattle.capnp.specs.Streams.{grammar_of, StandsNext, EndsBy, IsStream};
+ghost use Rattle.capnp.specs.Streams.{grammar_of, FoundNext, EndsBy, IsStream};
 ghost use Rattle.capnp.specs.Written.{IsTextOf, AppendsEach};
 
 pub use capnp_frame::laws::{
@@ -29,15 +29,15 @@ pub use capnp_wire::laws::equal_forms_are_of_equal_trees;
 /// of a format return the same message.
 pub fn one_message_begins_a_stream()
     ensures { (rule : Padding) (format : Format) (limit : Option ℕ) (message other : List (List ℕ))
-        (raw rest left : List ℕ) → StandsNext rule format limit message raw rest →
-        StandsNext rule format limit other raw left → (message ≡ other) × (rest ≡ left) }
+        (raw rest left : List ℕ) → FoundNext rule format limit message raw rest →
+        FoundNext rule format limit other raw left → (message ≡ other) × (rest ≡ left) }
 {}
 
 /// Where a stream ends, or its reader fails, no message begins the stream.
 pub fn no_message_begins_an_end()
     ensures { (rule : Padding) (format : Format) (limit : Option ℕ) (ending : Option ErrorKind)
         (message : List (List ℕ)) (raw rest : List ℕ) → EndsBy rule format limit ending raw →
-        StandsNext rule format limit message raw rest → ⊥ }
+        FoundNext rule format limit message raw rest → ⊥ }
 {}
 
 /// The same bytes are a stream of at most one list of messages, and end in at most one way.
@@ -66,6 +66,6 @@ pub fn a_root_is_read_back()
         IsWritable (map used_of spaces) → IsWithinSegmentLimit (map used_of spaces) →
         KeepsLimit (lengths (map used_of spaces)) limit →
         IsTextOf format (map used_of spaces) text →
-        StandsNext rule format limit read (text ++ rest) left →
+        FoundNext rule format limit read (text ++ rest) left →
         HasRootTree read trees × (left ≡ rest) }
 {}

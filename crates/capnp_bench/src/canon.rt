@@ -10,10 +10,10 @@ use std::alloc::Global;
 /// The most words of a segment.
 const MOST_WORDS: usize = 1 << 29;
 
-/// How many rows a large message has at most.
-const MOST_ROWS: u64 = 20_000;
+/// How many structs a large message has at most.
+const MOST_STRUCTS: u64 = 20_000;
 
-/// Canonical forms of this many records, and of messages of an eighth as many rows, nodes and lists
+/// Canonical forms of this many records, and of messages of an eighth as many structs, nodes and lists
 /// in all.
 pub fn digest_of(alloc: Global, seed: u32, count: u32) -> Result<u64> {
     let mut random = Random::new(seed);
@@ -24,10 +24,10 @@ pub fn digest_of(alloc: Global, seed: u32, count: u32) -> Result<u64> {
         push_record(&mut segment, &mut random)?;
         add_forms(alloc, &segment, &mut digest)?;
     }
-    let rows = (count as u64 / 8).min(MOST_ROWS);
-    for _ in 0..1 + count as u64 / (8 * MOST_ROWS) {
+    let elements = (count as u64 / 8).min(MOST_STRUCTS);
+    for _ in 0..1 + count as u64 / (8 * MOST_STRUCTS) {
         segment.clear();
-        push_large(&mut segment, &mut random, rows)?;
+        push_large(&mut segment, &mut random, elements)?;
         add_forms(alloc, &segment, &mut digest)?;
     }
     Ok(digest.value())

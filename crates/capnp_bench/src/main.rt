@@ -1,7 +1,7 @@
 //! Runs a job that users of the library wait for, on messages that are made of a seed, and prints a
 //! digest of all that it returned.
 //!
-//! Its words are the job, the seed and how many messages or rows are made:
+//! Its words are the job, the seed and how many messages or elements are made:
 //! `capnp_bench log 1 1000`. `all` runs each job in turn. Of `roots` and `trickle` one word more
 //! picks a part, and a second one a part of it: `capnp_bench roots 1 1000 text set_root`.
 //!

@@ -14,7 +14,7 @@ use std::alloc::Global;
 pub struct Job {
     /// What all numbers in the messages are made of.
     pub seed: u32,
-    /// How many records, rows, nodes or texts there are.
+    /// How many records, elements, nodes or texts there are.
     pub count: u32,
     /// How many times they are built, in the memory of the first time.
     pub times: u32,

@@ -90,35 +90,35 @@ pub fn push_framed(stream: &mut Vec<u8>, segment: &[u8]) -> Result<()> {
     Ok(())
 }
 
-/// Adds the words of a table of this many rows, a tree of as many nodes and a list of as many
+/// Adds the words of a list of this many structs, a tree of as many nodes and a list of as many
 /// lists: the only segment of a message.
-pub fn push_large(words: &mut Vec<u8>, random: &mut Random, rows: u64) -> Result<()> {
-    let table = rows.wrapping_mul(10).wrapping_add(1);
-    let tree = rows.wrapping_mul(3);
+pub fn push_large(words: &mut Vec<u8>, random: &mut Random, elements: u64) -> Result<()> {
+    let table = elements.wrapping_mul(10).wrapping_add(1);
+    let tree = elements.wrapping_mul(3);
     push_word(words, struct_pointer(0, 0, 3))?;
-    push_word(words, list_pointer(2, 7, rows.wrapping_mul(4)))?;
+    push_word(words, list_pointer(2, 7, elements.wrapping_mul(4)))?;
     push_word(words, struct_pointer(table.wrapping_add(1), 1, 2))?;
-    push_word(words, list_pointer(table.wrapping_add(tree), 6, rows))?;
-    push_word(words, struct_pointer(rows, 2, 2))?;
-    push_rows(words, random, rows)?;
-    push_tree(words, random, rows)?;
-    push_lists(words, random, rows)
+    push_word(words, list_pointer(table.wrapping_add(tree), 6, elements))?;
+    push_word(words, struct_pointer(elements, 2, 2))?;
+    push_structs(words, random, elements)?;
+    push_tree(words, random, elements)?;
+    push_lists(words, random, elements)
 }
 
-/// Adds the rows of a table, structs of two numbers, a text and a list, and then what each leads
+/// Adds the elements of a table, structs of two numbers, a text and a list, and then what each leads
 /// to: three words of text and three of numbers.
-fn push_rows(words: &mut Vec<u8>, random: &mut Random, rows: u64) -> Result<()> {
-    for row in 0..rows {
-        let after = (rows - row)
+fn push_structs(words: &mut Vec<u8>, random: &mut Random, elements: u64) -> Result<()> {
+    for element in 0..elements {
+        let after = (elements - element)
             .wrapping_mul(4)
-            .wrapping_add(row.wrapping_mul(6));
-        push_word(words, row)?;
+            .wrapping_add(element.wrapping_mul(6));
+        push_word(words, element)?;
         push_word(words, random.below(1_000_000))?;
-        push_word(words, list_pointer(after.wrapping_sub(3), 2, 17 + row % 8))?;
+        push_word(words, list_pointer(after.wrapping_sub(3), 2, 17 + element % 8))?;
         push_word(words, list_pointer(after.wrapping_sub(1), 4, 6))?;
     }
-    for row in 0..rows {
-        push_text(words, random, 16 + row % 8)?;
+    for element in 0..elements {
+        push_text(words, random, 16 + element % 8)?;
         push_word(words, random.next() & 0x0000_ffff_0000_ffff)?;
         push_word(words, random.next() & 0x0000_00ff_0000_00ff)?;
         push_word(words, random.next() & 0x0000_000f_0000_ffff)?;
@@ -126,7 +126,7 @@ fn push_rows(words: &mut Vec<u8>, random: &mut Random, rows: u64) -> Result<()> 
     Ok(())
 }
 
-/// Adds the nodes of a tree, row by row: structs of a number and two pointers.
+/// Adds the nodes of a tree, layer by layer: structs of a number and two pointers.
 fn push_tree(words: &mut Vec<u8>, random: &mut Random, nodes: u64) -> Result<()> {
     for node in 0..nodes {
         let left = node.wrapping_mul(2).wrapping_add(1);

@@ -12,20 +12,20 @@ use std::alloc::Global;
 /// How deep the tree may be.
 const MOST_DEEP: u32 = 40;
 
-/// How many rows a message has at most: some 800,000 words.
-const MOST_ROWS: u32 = 50_000;
+/// How many structs a message has at most: some 800,000 words.
+const MOST_STRUCTS: u32 = 50_000;
 
-/// Walks messages of tables of this many rows in all, trees of as many nodes, and as many lists in
+/// Walks messages of lists of this many structs in all, trees of as many nodes, and as many lists in
 /// lists.
 pub fn digest_of(alloc: Global, seed: u32, count: u32) -> Result<u64> {
     let mut random = Random::new(seed);
     let mut digest = Digest::new();
     let mut segment = Vec::new(alloc);
     let mut stream = Vec::new(alloc);
-    let rows = count.min(MOST_ROWS);
-    for index in 0..1 + count / MOST_ROWS {
+    let elements = count.min(MOST_STRUCTS);
+    for index in 0..1 + count / MOST_STRUCTS {
         segment.clear();
-        push_large(&mut segment, &mut random, rows as u64)?;
+        push_large(&mut segment, &mut random, elements as u64)?;
         stream.clear();
         push_framed(&mut stream, &segment)?;
         let mut rest = stream.as_slice();
@@ -50,23 +50,23 @@ fn add_message<S: ReaderSegments>(message: &Reader<S>, digest: &mut Digest) -> R
     let pointer: any_pointer::Reader<'_, S> = message.get_root()?;
     digest.add(pointer.target_size()?.word_count);
     let root: StructReader<'_, S> = pointer.get_as()?;
-    add_rows(root.get_pointer(0).get_as()?, digest)?;
+    add_structs(root.get_pointer(0).get_as()?, digest)?;
     add_tree(&root.get_pointer(1).get_as()?, MOST_DEEP, digest)?;
     add_lists(root.get_pointer(2).get_as()?, digest)
 }
 
-fn add_rows<S: ReaderSegments>(
-    rows: struct_list::Reader<'_, S>,
+fn add_structs<S: ReaderSegments>(
+    elements: struct_list::Reader<'_, S>,
     digest: &mut Digest,
 ) -> Result<()> {
-    for index in 0..rows.len() {
-        let row = rows.get(index);
-        let id: u32 = row.get_data_field(0);
-        let amount: u64 = row.get_data_field(1);
+    for index in 0..elements.len() {
+        let element = elements.get(index);
+        let id: u32 = element.get_data_field(0);
+        let amount: u64 = element.get_data_field(1);
         digest.add(id as u64 ^ amount);
-        let name: text::Reader<'_> = row.get_pointer(0).get_as()?;
+        let name: text::Reader<'_> = element.get_pointer(0).get_as()?;
         digest.add_bytes(name.as_bytes());
-        add_samples(row.get_pointer(1).get_as()?, digest);
+        add_samples(element.get_pointer(1).get_as()?, digest);
     }
     Ok(())
 }

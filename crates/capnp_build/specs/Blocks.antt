@@ -16,11 +16,11 @@ use Rattle.capnp_build.specs.Placed.{IsAtEnd, IsPlaced, HasNoRoom, SegmentError,
 abbrev pub IsNew : Form → List Space → Type 0
 IsNew form spaces = (traversed : ℕ) × Root (message spaces) form none traversed
 
--- A block of this many words is placed where the root is null, and the root is then as `stands`
+-- A block of this many words is placed where the root is null, and the root is then as `root_is`
 -- says, or nothing changes.
-pub record PutsBlock {A S : Type 0} (alloc : Ghosts A S) (stands : List Space → Type 0) (words : ℕ) (old new : Built A)
+pub record PutsBlock {A S : Type 0} (alloc : Ghosts A S) (root_is : List Space → Type 0) (words : ℕ) (old new : Built A)
     (result : Result (Unit {0}) Error) : Type 0 where
-  pub set : OnOk result (stands new.spaces)
+  pub set : OnOk result (root_is new.spaces)
   pub placed : OnOk result (IsPlaced old.spaces new words)
   pub there : OnOk result (0 < length new.spaces)
   pub bytes : OnOk result (KeepsBytes old.spaces new.spaces)
@@ -50,7 +50,7 @@ pub record PlacesBlock {A S : Type 0} (alloc : Ghosts A S) (has_tree : Trees →
 
 -- The root's word leads to the body at a location; no segment becomes longer.
 pub record PointsRoot {A : Type 0} (location : RootLocation) (old new : BuilderState A) : Type 0 where
-  pub stands : (form : Form) (children : Trees) → HasBody old.spaces location form children → IsLaid new.spaces location form children
+  pub is_laid : (form : Form) (children : Trees) → HasBody old.spaces location form children → IsLaid new.spaces location form children
   pub rewritten : IsRewritten old new
   -- the used bytes before the body and its landing pad stay, except for the root's word
   pub bytes : (i from n : ℕ) → (i ≡ 0 → 8 ≤ from) → (0 < i → i ≡ location.segment → from + n + 8 ≤ 8 * location.start) → from + n ≤ length (space_at old.spaces i).used

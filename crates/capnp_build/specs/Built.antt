@@ -130,7 +130,7 @@ pub record IsSet (has_tree : Trees → Type 0) (canonical : Bool) (spaces : List
   pub trees : Trees
   pub tree_is : has_tree trees
   pub traversed : ℕ
-  pub stands : At (message spaces) (root ∷ []) (output canonical trees) traversed
+  pub is_at : At (message spaces) (root ∷ []) (output canonical trees) traversed
 
 -- the one segment is the layout of a value, and nothing else: in canonical form, its canonical form
 pub record IsWhole (has_tree : Trees → Type 0) (canonical : Bool) (spaces : List Space) : Type 0 where

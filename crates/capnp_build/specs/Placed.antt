@@ -98,7 +98,7 @@ pub record IsCleared {A S : Type 0} (alloc : Ghosts A S) (old last : Built A) : 
   pub others : KeepsOthers alloc.out (state_of old) (state_of last)
 
 -- a block of this many words is in a segment, from this word on
-pub record StandsAt (location : Option RootLocation) (segment start words : ℕ) : Type 0 where
+pub record BlockIsAt (location : Option RootLocation) (segment start words : ℕ) : Type 0 where
   pub place : RootLocation
   pub place_is : location ≡ Some place
   pub segment_is : place.segment ≡ segment
@@ -113,8 +113,8 @@ most_words space = min (space.size / 8) (2 ^ 29)
 -- segment has room, else after its landing pad at the front of a second one; no other words are
 -- used
 pub record IsFirst {A : Type 0} (new : Built A) (words : ℕ) : Type 0 where
-  pub local : words < most_words (space_at new.spaces 0) → StandsAt new.location 0 1 words × (length new.spaces ≡ 1) × (size_in_words new.spaces ≡ 1 + words)
-  pub far : most_words (space_at new.spaces 0) ≤ words → StandsAt new.location 1 1 words × (length new.spaces ≡ 2) × (size_in_words new.spaces ≡ 2 + words)
+  pub local : words < most_words (space_at new.spaces 0) → BlockIsAt new.location 0 1 words × (length new.spaces ≡ 1) × (size_in_words new.spaces ≡ 1 + words)
+  pub far : most_words (space_at new.spaces 0) ≤ words → BlockIsAt new.location 1 1 words × (length new.spaces ≡ 2) × (size_in_words new.spaces ≡ 2 + words)
 
 -- where the first segment has to be granted, it is the granted one, of this many words
 abbrev pub IsGranted : {A S : Type 0} → Ghosts A S → Built A → List Space → Type 0

@@ -9,7 +9,7 @@ pub use Rattle.capnp_build.specs.NewBody.{Fits, body_pointer_word, new_form, out
 pub use Rattle.capnp_build.specs.Out.{HasLarge, IsOut, Out, Removed, TakesOff, here, provided_before, provided_of, there}
 pub use Rattle.capnp_build.specs.Outcomes.{ClearsRoot, EnsuresRoot, GivesBack, HasRoomFirst, InitsRoot, IsNewMessage, FirstSegmentError, LooksAtRoot, ClearedRootError, SetsRoot, SetsRootCanonical, FailsFirstSegment}
 pub use Rattle.capnp_build.specs.Output.{CanBeWritten, UsesWords}
-pub use Rattle.capnp_build.specs.Placed.{RootFormError, FindsNoRoom, FoundNoRoom, HasNoRoom, HasRootAlone, InitWords, IsAdded, IsAtEnd, IsCleared, IsFirst, IsGranted, IsLookedAt, IsPlaced, IsPut, IsZeroAt, KeepsRooms, SegmentError, NewWords, StandsAt, most_words}
+pub use Rattle.capnp_build.specs.Placed.{RootFormError, FindsNoRoom, FoundNoRoom, HasNoRoom, HasRootAlone, InitWords, IsAdded, IsAtEnd, IsCleared, IsFirst, IsGranted, IsLookedAt, IsPlaced, IsPut, IsZeroAt, KeepsRooms, SegmentError, NewWords, BlockIsAt, most_words}
 pub use Rattle.capnp_build.specs.RootKind.{HoldsForm, ShowsRoot}
 pub use Rattle.capnp_build.specs.RootViews.{GetsView, HoldsTree, InitsView, LeavesNull, LeavesRoot}
 pub use Rattle.capnp_build.specs.Written.{HasBytes, HasField, HasNumber, IsBytesSet, IsFieldSet, IsNumberSet, IsWritten}

@@ -10,7 +10,7 @@ IsOther null = ⊥
 IsOther (struct words) = ⊥
 IsOther (numbers code values) = (code ≢ 2) × (code ≢ 5)
 IsOther pointers = ⊤
-IsOther (structs d p rows) = ⊤
+IsOther (structs d p elements) = ⊤
 
 -- the kind of an object
 abbrev pub ShowsRoot : RootKind → Form → Type 0

@@ -11,7 +11,7 @@ pub record HasField (spaces : List Space) (index : ℕ) : Type 0 where
   pub words : List ℕ
   pub children : Trees
   pub traversed : ℕ
-  pub stands : At (message spaces) (root ∷ []) (tree (struct words) children none) traversed
+  pub is_at : At (message spaces) (root ∷ []) (tree (struct words) children none) traversed
   pub within : index < length words
 
 -- one of the root's data words is replaced, and everything else is as it was
@@ -24,7 +24,7 @@ IsFieldSet spaces last index word =
 pub record HasBytes (spaces : List Space) (index n : ℕ) : Type 0 where
   pub values : List ℕ
   pub traversed : ℕ
-  pub stands : At (message spaces) (root ∷ []) (tree (numbers 2 values) none none) traversed
+  pub is_at : At (message spaces) (root ∷ []) (tree (numbers 2 values) none none) traversed
   pub within : index + n ≤ length values
 
 -- some of the root's bytes are replaced, and everything else is as it was
@@ -37,7 +37,7 @@ IsBytesSet spaces last index bytes =
 pub record HasNumber (spaces : List Space) (index : ℕ) : Type 0 where
   pub values : List ℕ
   pub traversed : ℕ
-  pub stands : At (message spaces) (root ∷ []) (tree (numbers 5 values) none none) traversed
+  pub is_at : At (message spaces) (root ∷ []) (tree (numbers 5 values) none none) traversed
   pub within : index < length values
 
 -- one of the root's elements is replaced, and everything else is as it was

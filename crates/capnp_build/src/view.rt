@@ -29,7 +29,7 @@ pub trait Building: Drop {
     /// The kind of the object at the root.
     fn root_kind(&self) -> RootKind
         ensures form { ForRoot (built self.now).spaces (ShowsRoot result) }
-        ensures stands { IsRootKind result (built self.now).spaces };
+        ensures is_kind { IsRootKind result (built self.now).spaces };
 
     /// The bytes of the tree at the root, without the root pointer; none where the root is null.
     fn root_bytes(&self) -> &[u8]

@@ -60,17 +60,17 @@ pub fn is_null_word<A: Allocator>(message: &Builder<A>) -> bool {
 /// These are the segments of a message.
 pub fn expect_segments<S: ReaderSegments>(
     rt: &impl Abort,
-    row: &str,
+    case: &str,
     message: &S,
     wanted: &[&[u8]],
 ) {
     assert!(rt;
         has_segments(message, wanted),
-        "at {row}: other segments than {wanted:?}"
+        "at {case}: other segments than {wanted:?}"
     );
 }
 
 /// A region that came home is zero.
-pub fn expect_zeros(rt: &impl Abort, row: &str, region: &[u8]) {
-    expect(rt, row, region.iter().all(|byte| *byte == 0), true);
+pub fn expect_zeros(rt: &impl Abort, case: &str, region: &[u8]) {
+    expect(rt, case, region.iter().all(|byte| *byte == 0), true);
 }

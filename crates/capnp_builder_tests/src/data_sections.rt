@@ -57,7 +57,7 @@ fn a_field_is_set_over_its_bits_alone(rt: HostRuntime) -> Result<()> {
 }
 
 #[test]
-fn fields_with_defaults_stand_as_what_differs(rt: HostRuntime) -> Result<()> {
+fn fields_with_defaults_are_what_differs(rt: HostRuntime) -> Result<()> {
     let value = StructValue::new([0; 3], NoFields)
         .with_data_field_mask::<bool>(0, false, true)
         .with_data_field_mask::<bool>(1, true, true)

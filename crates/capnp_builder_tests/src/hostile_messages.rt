@@ -47,7 +47,7 @@ fn assert_failure(
     rt: &(impl Abort + AllocGlobal),
     segments: &[&[u8]],
     limit: Option<usize>,
-    [canonical, as_it_stands, in_canonical_form]: [ErrorKind; 3],
+    [canonical, untrimmed, in_canonical_form]: [ErrorKind; 3],
 ) -> Result<()> {
     let alloc = rt.alloc();
     let reader = reader_of(segments, limit);
@@ -55,7 +55,7 @@ fn assert_failure(
     expect(rt, segments, found, Some(canonical));
     let mut message: Builder<HeapAllocator> = Builder::new_default(alloc);
     let found = error_of(set(&mut message, &reader))?;
-    expect(rt, segments, found, Some(as_it_stands));
+    expect(rt, segments, found, Some(untrimmed));
     assert!(rt; is_null(&message));
     let found = error_of(set_canonical(&mut message, &reader))?;
     expect(rt, segments, found, Some(in_canonical_form));
@@ -114,7 +114,7 @@ fn make_list(rt: &(impl Abort + AllocGlobal), bytes: &[u8]) -> Result<()> {
     expect(rt, "canonical words", words.as_slice(), bytes);
     let mut message: Builder<HeapAllocator> = Builder::new_default(rt.alloc());
     set(&mut message, &reader)?;
-    expect_segments(rt, "as it stands", &message, &segments);
+    expect_segments(rt, "untrimmed", &message, &segments);
     Ok(())
 }
 

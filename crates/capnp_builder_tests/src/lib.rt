@@ -1,4 +1,4 @@
-//! Worked rows over objects that are built: messages, values, allocators and their regions; and the
+//! Worked cases over objects that are built: messages, values, allocators and their regions; and the
 //! calls of builders and allocators. It holds tests alone, by the rules of `capnp_frame_tests`.
 #![tactic(auto)]
 

@@ -98,7 +98,7 @@ impl<'a> StructSource for Entries<'a> {
     ghost use Rattle.std.specs.Prelude.{◌≡◌, ◌∷◌, []};
     ghost use Rattle.capnp_layout.specs.Tree.{none};
     ghost use Rattle.capnp_wire.specs.Values.{IsTextTree, LongText};
-    ghost use Rattle.capnp_values.specs.Fields.{IsRow, FieldsError};
+    ghost use Rattle.capnp_values.specs.Fields.{IsValueInFront, FieldsError};
     ghost use Rattle.capnp_values.specs.FieldLaws.{settled_none, settled_more};
 
     type Item = PhoneEntry<'a>;
@@ -110,7 +110,7 @@ impl<'a> StructSource for Entries<'a> {
     ghost words = { λ source entry. entry.kind ∷ [] };
 
     ghost has_trees = { λ source entry trees.
-        IsRow (λ t. IsTextTree entry.number.now t) (λ t. t ≡ none) trees };
+        IsValueInFront (λ t. IsTextTree entry.number.now t) (λ t. t ≡ none) trees };
 
     ghost fails = { λ source entry kind. FieldsError (λ t. IsTextTree entry.number.now t)
         (λ k. LongText entry.number.now k) (λ k. ⊥) kind };
@@ -134,7 +134,7 @@ fn entry<'a>(number: &'a str, kind: u64) -> PhoneEntry<'a> {
 }
 
 #[test]
-fn made_lists_of_structs_stand_at_the_root(rt: HostRuntime) -> Result<()> {
+fn made_lists_of_structs_are_at_the_root(rt: HostRuntime) -> Result<()> {
     let entries = [entry("123", 1), entry("4567890", 0x203), entry("", 65535)];
     let list = LazyStructList::new(Entries { entries: &entries });
     compare_by_each::<struct_list::Owned, Phones<'_>>(&rt, &list, PHONES)?;
@@ -150,7 +150,7 @@ fn made_lists_of_structs_stand_at_the_root(rt: HostRuntime) -> Result<()> {
 }
 
 #[test]
-fn made_lists_of_pointers_stand_at_the_root(rt: HostRuntime) -> Result<()> {
+fn made_lists_of_pointers_are_at_the_root(rt: HostRuntime) -> Result<()> {
     let names = ["Ann", "ab cd ef", ""];
     let list = LazyPointerList::new(Names { names: &names });
     compare_by_each::<text_list::Owned, Texts<'_>>(&rt, &list, NAMES)?;
@@ -161,7 +161,7 @@ fn made_lists_of_pointers_stand_at_the_root(rt: HostRuntime) -> Result<()> {
 
 // Both as fields of a struct.
 #[test]
-fn made_lists_stand_in_structs(rt: HostRuntime) -> Result<()> {
+fn made_lists_are_in_structs(rt: HostRuntime) -> Result<()> {
     let names = ["Bo", "Ann"];
     let entries = [entry("", 7)];
     let phones = LazyStructList::new(Entries { entries: &entries });

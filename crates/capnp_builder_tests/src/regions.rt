@@ -93,7 +93,7 @@ fn set_what_is_too_large(rt: &(impl Abort + AllocGlobal)) -> Result<()> {
         Some(ErrorKind::CanonicalTooLarge),
         Some(ErrorKind::AllocationTooLarge(536936448)),
     ];
-    expect(rt, "canonical, and as it stands", errors, wanted);
+    expect(rt, "canonical, and untrimmed", errors, wanted);
     expect_segments(rt, "the root's segment", &message, &[&[0; 16]]);
     drop(message);
     drop(scratch);

@@ -69,7 +69,7 @@ fn wide<'a>(number: u64, name: &'a str) -> Wide<'a> {
 }
 
 #[test]
-fn lists_of_structs_stand_at_the_root(rt: HostRuntime) -> Result<()> {
+fn lists_of_structs_are_at_the_root(rt: HostRuntime) -> Result<()> {
     let phones = [phone("123", 1), phone("4567890", 2)];
     let list = StructList::new(&phones);
     compare_by_each::<struct_list::Owned, Phones<'_>>(&rt, &list, PHONES)?;
@@ -77,16 +77,16 @@ fn lists_of_structs_stand_at_the_root(rt: HostRuntime) -> Result<()> {
     let none = StructList::new(&phones[..0]);
     compare_by_each::<struct_list::Owned, Phones<'_>>(&rt, &none, NO_PHONES)?;
     compare_canonical::<struct_list::Owned, Phones<'_>>(&rt, &none, NO_STRUCTS)?;
-    let row = Field::new("a@b", Field::new(StructList::new(&phones[..1]), NoFields));
-    let person = StructValue::new([9], Field::new("Ann", row));
+    let fields = Field::new("a@b", Field::new(StructList::new(&phones[..1]), NoFields));
+    let person = StructValue::new([9], Field::new("Ann", fields));
     compare_by_each::<any_struct::Owned, Person<'_>>(&rt, &person, PERSON)
 }
 
 // Each element keeps what the largest needs.
 #[test]
 fn lists_of_structs_are_narrowed(rt: HostRuntime) -> Result<()> {
-    let rows = [wide(7, "Ann"), wide(0, "")];
-    let list = StructList::new(&rows);
+    let elements = [wide(7, "Ann"), wide(0, "")];
+    let list = StructList::new(&elements);
     compare_by_each::<struct_list::Owned, StructList<'_, Wide<'_>>>(&rt, &list, WIDE)?;
     compare_canonical::<struct_list::Owned, StructList<'_, Wide<'_>>>(&rt, &list, NARROW)?;
     let empty = [
@@ -114,7 +114,7 @@ fn compare_numbers<N: PrimitiveElement + Copy>(
 }
 
 #[test]
-fn lists_of_numbers_stand_at_the_root(rt: HostRuntime) -> Result<()> {
+fn lists_of_numbers_are_at_the_root(rt: HostRuntime) -> Result<()> {
     compare_numbers::<()>(&rt, &[(), (), ()], b"\x01\0\0\0\x18\0\0\0")?;
     let bits = [true, false, true, true, false, false, false, false, true];
     compare_numbers::<bool>(&rt, &bits, b"\x01\0\0\0\x49\0\0\0\x0d\x01\0\0\0\0\0\0")?;
@@ -138,7 +138,7 @@ fn lists_of_numbers_stand_at_the_root(rt: HostRuntime) -> Result<()> {
 }
 
 #[test]
-fn lists_of_signed_numbers_stand_at_the_root(rt: HostRuntime) -> Result<()> {
+fn lists_of_signed_numbers_are_at_the_root(rt: HostRuntime) -> Result<()> {
     compare_numbers::<i8>(
         &rt,
         &[-1, 2, -128],
@@ -160,7 +160,7 @@ fn lists_of_signed_numbers_stand_at_the_root(rt: HostRuntime) -> Result<()> {
 }
 
 #[test]
-fn lists_of_lists_stand_at_the_root(rt: HostRuntime) -> Result<()> {
+fn lists_of_lists_are_at_the_root(rt: HostRuntime) -> Result<()> {
     let lists = [NumberList::new(&[1, 2]), NumberList::new(&[3])];
     let list = PointerList::new(&lists);
     compare_by_each::<

@@ -145,7 +145,7 @@ fn compare_in_regions<T, V: SetterInput<T>>(
 }
 
 #[test]
-fn values_stand_at_the_root(rt: HostRuntime) -> Result<()> {
+fn values_are_at_the_root(rt: HostRuntime) -> Result<()> {
     compare_by_each::<any_struct::Owned, Named<'_>>(&rt, &named(7, "Ann"), NAMED)?;
     compare_by_each::<any_struct::Owned, Nested<'_>>(&rt, &nested(), NESTED)?;
     compare_by_each::<any_struct::Owned, Loose<'_>>(&rt, &loose(), LOOSE)?;
@@ -155,7 +155,7 @@ fn values_stand_at_the_root(rt: HostRuntime) -> Result<()> {
 }
 
 #[test]
-fn lists_of_pointers_stand_at_the_root(rt: HostRuntime) -> Result<()> {
+fn lists_of_pointers_are_at_the_root(rt: HostRuntime) -> Result<()> {
     let names = ["Ann", "", "Bo"];
     let list = PointerList::new(&names);
     compare_by_each::<text_list::Owned, Texts<'_>>(&rt, &list, NAMES)?;
@@ -166,7 +166,7 @@ fn lists_of_pointers_stand_at_the_root(rt: HostRuntime) -> Result<()> {
 }
 
 #[test]
-fn lists_of_nulls_stand_at_the_root(rt: HostRuntime) -> Result<()> {
+fn lists_of_nulls_are_at_the_root(rt: HostRuntime) -> Result<()> {
     let nulls = [Null, Null];
     let list = PointerList::new(&nulls);
     compare_canonical::<text_list::Owned, PointerList<'_, text::Owned, Null>>(&rt, &list, NULLS)?;

@@ -7,7 +7,7 @@ use Rattle.capnp_frame.specs.declared.message.options.ReaderOptions.{ReaderOptio
 use Rattle.capnp_frame.specs.declared.serialize.segment_table.Padding.TheVariants.{Zero}
 use Rattle.capnp_frame.specs.Prelude.{HasFrame, IsWithin, StreamError, Fails}
 use Rattle.capnp_frame.proofs.sources.AskLemmas.{never_fails}
-use Rattle.capnp_pack.specs.Prelude.{PackedStands, Unpacks, ChunkError, none_unpacked}
+use Rattle.capnp_pack.specs.Prelude.{PackedFound, Unpacks, ChunkError, none_unpacked}
 use Rattle.capnp_pack.proofs.encodings.PackedFrameLemmas.{packed_requests}
 use Rattle.capnp_c.specs.Packing.{IsMessage}
 
@@ -20,13 +20,13 @@ front_message options bytes segments n (text, frame, e) room within =
     record { text = text; is_text = frame; within = within; spelled = front ∙ sym (append-nil text) }
 
 -- how many packed bytes it took
-pub taken : (segments : List (List ℕ)) (packed rest : List ℕ) → PackedStands Zero segments packed rest → length rest ≤ length packed
+pub taken : (segments : List (List ℕ)) (packed rest : List ℕ) → PackedFound Zero segments packed rest → length rest ≤ length packed
 taken segments packed rest (text, frame, e) = omega (arith, ap length e, length-append text rest)
 
 -- where there are no bytes, there is no packed message
-pub none_stands : (segments : List (List ℕ)) (packed rest : List ℕ) → PackedStands Zero segments packed rest → packed ≡ [] → ⊥
-none_stands segments packed rest stands none =
-    let requests = (packed_requests Zero segments packed rest).1 stands in
+pub none_found : (segments : List (List ℕ)) (packed rest : List ℕ) → PackedFound Zero segments packed rest → packed ≡ [] → ⊥
+none_found segments packed rest is_found none =
+    let requests = (packed_requests Zero segments packed rest).1 is_found in
     let first = requests.table.first_given in
     let some = none_unpacked 8 requests.table.first requests.table.between (subst (λ raw. Unpacks raw 8 requests.table.first requests.table.between) none first) in
     absurd (omega (arith, some))

@@ -6,7 +6,7 @@ use Rattle.capnp_frame.specs.declared.error.ErrorKind.{ErrorKind}
 use Rattle.capnp_frame.specs.declared.message.options.ReaderOptions.{ReaderOptions}
 use Rattle.capnp_frame.specs.declared.serialize.segment_table.Padding.TheVariants.{Zero}
 use Rattle.capnp_frame.specs.Prelude.{IsWithin, lengths, size_in_words, kind_number, StreamError, table_size}
-use Rattle.capnp_pack.specs.Prelude.{IsPackedEncoding, PackedStands, Unpacks, ChunkError}
+use Rattle.capnp_pack.specs.Prelude.{IsPackedEncoding, PackedFound, Unpacks, ChunkError}
 use Rattle.capnp_layout.specs.Prelude.{words_of}
 use Rattle.capnp_wire.specs.Prelude.{IsCanonicalForm}
 use Rattle.capnp_c.specs.declared.framed.LinsjoarMessage.{LinsjoarMessage}
@@ -71,11 +71,11 @@ pub record PacksMessage (options : ReaderOptions) (framed packed : List ℕ) (pa
 -- The packed message at the front of the bytes is unpacked to the front of a block.
 pub record UnpacksMessage (options : ReaderOptions) (packed framed : List ℕ) (framed_len packed_read result : ℕ) : Type 0 where
   -- what is written where 0 is returned, and how many packed bytes were taken
-  pub unpacked : result ≡ 0 → (segments : List (List ℕ)) × (rest : List ℕ) × PackedStands Zero segments packed rest
+  pub unpacked : result ≡ 0 → (segments : List (List ℕ)) × (rest : List ℕ) × PackedFound Zero segments packed rest
       × IsMessage options (take framed_len framed) segments × (packed_read + length rest ≡ length packed)
   pub within : framed_len ≤ length framed
   -- 0 where a message is there, and its framed encoding has room
-  pub accepted : (segments : List (List ℕ)) (rest : List ℕ) → PackedStands Zero segments packed rest
+  pub accepted : (segments : List (List ℕ)) (rest : List ℕ) → PackedFound Zero segments packed rest
       → IsWithin segments options.traversal_limit_in_words
       → table_size (length segments) + 8 * size_in_words segments ≤ length framed → result ≡ 0
   -- 9 where there are no packed bytes

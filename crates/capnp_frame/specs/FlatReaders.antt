@@ -29,18 +29,18 @@ abbrev pub no_alloc_rules : Padding → Option ℕ → FlatRules
 no_alloc_rules rule limit = record { form = by_fields; padding = rule; limit = limit }
 
 -- By these rules the bytes begin with a framed encoding of the message, and `rest` follows it.
-abbrev pub StandsBy : FlatRules → List (List ℕ) → List ℕ → List ℕ → Type 0
-StandsBy rules message bytes rest = BeginsWith (IsFrame rules.padding) rules.limit message bytes rest
+abbrev pub FoundBy : FlatRules → List (List ℕ) → List ℕ → List ℕ → Type 0
+FoundBy rules message bytes rest = BeginsWith (IsFrame rules.padding) rules.limit message bytes rest
 
 -- by these rules, the first line of the table of errors that holds has this kind
 abbrev pub RulesError : FlatRules → ErrorKind → List ℕ → Type 0
 RulesError rules kind bytes = FlatError rules.form rules.padding rules.limit kind bytes
 
--- `stands` holds of what is left after a message: of a slice, what it has after the call; of a
+-- `fact` holds of what is left after a message: of a slice, what it has after the call; of a
 -- buffer, some bytes.
 abbrev pub Leaves : Option (List ℕ) → (List ℕ → Type 0) → Type 0
-Leaves (Some left) stands = stands left
-Leaves None stands = (rest : List ℕ) × stands rest
+Leaves (Some left) fact = fact left
+Leaves None fact = (rest : List ℕ) × fact rest
 
 -- the condition `other`; for a reader that takes memory, `memory` or `other`
 abbrev pub OrOutOfMemory : FlatForm → Type 0 → Type 0 → Type 0
@@ -57,9 +57,9 @@ AcceptsFlat by_fields message result = IsOk result
 pub record ReadsFlat {X : Type 0} (rules : FlatRules) (bytes : List ℕ) (left : Option (List ℕ))
     (segments : X → List (List ℕ)) (result : Result X Error) : Type 0 where
   -- the message that is returned is at the front, within the limit, and a slice moves just past it
-  pub found : IfOk result (λ found. Leaves left (StandsBy rules (segments found) bytes))
+  pub found : IfOk result (λ found. Leaves left (FoundBy rules (segments found) bytes))
   -- a message that is there is returned, unless it has more than one segment and memory is lacking
-  pub accepted : (message : List (List ℕ)) (rest : List ℕ) → StandsBy rules message bytes rest → AcceptsFlat rules.form message result
+  pub accepted : (message : List (List ℕ)) (rest : List ℕ) → FoundBy rules message bytes rest → AcceptsFlat rules.form message result
   -- a failure leaves a slice as it was
   pub unchanged : OnErr result (IfSome left (λ left. left ≡ bytes))
   -- a reader fails for want of memory once a number of more than one segment is accepted, or with a line of the table

@@ -6,7 +6,7 @@ use Rattle.capnp_frame.specs.declared.serialize.segment_table.Padding.{Padding}
 use Rattle.capnp_frame.specs.declared.io.Read.{Ghosts}
 use Rattle.capnp_frame.specs.Asking.{Asked, FailsOr}
 use Rattle.capnp_frame.specs.Message.{lengths}
-use Rattle.capnp_frame.specs.Requests.{MessageStands}
+use Rattle.capnp_frame.specs.Requests.{MessageFound}
 use Rattle.capnp_frame.specs.Source.{Giving, IfKnown, RequestError}
 
 -- The result is that of a reader, of which `Reads` holds, with the lengths of a message in the
@@ -17,8 +17,8 @@ SkipsMessage Reads (Ok None) = Reads (Ok None)
 SkipsMessage Reads (Err error) = Reads (Err error)
 
 -- a message of these lengths is at the front
-abbrev pub LengthsStand : Padding → Giving → List ℕ → List ℕ → List ℕ → Type 0
-LengthsStand rule gives ns raw rest = (message : List (List ℕ)) × (lengths message ≡ ns) × MessageStands rule gives message raw rest
+abbrev pub LengthsFound : Padding → Giving → List ℕ → List ℕ → List ℕ → Type 0
+LengthsFound rule gives ns raw rest = (message : List (List ℕ)) × (lengths message ≡ ns) × MessageFound rule gives message raw rest
 
 -- the first n bytes are dropped
 abbrev pub Drops : ℕ → List ℕ → List ℕ → Type 0

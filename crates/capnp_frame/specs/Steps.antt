@@ -11,7 +11,7 @@ use Rattle.capnp_frame.specs.SegmentLengths.{range_len, AreRanges}
 use Rattle.capnp_frame.specs.Limits.{KeepsLimit, AreWithin}
 use Rattle.capnp_frame.specs.Front.{declared_lengths, declared_segments, DeclaresTable, HoldsMessage}
 use Rattle.capnp_frame.specs.Source.{Giving, Refusing, IfKnown}
-use Rattle.capnp_frame.specs.Requests.{RestStands, TableStands, MessageStands}
+use Rattle.capnp_frame.specs.Requests.{RestFound, TableFound, MessageFound}
 use Rattle.capnp_frame.specs.Errors.{FailsWith}
 use Rattle.capnp_frame.specs.StreamErrors.{LimitError, RestError, TableError, TakesForLengths, IsTableKind, IsReaderKind, IsProvidedReaderKind}
 use Rattle.capnp_frame.specs.Asking.{Asked, FailsOr}
@@ -30,7 +30,7 @@ CompleteTableError rule limit kind table = (following : List ℕ) → LimitError
 pub record ReadsLengths {S : Type 0} (source : Ghosts S) (old new : S) (rule : Padding) (limit : Option ℕ) (first : List ℕ)
     (indices : List (ℕ × ℕ)) (result : Result ℕ Error) : Type 0 where
   -- the lengths between the indices are those of the table that is there
-  pub table : OnOk result (IfKnown (source.unread old) (source.unread new) (RestStands rule source.gives first (map range_len indices)))
+  pub table : OnOk result (IfKnown (source.unread old) (source.unread new) (RestFound rule source.gives first (map range_len indices)))
   pub ranges : IfOk result (AreRanges indices)
   pub bound : IfOk result (λ total. total < 2 ^ 42)
   pub each : OnOk result (AllByRecursion FitsField (map range_len indices))
@@ -45,14 +45,14 @@ pub record ReadsLengths {S : Type 0} (source : Ghosts S) (old new : S) (rule : P
 -- caller-provided buffer.
 pub record FindsTable (rule : Padding) (gives : Giving) (limit : Option ℕ) (buffer : List ℕ) (count total : ℕ) (old new : Option (List ℕ)) : Type 0 where
   -- the table is there, and just its bytes are consumed
-  pub found : IfKnown old new (TableStands rule gives (declared_lengths count buffer))
+  pub found : IfKnown old new (TableFound rule gives (declared_lengths count buffer))
   pub tells : DeclaresTable buffer count
   pub total_is : total ≡ sum (declared_lengths count buffer)
   pub within : KeepsLimit (declared_lengths count buffer) limit
 
 -- what a step finds of a message: how many segments it has, and how many bytes after its table.
 pub record FindsMessage (rule : Padding) (gives : Giving) (limit : Option ℕ) (buffer : List ℕ) (count bytes : ℕ) (old new : Option (List ℕ)) : Type 0 where
-  pub found : IfKnown old new (MessageStands rule gives (declared_segments count buffer))
+  pub found : IfKnown old new (MessageFound rule gives (declared_segments count buffer))
   pub holds : HoldsMessage buffer count
   pub total_is : bytes ≡ 8 * sum (declared_lengths count buffer)
   pub within : KeepsLimit (declared_lengths count buffer) limit
@@ -73,7 +73,7 @@ pub record AsksNext {S X : Type 0} (source : Ghosts S) (old new : S) (rule : Pad
 pub record ReadsTable {S : Type 0} (source : Ghosts S) (old new : S) (rule : Padding) (limit : Option ℕ) (kept : ℕ)
     (result : Result (Option (List ℕ)) Error) : Type 0 where
   -- the table is there, and just its bytes are consumed
-  pub found : IfOk result (λ found. IfSome found (λ ns. IfKnown (source.unread old) (source.unread new) (TableStands rule source.gives ns)))
+  pub found : IfOk result (λ found. IfSome found (λ ns. IfKnown (source.unread old) (source.unread new) (TableFound rule source.gives ns)))
   pub within : IfOk result (λ found. IfSome found (λ ns. AreWithin ns limit))
   pub bound : IfOk result (λ found. IfSome found (λ ns. sum ns < 2 ^ 42))
   pub asks : AsksNext source old new rule (TakesForLengths kept source.gives) (TableError rule source.gives source.refuses limit None) result

@@ -7,7 +7,7 @@ use Rattle.capnp_frame.specs.declared.serialize.segment_table.Padding.TheVariant
 use Rattle.capnp_frame.specs.SegmentTable.{field, FitsField, IsTable, table_size}
 use Rattle.capnp_frame.specs.Source.{Giving, Refusing}
 use Rattle.capnp_frame.specs.Limits.{AreWithin}
-use Rattle.capnp_frame.specs.Requests.{TableStands}
+use Rattle.capnp_frame.specs.Requests.{TableFound}
 use Rattle.capnp_frame.specs.declared.serialize.segment_table.TheConstants.{SEGMENTS_COUNT_LIMIT}
 
 -- A test: its own line where it holds, and the lines after it where it does not.
@@ -88,7 +88,7 @@ StreamError rule gives refuses limit room kind raw left = StartError rule gives 
 
 -- the first word of a table is at the front, and the number of segments that it declares is
 -- accepted
-pub record CountStands (gives : Giving) (raw rest : List ℕ) : Type 0 where
+pub record CountFound (gives : Giving) (raw rest : List ℕ) : Type 0 where
   pub word : List ℕ
   pub count : ℕ
   pub given : gives raw 8 word rest
@@ -98,14 +98,14 @@ pub record CountStands (gives : Giving) (raw rest : List ℕ) : Type 0 where
 -- Where memory is taken for the lengths: their number is accepted, and is more than `kept`, the number of lengths that take none.
 -- The first word of the table is consumed, and no more.
 abbrev pub TakesForLengths : ℕ → Giving → List ℕ → List ℕ → Type 0
-TakesForLengths kept gives raw left = (stands : CountStands gives raw left) × (kept < stands.count)
+TakesForLengths kept gives raw left = (is_found : CountFound gives raw left) × (kept < is_found.count)
 
 -- Where a reader that allocates takes memory, and has some for this number of lengths and of bytes: for the lengths of more segments
 -- than these, and than one, once their number is accepted, and for segments of more bytes once their table is, with the limit and the
 -- padding. Only what it has asked for until then is consumed.
 abbrev pub Outgrows : ℕ → ℕ → Padding → Giving → Option ℕ → List ℕ → List ℕ → Type 0
 Outgrows segments bytes rule gives limit raw left = TakesForLengths (max 1 segments) gives raw left
-    ⊎ ((lengths : List ℕ) × TableStands rule gives lengths raw left × AreWithin lengths limit × (bytes < 8 * sum lengths))
+    ⊎ ((lengths : List ℕ) × TableFound rule gives lengths raw left × AreWithin lengths limit × (bytes < 8 * sum lengths))
 
 -- where it takes memory and has none
 abbrev pub TakesMemory : Padding → Giving → Option ℕ → List ℕ → List ℕ → Type 0

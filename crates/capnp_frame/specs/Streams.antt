@@ -11,15 +11,15 @@ use Rattle.capnp_frame.specs.declared.io.Read.{Ghosts}
 use Rattle.capnp_frame.specs.Message.{IsWholeWords, size_in_words}
 use Rattle.capnp_frame.specs.SegmentTable.{table_size}
 use Rattle.capnp_frame.specs.Limits.{IsWithin}
-use Rattle.capnp_frame.specs.Requests.{MessageStands}
+use Rattle.capnp_frame.specs.Requests.{MessageFound}
 use Rattle.capnp_frame.specs.Source.{Giving, Refusing, IfKnown, Advances, Fails}
 use Rattle.capnp_frame.specs.Errors.{FailsWith}
 use Rattle.capnp_frame.specs.StreamErrors.{StreamError, Outgrows, TakesMemory, TakesForLengths, IsReaderKind, IsProvidedReaderKind}
 
 -- A message is at the front of `raw`, and `rest` after it, as a relation:
--- `stands segments raw rest`.
-abbrev pub Standing : Type 1
-Standing = List (List ℕ) → List ℕ → List ℕ → Type 0
+-- `finds segments raw rest`.
+abbrev pub Finding : Type 1
+Finding = List (List ℕ) → List ℕ → List ℕ → Type 0
 
 -- What a reader returns, by the message in it: a reader that may return None, and one that may not.
 abbrev pub next_in : {X : Type 0} → (X → List (List ℕ)) → Result (Option X) Error → Result (Option (List (List ℕ))) Error
@@ -28,7 +28,7 @@ next_in segments result = result_map_both (option_map segments) (λ error. error
 -- What a reader of streams goes by: the format, and in it the rule of padding.
 pub record StreamRules : Type 1 where
   -- where a message is
-  pub stands : Standing
+  pub finds : Finding
   -- where a reader that allocates takes memory, within a limit of words: `takes_memory limit raw
   -- left`
   pub takes_memory : Option ℕ → List ℕ → List ℕ → Type 0
@@ -45,7 +45,7 @@ pub record StreamRules : Type 1 where
 -- errors.
 abbrev pub framed_rules : Padding → Giving → Refusing → StreamRules
 framed_rules rule gives refuses = record {
-  stands = MessageStands rule gives;
+  finds = MessageFound rule gives;
   takes_memory = TakesMemory rule gives;
   fails = StreamError rule gives refuses;
   kinds = IsReaderKind rule refuses;
@@ -66,7 +66,7 @@ skipping_rules rule gives refuses kept = record (framed_rules rule gives refuses
 pub record ReadsStream {S : Type 0} (source : Ghosts S) (old new : S) (rules : StreamRules) (limit : Option ℕ)
     (result : Result (Option (List (List ℕ))) Error) : Type 0 where
   -- the message that is returned is there, and just its bytes are consumed
-  pub found : IfOk result (λ found. IfSome found (λ segments. IfKnown (source.unread old) (source.unread new) (rules.stands segments)))
+  pub found : IfOk result (λ found. IfSome found (λ segments. IfKnown (source.unread old) (source.unread new) (rules.finds segments)))
   -- it has 1 to 511 segments and is within the limit of words
   pub within : IfOk result (λ found. IfSome found (λ segments. IsWithin segments limit))
   -- its segments are whole words
@@ -74,7 +74,7 @@ pub record ReadsStream {S : Type 0} (source : Ghosts S) (old new : S) (rules : S
   -- None is returned only where nothing is unread
   pub none : IfOk result (λ found. IfNone found (IfSome (source.unread old) (λ raw. raw ≡ [])))
   -- where a message is, the call fails only with the device's failure or for want of memory
-  pub accepted : IfSome (source.unread old) (λ raw. (segments : List (List ℕ)) (rest : List ℕ) → rules.stands segments raw rest
+  pub accepted : IfSome (source.unread old) (λ raw. (segments : List (List ℕ)) (rest : List ℕ) → rules.finds segments raw rest
       → IsWithin segments limit → IfErr result (λ error. (error.kind ≡ DeviceFailed) ⊎ (error.kind ≡ OutOfMemory)))
   -- where nothing is unread, only with the device's failure
   pub end : IfErr result (λ error. source.unread old ≡ Some [] → error.kind ≡ DeviceFailed)
@@ -96,7 +96,7 @@ pub record ReadsStream {S : Type 0} (source : Ghosts S) (old new : S) (rules : S
 pub record ReadsStreamInto {S : Type 0} (source : Ghosts S) (old new : S) (rules : StreamRules) (limit : Option ℕ) (room : ℕ)
     (result : Result (Option (List (List ℕ))) Error) : Type 0 where
   -- the message that is returned is there, and just its bytes are consumed
-  pub found : IfOk result (λ found. IfSome found (λ segments. IfKnown (source.unread old) (source.unread new) (rules.stands segments)))
+  pub found : IfOk result (λ found. IfSome found (λ segments. IfKnown (source.unread old) (source.unread new) (rules.finds segments)))
   -- it has 1 to 511 segments and is within the limit of words
   pub within : IfOk result (λ found. IfSome found (λ segments. IsWithin segments limit))
   -- its segments are whole words
@@ -104,7 +104,7 @@ pub record ReadsStreamInto {S : Type 0} (source : Ghosts S) (old new : S) (rules
   -- None is returned only where nothing is unread
   pub none : IfOk result (λ found. IfNone found (IfSome (source.unread old) (λ raw. raw ≡ [])))
   -- where a message is and fits the buffer, the call fails only with the device's failure
-  pub accepted : IfSome (source.unread old) (λ raw. (segments : List (List ℕ)) (rest : List ℕ) → rules.stands segments raw rest
+  pub accepted : IfSome (source.unread old) (λ raw. (segments : List (List ℕ)) (rest : List ℕ) → rules.finds segments raw rest
       → IsWithin segments limit → table_size (length segments) + 8 * size_in_words segments ≤ room
       → IfErr result (λ error. error.kind ≡ DeviceFailed))
   -- where nothing is unread and the buffer has a word, only with the device's failure

@@ -6,7 +6,7 @@ ghost use Rattle.capnp_frame.specs.SegmentTable.{zero_padded_table, HasTable, Is
 ghost use Rattle.capnp_frame.specs.Frame.{IsFrame, frame_bytes};
 ghost use Rattle.capnp_frame.specs.Source.{Splits, IsFront, Fails};
 ghost use Rattle.capnp_frame.specs.Sink.{AppendsSame, AppendsAll, LeavesFront, LeavesSome, ByKind, ChunksError};
-ghost use Rattle.capnp_frame.specs.Requests.{MessageStands};
+ghost use Rattle.capnp_frame.specs.Requests.{MessageFound};
 ghost use Rattle.capnp_frame.specs.StreamErrors.{IsTooLarge, StreamError, Outgrows};
 ghost use Rattle.capnp_frame.specs.Writers.{UnwrittenError};
 ghost use Rattle.capnp_frame.specs.Writing.{IsWritable, SegmentCountError, chunks, serialized_words};
@@ -36,9 +36,9 @@ pub fn zero_padding_leaves_one_frame()
 pub fn zero_padding_is_some_padding<R: Read>()
     ensures table { (text ns : List ℕ) → IsTable Padding.Zero text ns
         ↔ (IsTable Padding.Any text ns × (text ≡ zero_padded_table ns)) }
-    ensures stands { (m : List (List ℕ)) (raw rest : List ℕ) →
-        MessageStands Padding.Zero R.gives m raw rest
-        ↔ ((any : MessageStands Padding.Any R.gives m raw rest)
+    ensures is_found { (m : List (List ℕ)) (raw rest : List ℕ) →
+        MessageFound Padding.Zero R.gives m raw rest
+        ↔ ((any : MessageFound Padding.Any R.gives m raw rest)
         × (any.table.first ++ any.table.others ≡ zero_padded_table (lengths m))) }
 {}
 
@@ -54,7 +54,7 @@ pub fn frames_part_in_one_way()
 /// The three requests for a message take exactly its framed encoding from a plain source.
 pub fn plain_requests_take_a_frame()
     ensures { (rule : Padding) (segments : List (List ℕ)) (raw rest : List ℕ) →
-        MessageStands rule Splits segments raw rest
+        MessageFound rule Splits segments raw rest
         ↔ ((text : List ℕ) × IsFrame rule text segments × (raw ≡ text ++ rest)) }
 {}
 
@@ -62,7 +62,7 @@ pub fn plain_requests_take_a_frame()
 /// it has.
 pub fn message_past_the_limit_fails<R: Read>()
     ensures { (rule : Padding) (limit : Option ℕ) (m : List (List ℕ)) (raw rest : List ℕ) →
-        MessageStands rule R.gives m raw rest → length m < SEGMENTS_COUNT_LIMIT → IsTooLarge (lengths m) limit →
+        MessageFound rule R.gives m raw rest → length m < SEGMENTS_COUNT_LIMIT → IsTooLarge (lengths m) limit →
         (left : List ℕ) × StreamError rule R.gives R.refuses limit None
         (ErrorKind.MessageTooLarge (size_in_words m)) raw left }
 {}
@@ -71,7 +71,7 @@ pub fn message_past_the_limit_fails<R: Read>()
 /// no more segments, or one alone: a `_reusing` reader then doesn't fail with `OutOfMemory`.
 pub fn smaller_messages_take_no_memory<R: Read>()
     ensures { (rule : Padding) (limit : Option ℕ) (kept m : List (List ℕ)) (raw rest left : List ℕ) →
-        MessageStands rule R.gives m raw rest → length m < SEGMENTS_COUNT_LIMIT →
+        MessageFound rule R.gives m raw rest → length m < SEGMENTS_COUNT_LIMIT →
         length m ≤ max 1 (length kept) → 8 * size_in_words m ≤ length (concat kept) →
         Outgrows (length kept) (length (concat kept)) rule R.gives limit raw left → ⊥ }
 {}

@@ -2,7 +2,7 @@
 use crate::assertions::{
     At, assert_bytes, assert_calls, assert_count, assert_holds, assert_fails,
 };
-use crate::chunk_rows::{PACKED, Packed};
+use crate::chunk_cases::{PACKED, Packed};
 use crate::packing::{pack, unpack, unpack_some};
 use crate::retried;
 use crate::sinks::FailingSink;
@@ -10,43 +10,43 @@ use crate::sources::{Failing, Trickle};
 use capnp_frame::{ErrorKind, Result};
 use std::process::Abort;
 
-// The encoding of each row's chunks where this packer writes it, and the chunks of its encoding.
+// The encoding of each case's chunks where this packer writes it, and the chunks of its encoding.
 #[test]
 fn chunks_after_one_another(rt: HostRuntime) -> Result<()> {
-    for row in &PACKED {
-        retried!(pack_row(&rt, row))?;
-        unpack_each(&rt, row)?;
+    for case in &PACKED {
+        retried!(pack_case(&rt, case))?;
+        unpack_each(&rt, case)?;
     }
     Ok(())
 }
 
-fn pack_row(rt: &(impl Abort + AllocGlobal), row: &Packed) -> Result<()> {
-    if !row.is_written {
+fn pack_case(rt: &(impl Abort + AllocGlobal), case: &Packed) -> Result<()> {
+    if !case.is_written {
         return Ok(());
     }
-    let at = At::row(row.name);
+    let at = At::case(case.name);
     let mut sink = FailingSink::new(Vec::new(rt.alloc()), 0);
-    pack(&mut sink, row.chunks)?;
-    assert_bytes(rt, sink.written.as_slice(), row.text, at);
-    assert_calls(rt, sink.calls, row.handed.unwrap_or(sink.calls), at);
+    pack(&mut sink, case.chunks)?;
+    assert_bytes(rt, sink.written.as_slice(), case.text, at);
+    assert_calls(rt, sink.calls, case.handed.unwrap_or(sink.calls), at);
     Ok(())
 }
 
 // The source shows or returns at most a given number of bytes, and at last each encoding whole.
-fn unpack_each(rt: &impl Abort, row: &Packed) -> Result<()> {
+fn unpack_each(rt: &impl Abort, case: &Packed) -> Result<()> {
     for most in 1..=24 {
-        unpack_row(rt, row, most)?;
+        unpack_case(rt, case, most)?;
     }
-    unpack_row(rt, row, 5000)
+    unpack_case(rt, case, 5000)
 }
 
 // Of a source that shows a chunk whole, it asks once for each, and nothing for no bytes.
-fn unpack_row(rt: &impl Abort, row: &Packed, most: usize) -> Result<()> {
-    let at = At::new(row.name, most as u64);
-    let mut source = Failing::new(Trickle::new(row.text, most), 0);
-    let mut parts = Trickle::new(row.text, most);
+fn unpack_case(rt: &impl Abort, case: &Packed, most: usize) -> Result<()> {
+    let at = At::new(case.name, most as u64);
+    let mut source = Failing::new(Trickle::new(case.text, most), 0);
+    let mut parts = Trickle::new(case.text, most);
     let mut asked: u64 = 0;
-    for chunk in row.chunks {
+    for chunk in case.chunks {
         unpack_chunk(rt, &mut source, &mut parts, chunk, at)?;
         asked = asked.saturating_add(u64::from(!chunk.is_empty()));
     }
@@ -55,7 +55,7 @@ fn unpack_row(rt: &impl Abort, row: &Packed, most: usize) -> Result<()> {
         source.source.bytes.is_empty() && parts.bytes.is_empty(),
         at,
     );
-    if row.text.len() <= most {
+    if case.text.len() <= most {
         assert_calls(rt, source.calls, asked, at);
         assert_calls(rt, source.source.reads, 0, at);
     }
@@ -194,7 +194,7 @@ fn a_part_of_a_word_is_not_written(rt: HostRuntime) -> Result<()> {
 const PARTS: [&[u8]; 5] = [&[1], &[1; 7], &[1; 9], &[0; 12], &[1; 12]];
 
 fn write_parts(rt: &(impl Abort + AllocGlobal)) -> Result<()> {
-    let at = At::row("parts of a word");
+    let at = At::case("parts of a word");
     let mut sink = [3, 2, 1].to_vec(rt.alloc())?;
     for part in &PARTS {
         assert_fails(rt, pack(&mut sink, &[part]), ErrorKind::NotWholeWords, at);

@@ -27,7 +27,7 @@ fn one_adapter_of_a_sink(rt: HostRuntime) -> Result<()> {
 }
 
 fn write_chunks(rt: &(impl Abort + AllocGlobal)) -> Result<()> {
-    let at = At::row("one adapter of a sink");
+    let at = At::case("one adapter of a sink");
     let mut sink = FailingSink::new(Vec::new(rt.alloc()), 2);
     write_each(rt, &mut PackedWrite::new(&mut sink))?;
     assert_bytes(rt, sink.written.as_slice(), &[1, 5, 1, 7, 0x80, 8], at);
@@ -58,7 +58,7 @@ const REQUESTS: [Request; 5] = [
 
 #[test]
 fn one_adapter_of_a_source(rt: HostRuntime) -> Result<()> {
-    let at = At::row("one adapter of a source");
+    let at = At::case("one adapter of a source");
     let mut source = Failing::new(Trickle::new(&[1, 5, 1, 6, 1, 7, 1, 8], 24), 2);
     read_each(&rt, &mut PackedRead::new(&mut source))?;
     assert_bytes(&rt, source.source.bytes, &[], at);
@@ -74,6 +74,6 @@ fn read_each<R: Read>(rt: &impl Abort, packed: &mut R) -> Result<()> {
         assert_kind(rt, returned, kind, at);
         assert_bytes(rt, &words[..1], &[first], at);
     }
-    assert_count(rt, packed.read(&mut [0; 8])?, 0, At::row("the end"));
+    assert_count(rt, packed.read(&mut [0; 8])?, 0, At::case("the end"));
     Ok(())
 }

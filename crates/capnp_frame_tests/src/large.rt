@@ -53,32 +53,32 @@ const MILLION: Pattern = Pattern {
 
 #[test]
 fn many_words(rt: HostRuntime) -> Result<()> {
-    for row in &PATTERNS {
-        retried!(write_and_read(&rt, row))?;
-        retried!(pack_and_read(&rt, row))?;
-        retried!(pack_and_unpack(&rt, row))?;
+    for case in &PATTERNS {
+        retried!(write_and_read(&rt, case))?;
+        retried!(pack_and_read(&rt, case))?;
+        retried!(pack_and_unpack(&rt, case))?;
     }
     retried!(pack_and_read(&rt, &MILLION))
 }
 
-fn segment_of(alloc: Global, row: &Pattern) -> Result<Vec<u8>> {
-    Ok(vec![in alloc; row.byte; row.words.saturating_mul(8)]?)
+fn segment_of(alloc: Global, case: &Pattern) -> Result<Vec<u8>> {
+    Ok(vec![in alloc; case.byte; case.words.saturating_mul(8)]?)
 }
 
-fn write_and_read(rt: &(impl Abort + AllocGlobal), row: &Pattern) -> Result<()> {
-    let segment = segment_of(rt.alloc(), row)?;
+fn write_and_read(rt: &(impl Abort + AllocGlobal), case: &Pattern) -> Result<()> {
+    let segment = segment_of(rt.alloc(), case)?;
     let mut framed: Vec<u8> = Vec::new(rt.alloc());
     write(rt, &mut framed, &[&segment])?;
-    let at = At::row(row.name);
+    let at = At::case(case.name);
     assert_count(
         rt,
         framed.len(),
-        row.words.saturating_add(1).saturating_mul(8),
+        case.words.saturating_add(1).saturating_mul(8),
         at,
     );
     assert_holds(
         rt,
-        framed.starts_with(&row.table) && framed.ends_with(&segment),
+        framed.starts_with(&case.table) && framed.ends_with(&segment),
         at,
     );
     let mut source = framed.as_slice();
@@ -87,41 +87,41 @@ fn write_and_read(rt: &(impl Abort + AllocGlobal), row: &Pattern) -> Result<()> 
     Ok(())
 }
 
-fn pack_and_read(rt: &(impl Abort + AllocGlobal), row: &Pattern) -> Result<()> {
-    let segment = segment_of(rt.alloc(), row)?;
+fn pack_and_read(rt: &(impl Abort + AllocGlobal), case: &Pattern) -> Result<()> {
+    let segment = segment_of(rt.alloc(), case)?;
     let mut packed: Vec<u8> = Vec::new(rt.alloc());
     write_packed(rt, &mut packed, &[&segment])?;
-    let at = At::row(row.name);
-    assert_count(rt, packed.len(), row.packed, at);
-    assert_holds(rt, packed.starts_with(row.front), at);
+    let at = At::case(case.name);
+    assert_count(rt, packed.len(), case.packed, at);
+    assert_holds(rt, packed.starts_with(case.front), at);
     let mut source = packed.as_slice();
     let found = read_packed(rt.alloc(), &mut source, &[&segment])?;
     assert_holds(rt, found == Found::Wanted && source.is_empty(), at);
     Ok(())
 }
 
-fn pack_and_unpack(rt: &(impl Abort + AllocGlobal), row: &Pattern) -> Result<()> {
-    let segment = segment_of(rt.alloc(), row)?;
+fn pack_and_unpack(rt: &(impl Abort + AllocGlobal), case: &Pattern) -> Result<()> {
+    let segment = segment_of(rt.alloc(), case)?;
     let mut packed: Vec<u8> = Vec::new(rt.alloc());
-    pack(&mut packed, &[&row.table, &segment])?;
-    assert_count(rt, packed.len(), row.packed, At::row(row.name));
-    unpack_all(rt, &packed, row, &segment)
+    pack(&mut packed, &[&case.table, &segment])?;
+    assert_count(rt, packed.len(), case.packed, At::case(case.name));
+    unpack_all(rt, &packed, case, &segment)
 }
 
 // All words at once.
 fn unpack_all(
     rt: &(impl Abort + AllocGlobal),
     packed: &[u8],
-    row: &Pattern,
+    case: &Pattern,
     segment: &[u8],
 ) -> Result<()> {
     let mut words = vec![in rt.alloc(); 0xaau8; segment.len().saturating_add(8)]?;
     let mut source = packed;
     unpack(&mut source, &mut words)?;
-    let at = At::row(row.name);
+    let at = At::case(case.name);
     assert_holds(
         rt,
-        words.starts_with(&row.table) && words.ends_with(segment),
+        words.starts_with(&case.table) && words.ends_with(segment),
         at,
     );
     assert_holds(rt, source.is_empty(), at);

@@ -62,9 +62,9 @@ const LENGTHS: [Lengths; 5] = [
     },
 ];
 
-fn builder_of(alloc: Global, row: &Lengths) -> Result<SegmentLengthsBuilder> {
-    let mut lengths = retried!(SegmentLengthsBuilder::with_capacity(alloc, row.capacity))?;
-    for length in row.lengths {
+fn builder_of(alloc: Global, case: &Lengths) -> Result<SegmentLengthsBuilder> {
+    let mut lengths = retried!(SegmentLengthsBuilder::with_capacity(alloc, case.capacity))?;
+    for length in case.lengths {
         push_again(&mut lengths, *length)?;
     }
     Ok(lengths)
@@ -77,24 +77,24 @@ fn push_again(lengths: &mut SegmentLengthsBuilder, length: usize) -> Result<()> 
 
 #[test]
 fn lengths_are_added_up(rt: HostRuntime) -> Result<()> {
-    for row in &LENGTHS {
-        add_up(&rt, row)?;
+    for case in &LENGTHS {
+        add_up(&rt, case)?;
     }
     Ok(())
 }
 
-fn add_up(rt: &(impl Abort + AllocGlobal), row: &Lengths) -> Result<()> {
-    let at = At::row(row.name);
-    let mut lengths = builder_of(rt.alloc(), row)?;
-    assert_count(rt, lengths.total_words(), row.total, at);
-    if row.total > 0 {
+fn add_up(rt: &(impl Abort + AllocGlobal), case: &Lengths) -> Result<()> {
+    let at = At::case(case.name);
+    let mut lengths = builder_of(rt.alloc(), case)?;
+    assert_count(rt, lengths.total_words(), case.total, at);
+    if case.total > 0 {
         let failed = lengths.try_push_segment(usize::MAX);
         assert_fails(rt, failed, ErrorKind::MessageSizeOverflow, at);
-        assert_count(rt, lengths.total_words(), row.total, at);
+        assert_count(rt, lengths.total_words(), case.total, at);
     }
     assert_holds(
         rt,
-        lengths.to_segment_indices().as_slice() == row.indices,
+        lengths.to_segment_indices().as_slice() == case.indices,
         at,
     );
     Ok(())
@@ -102,16 +102,16 @@ fn add_up(rt: &(impl Abort + AllocGlobal), row: &Lengths) -> Result<()> {
 
 #[test]
 fn segments_of_these_lengths_are_zeros(rt: HostRuntime) -> Result<()> {
-    for row in &LENGTHS {
-        retried!(make_segments(&rt, row))?;
+    for case in &LENGTHS {
+        retried!(make_segments(&rt, case))?;
     }
     Ok(())
 }
 
-fn make_segments(rt: &(impl Abort + AllocGlobal), row: &Lengths) -> Result<()> {
-    let at = At::row(row.name);
-    match builder_of(rt.alloc(), row)?.into_owned_segments() {
-        Ok(segments) => assert_holds(rt, has_lengths(&segments, row), at),
+fn make_segments(rt: &(impl Abort + AllocGlobal), case: &Lengths) -> Result<()> {
+    let at = At::case(case.name);
+    match builder_of(rt.alloc(), case)?.into_owned_segments() {
+        Ok(segments) => assert_holds(rt, has_lengths(&segments, case), at),
         Err(error) => {
             assert_holds(rt, error.kind == ErrorKind::OutOfMemory, at);
             return Err(error);
@@ -121,18 +121,18 @@ fn make_segments(rt: &(impl Abort + AllocGlobal), row: &Lengths) -> Result<()> {
 }
 
 // Whether the segments have these lengths, and all their bytes are zero.
-fn has_lengths(segments: &OwnedSegments, row: &Lengths) -> bool {
-    for (id, length) in (0..).zip(row.lengths) {
+fn has_lengths(segments: &OwnedSegments, case: &Lengths) -> bool {
+    for (id, length) in (0..).zip(case.lengths) {
         match segments.get_segment(id) {
             Some(segment) if segment.len() / 8 == *length && segment.len() % 8 == 0 => {}
             _ => return false,
         }
     }
     let bytes = segments.as_bytes();
-    bytes.len() / 8 == row.total
+    bytes.len() / 8 == case.total
         && bytes == &[0; 1600][..bytes.len().min(1600)]
-        && segments.len() == row.lengths.len()
-        && segments.is_empty() == row.lengths.is_empty()
+        && segments.len() == case.lengths.len()
+        && segments.is_empty() == case.lengths.is_empty()
 }
 
 // The bytes of segments of 1, 0 and 2 words, some of which are written.
@@ -142,7 +142,7 @@ fn segments_that_are_written(rt: HostRuntime) -> Result<()> {
 }
 
 fn write_into_segments(rt: &(impl Abort + AllocGlobal)) -> Result<()> {
-    let at = At::row(THREE.name);
+    let at = At::case(THREE.name);
     let mut segments = builder_of(rt.alloc(), &THREE)?.into_owned_segments()?;
     let bytes = segments.as_bytes_mut();
     assert!(rt; bytes.len() == 24);

@@ -1,7 +1,7 @@
-//! Worked rows over framing and packing, their calls, and what all tests share: messages, sources
+//! Worked cases over framing and packing, their calls, and what all tests share: messages, sources
 //! and sinks, limits, errors, and what a test does where a growth fails.
 //!
-//! Expected values come from the [encoding document] and from rows worked by hand, never from what
+//! Expected values come from the [encoding document] and from cases worked by hand, never from what
 //! the calls return. `rt try --test --fail-alloc N` makes one growth of each test fail: a body that
 //! returns an error is run once more, and has to succeed then. Only the tests of a module `calls`,
 //! which read whole results, may fail.
@@ -12,7 +12,7 @@
 #[cfg(test)]
 mod assertions;
 #[cfg(test)]
-mod chunk_rows;
+mod chunk_cases;
 #[cfg(test)]
 mod chunks;
 #[cfg(test)]

@@ -21,7 +21,7 @@ fn a_failed_chunk_is_not_written(rt: HostRuntime) -> Result<()> {
 const CHUNK: [u8; 64] = [7; 64];
 
 fn write_after_three(rt: &(impl Abort + AllocGlobal)) -> Result<()> {
-    let at = At::row("three bytes");
+    let at = At::case("three bytes");
     let mut sink = Vec::new(rt.alloc());
     sink.write_all(&[1, 2, 3])?;
     let written = sink.write_all(&CHUNK);
@@ -121,28 +121,28 @@ const ASKING: [Asking; 8] = [
 
 #[test]
 fn messages_without_memory(rt: HostRuntime) -> Result<()> {
-    for row in &ASKING {
-        retried!(read_row(&rt, row))?;
+    for case in &ASKING {
+        retried!(read_case(&rt, case))?;
     }
     Ok(())
 }
 
-fn read_row(rt: &(impl Abort + AllocGlobal), row: &Asking) -> Result<()> {
-    let at = At::row(row.name);
-    let mut source = row.bytes;
-    let returned = read_by(rt.alloc(), &mut source, row.rules, &SEGMENTS);
+fn read_case(rt: &(impl Abort + AllocGlobal), case: &Asking) -> Result<()> {
+    let at = At::case(case.name);
+    let mut source = case.bytes;
+    let returned = read_by(rt.alloc(), &mut source, case.rules, &SEGMENTS);
     if is_out_of_memory(&returned) {
-        assert_holds(rt, row.asks.contains(&source.len()), at);
+        assert_holds(rt, case.asks.contains(&source.len()), at);
         return Err(Error::from_kind(ErrorKind::OutOfMemory));
     }
-    match (returned, row.returns) {
+    match (returned, case.returns) {
         (Ok(found), Ok(wanted)) => assert_holds(rt, found == wanted, at),
         (Err(error), Err(kind)) => assert_holds(rt, error.kind == kind, at),
         _ => panic!(rt;
             "a result for a refusal, or a refusal for a result, at {}",
-            row.name
+            case.name
         ),
     }
-    assert_count(rt, source.len(), row.unread, at);
+    assert_count(rt, source.len(), case.unread, at);
     Ok(())
 }

@@ -24,7 +24,7 @@ const PACKED: [u8; 17] = [0x11, 2, 1, 0x10, 1, 0xff, 1, 2, 3, 4, 5, 6, 7, 8, 0, 
 
 #[test]
 fn segments_are_written(rt: HostRuntime) -> Result<()> {
-    let at = At::row("segments of 1, 0 and 1 words");
+    let at = At::case("segments of 1, 0 and 1 words");
     let mut framed = [9; 32];
     let mut left: &mut [u8] = &mut framed;
     write(&rt, &mut left, &SEGMENTS)?;
@@ -62,7 +62,7 @@ fn messages_are_found(rt: HostRuntime) -> Result<()> {
         &rt,
         cut,
         ErrorKind::MessageEndsPrematurely(2, 1),
-        At::row("31 bytes of 32"),
+        At::case("31 bytes of 32"),
     );
     Ok(())
 }
@@ -95,7 +95,7 @@ fn a_buffer_that_is_a_byte_short(rt: HostRuntime) {
         &rt,
         short,
         ErrorKind::BufferNotLargeEnough,
-        At::row("room for 31 bytes"),
+        At::case("room for 31 bytes"),
     );
 }
 
@@ -105,7 +105,7 @@ const PACKED_WORDS: [u8; 13] = [0x24, 12, 34, 0xff, 1, 2, 3, 4, 5, 6, 7, 8, 0];
 
 #[test]
 fn chunks_are_packed(rt: HostRuntime) -> Result<()> {
-    let at = At::row("two words");
+    let at = At::case("two words");
     let mut text = [9; 13];
     let mut left: &mut [u8] = &mut text;
     pack(&mut left, &[&WORDS])?;
@@ -122,7 +122,7 @@ fn chunks_are_packed(rt: HostRuntime) -> Result<()> {
 
 #[test]
 fn chunks_are_unpacked(rt: HostRuntime) -> Result<()> {
-    let at = At::row("two words");
+    let at = At::case("two words");
     let mut back = [9; 16];
     let mut source = PACKED_WORDS.as_slice();
     unpack(&mut source, &mut back)?;
@@ -149,7 +149,7 @@ fn packed_messages_that_take_no_memory(rt: HostRuntime) -> Result<()> {
             &rt,
             read_packed(rt.alloc(), &mut source, &[]),
             kind,
-            At::row(name),
+            At::case(name),
         );
     }
     assert!(rt; read_packed(rt.alloc(), &mut [].as_slice(), &[])? == Found::End);
@@ -176,7 +176,7 @@ const TEXT_AND_ROOM: [u8; 48] = [
 
 #[test]
 fn a_text_in_a_buffer(rt: HostRuntime) -> Result<()> {
-    let at = At::row("a framed text");
+    let at = At::case("a framed text");
     let mut source = FRAME_AND_MORE.as_slice();
     let mut room = [1; 48];
     let found = try_read_framed_into(&mut source, STRICT, &mut room)?;
@@ -198,7 +198,7 @@ const NINES_AND_ROOM: [u8; 17] = [0, 0, 0, 0, 1, 0, 0, 0, 9, 9, 9, 9, 9, 9, 9, 9
 
 #[test]
 fn a_packed_text_in_a_buffer(rt: HostRuntime) -> Result<()> {
-    let at = At::row("a packed text");
+    let at = At::case("a packed text");
     let mut source = PACKED_NINES.as_slice();
     let mut room = [1; 17];
     let found = try_read_packed_framed_into(&mut source, STRICT, &mut room)?;
@@ -218,7 +218,7 @@ fn a_single_segment_is_found(rt: HostRuntime) -> Result<()> {
     let mut slice = NINES_AND_ROOM.as_slice();
     let found = take_segments(rt.alloc(), &mut slice, DEFAULT_READER_OPTIONS)?;
     assert!(rt; has_segments(&found, &wanted) && found.len() == 1);
-    assert_bytes(&rt, slice, &[1], At::row("a byte after it"));
+    assert_bytes(&rt, slice, &[1], At::case("a byte after it"));
     let found = BufferSegments::new(
         rt.alloc(),
         NINES_AND_ROOM.as_slice(),

@@ -53,15 +53,15 @@ fn is_taken(rt: &impl Abort, returned: Result<()>, at: At<'_>) -> Result<bool> {
 
 #[test]
 fn whole_chunks_are_written(rt: HostRuntime) -> Result<()> {
-    for row in &CHUNKS {
-        write_to_each(&rt, row)?;
-        write_into_each(&rt, row)?;
+    for case in &CHUNKS {
+        write_to_each(&rt, case)?;
+        write_into_each(&rt, case)?;
     }
     Ok(())
 }
 
-fn write_to_each(rt: &(impl Abort + AllocGlobal), row: &Chunks) -> Result<()> {
-    let &(name, segments, ends) = row;
+fn write_to_each(rt: &(impl Abort + AllocGlobal), case: &Chunks) -> Result<()> {
+    let &(name, segments, ends) = case;
     for (number, end) in (1..).zip(ends) {
         retried!(write_to(rt, segments, ends.len(), *end, At::new(name, number)))?;
     }
@@ -100,7 +100,7 @@ fn packed_texts_before_the_error(rt: HostRuntime) -> Result<()> {
                 break;
             }
         }
-        assert_holds(&rt, calls > 1, At::row(message.name));
+        assert_holds(&rt, calls > 1, At::case(message.name));
     }
     Ok(())
 }
@@ -118,23 +118,23 @@ fn pack_message_to(
 
 #[test]
 fn parts_of_chunks_before_the_error(rt: HostRuntime) -> Result<()> {
-    for row in &PARTS {
+    for case in &PARTS {
         let mut calls = 0;
         for fails_at in 1..=16 {
-            if retried!(pack_to(&rt, row, fails_at))? {
+            if retried!(pack_to(&rt, case, fails_at))? {
                 calls = fails_at;
                 break;
             }
         }
-        assert_holds(&rt, calls > row.parts, At::row(row.name));
+        assert_holds(&rt, calls > case.parts, At::case(case.name));
     }
     Ok(())
 }
 
-fn pack_to(rt: &(impl Abort + AllocGlobal), row: &Parts, fails_at: u64) -> Result<bool> {
+fn pack_to(rt: &(impl Abort + AllocGlobal), case: &Parts, fails_at: u64) -> Result<bool> {
     let mut sink = sink_that_fails(rt.alloc(), fails_at)?;
-    let returned = pack(&mut sink, &[row.words.as_flattened()]);
-    is_front(rt, returned, &sink, row.text, At::new(row.name, fails_at))
+    let returned = pack(&mut sink, &[case.words.as_flattened()]);
+    is_front(rt, returned, &sink, case.text, At::new(case.name, fails_at))
 }
 
 // Whether the run meets no failure. What was written stays at the front, and a front of the encoding
@@ -165,8 +165,8 @@ fn is_front(
 }
 
 // A caller-provided slice takes the chunks that it has room for, and is unchanged after them.
-fn write_into_each(rt: &(impl Abort + AllocGlobal), row: &Chunks) -> Result<()> {
-    let &(name, segments, ends) = row;
+fn write_into_each(rt: &(impl Abort + AllocGlobal), case: &Chunks) -> Result<()> {
+    let &(name, segments, ends) = case;
     for room in 0..=64 {
         retried!(write_into(rt, segments, ends, room, At::new(name, room as u64)))?;
     }
@@ -226,7 +226,7 @@ fn fill(
 // The slice begins with these bytes, and stays as it was after them.
 fn assert_filled(rt: &impl Abort, space: &[u8; 64], front: &[u8], at: At<'_>) {
     let Some(rest) = space.as_slice().strip_prefix(front) else {
-        panic!(rt; "{space:?} at {}", at.row);
+        panic!(rt; "{space:?} at {}", at.case);
     };
     assert_bytes(rt, rest, &[9; 64][..rest.len().min(64)], at);
 }

@@ -155,7 +155,7 @@ const PADDED: &[u8] = &[1, 1, 0x11, 1, 9, 1, 7];
 // The message is accepted by its rule alone, and nothing is unread after it.
 #[test]
 fn a_padding_is_skipped_by_its_rule(rt: HostRuntime) -> Result<()> {
-    let at = At::row("a padding of 9");
+    let at = At::case("a padding of 9");
     let mut source = PADDED;
     let lengths = retried!({
         source = PADDED;
@@ -249,7 +249,7 @@ fn blame(rt: &(impl Abort + AllocGlobal), message: &Message, fails_at: u64) -> R
 #[test]
 fn tables_are_read_by_themselves(rt: HostRuntime) -> Result<()> {
     for message in &MESSAGES {
-        let at = At::row(message.name);
+        let at = At::case(message.name);
         let mut source = message.table;
         let lengths = retried!({
             source = message.table;

@@ -107,24 +107,24 @@ const CUT_TABLE: &[u8] = &[1, 0, 0, 0, 1, 0, 0, 0, 2, 0, 0, 0, 0, 0, 0];
 
 #[test]
 fn numbers_of_a_table(rt: HostRuntime) {
-    for row in &DESCRIBED {
-        assert_holds(&rt, is_described(row), At::row(row.name));
+    for case in &DESCRIBED {
+        assert_holds(&rt, is_described(case), At::case(case.name));
     }
 }
 
 // Whether the buffer is told to have such a table just where it has, and its segments are found.
-fn is_described(row: &Described) -> bool {
+fn is_described(case: &Described) -> bool {
     let info = NoAllocSegmentTableInfo {
-        segments_count: row.count,
-        segment_table_length_bytes: row.table,
-        total_segments_length_bytes: row.total,
+        segments_count: case.count,
+        segment_table_length_bytes: case.table,
+        total_segments_length_bytes: case.total,
     };
-    if !describes(&row.buffer, &info) {
-        return row.segments.is_none();
+    if !describes(&case.buffer, &info) {
+        return case.segments.is_none();
     }
-    let found = NoAllocBufferSegments::from_segment_table_info(row.buffer, info);
-    match row.segments {
-        Some(segments) => found.len() == row.count && has_segments(&found, segments),
+    let found = NoAllocBufferSegments::from_segment_table_info(case.buffer, info);
+    match case.segments {
+        Some(segments) => found.len() == case.count && has_segments(&found, segments),
         None => false,
     }
 }
@@ -140,7 +140,7 @@ fn cut_by_lengths(rt: &(impl Abort + AllocGlobal)) -> Result<()> {
     let mut lengths = SegmentLengthsBuilder::with_capacity(rt.alloc(), 2)?;
     lengths.try_push_segment(1)?;
     lengths.try_push_segment(2)?;
-    assert_count(rt, lengths.total_words(), 3, At::row("words in all"));
+    assert_count(rt, lengths.total_words(), 3, At::case("words in all"));
     assert_flatten(rt, lengths.into_slice_segments(&FLATTEN, 16));
     Ok(())
 }
@@ -155,12 +155,12 @@ fn hold(rt: &(impl Abort + AllocGlobal)) -> Result<()> {
 fn keep(rt: &(impl Abort + AllocGlobal)) -> Result<()> {
     let vector = FLATTEN.to_vec(rt.alloc())?;
     let found = BufferSegments::new(rt.alloc(), vector, DEFAULT_READER_OPTIONS)?;
-    assert_bytes(rt, &found.into_buffer(), &FLATTEN, At::row("flatten, kept"));
+    assert_bytes(rt, &found.into_buffer(), &FLATTEN, At::case("flatten, kept"));
     Ok(())
 }
 
 fn assert_flatten(rt: &impl Abort, found: BufferSegments<&[u8]>) {
-    let at = At::row("flatten");
+    let at = At::case("flatten");
     assert_holds(rt, has_segments(&found, &SEGMENTS), at);
     assert_bytes(rt, found.into_buffer(), &FLATTEN, at);
 }

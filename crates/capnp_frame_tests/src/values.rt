@@ -1,4 +1,4 @@
-//! Calls that no row needs, each on its happy path.
+//! Calls that no case needs, each on its happy path.
 use crate::assertions::{At, assert_bytes, assert_count, assert_fails};
 use crate::retried;
 use crate::sources::Trickle;
@@ -37,7 +37,7 @@ fn a_slice_is_read(rt: HostRuntime) -> Result<()> {
         &rt,
         cut,
         ErrorKind::FailedToFillTheWholeBuffer,
-        At::row("seven bytes of a word"),
+        At::case("seven bytes of a word"),
     );
     Ok(())
 }
@@ -58,7 +58,7 @@ fn first_word<R: Read>(source: &mut R) -> Result<[u8; 8]> {
 }
 
 fn read_bytes<R: Read>(rt: &impl Abort, source: &mut R) -> Result<()> {
-    let at = At::row("eleven bytes");
+    let at = At::case("eleven bytes");
     let mut part = [0; 3];
     assert_count(rt, source.read(&mut part)?, 3, at);
     assert_bytes(rt, &part, &BYTES[..3], at);

@@ -77,29 +77,29 @@ const PROVIDED: [Provided; 2] = [
 // A chunk that fits moves the slice on, and one that doesn't leaves all as it was.
 #[test]
 fn chunks_into_a_provided_slice(rt: HostRuntime) -> Result<()> {
-    for row in &PROVIDED {
-        write_into(&rt, row)?;
+    for case in &PROVIDED {
+        write_into(&rt, case)?;
     }
     Ok(())
 }
 
-fn write_into(rt: &impl Abort, row: &Provided) -> Result<()> {
-    let at = At::row(row.name);
+fn write_into(rt: &impl Abort, case: &Provided) -> Result<()> {
+    let at = At::case(case.name);
     let mut space = [9; 5];
-    let mut left: &mut [u8] = &mut space[..row.room.min(5)];
-    for (chunk, room) in row.chunks {
+    let mut left: &mut [u8] = &mut space[..case.room.min(5)];
+    for (chunk, room) in case.chunks {
         left.write_all(*chunk)?;
         assert_count(rt, left.len(), *room, at);
     }
     let length = left.len();
     assert_fails(
         rt,
-        left.write_all(row.failed),
+        left.write_all(case.failed),
         ErrorKind::BufferNotLargeEnough,
         at,
     );
     assert_count(rt, left.len(), length, at);
-    assert_bytes(rt, &space, &row.space, at);
+    assert_bytes(rt, &space, &case.space, at);
     Ok(())
 }
 

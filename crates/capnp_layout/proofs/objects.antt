@@ -3,7 +3,7 @@ pub mod ObjectLemmas
 pub mod CycleLemmas
 pub mod ElementLemmas
 pub mod FieldLemmas
-pub mod RowLemmas
+pub mod StructElementLemmas
 pub mod NumberLemmas
 pub mod OwnLemmas
 pub mod PaddingLemmas

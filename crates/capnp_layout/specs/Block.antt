@@ -15,10 +15,10 @@ numbers_of words = map (λ word. number_of 256 (bytes_of word)) words
 abbrev pub put : ℕ → List ℕ → List ℕ → List ℕ
 put at words block = take at block ++ (words ++ drop (at + length words) block)
 
--- the data of rows, each in front of its p pointers
-abbrev pub put_rows : ℕ → ℕ → List (List ℕ) → List ℕ → List ℕ
-put_rows at p [] block = block
-put_rows at p (row ∷ rows) block = put_rows (at + length row + p) p rows (put at row block)
+-- the data sections of structs, each in front of its p pointers
+abbrev pub put_data_sections : ℕ → ℕ → List (List ℕ) → List ℕ → List ℕ
+put_data_sections at p [] block = block
+put_data_sections at p (element ∷ elements) block = put_data_sections (at + length element + p) p elements (put at element block)
 
 -- pointers in their slots, and what they lead to one after the other from a word on
 abbrev pub fill : List ℕ → ℕ → Trees → List ℕ → List ℕ

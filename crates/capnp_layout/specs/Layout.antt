@@ -35,7 +35,7 @@ pointer null n offset = 0
 pointer (struct words) n offset = struct_pointer (if length words + n == 0 then minus_one else offset) (length words) n
 pointer (numbers code values) n offset = list_pointer offset code (length values)
 pointer pointers n offset = list_pointer offset 6 n
-pointer (structs d p rows) n offset = list_pointer offset 7 (length rows * (d + p))
+pointer (structs d p elements) n offset = list_pointer offset 7 (length elements * (d + p))
 
 -- n pointers from a word of the object on
 abbrev pub run : ℕ → ℕ → List ℕ
@@ -43,13 +43,13 @@ run start zero = []
 run start (suc n) = start ∷ run (start + 1) n
 
 -- where an object has its n pointers
-abbrev pub row_run : ℕ → ℕ → ℕ → List (List ℕ) → List ℕ
-row_run start d p [] = []
-row_run start d p (row ∷ rows) = run (start + d) p ++ row_run (start + d + p) d p rows
+abbrev pub element_runs : ℕ → ℕ → ℕ → List (List ℕ) → List ℕ
+element_runs start d p [] = []
+element_runs start d p (element ∷ elements) = run (start + d) p ++ element_runs (start + d + p) d p elements
 
 abbrev pub slots : Form → ℕ → List ℕ
 slots (struct words) n = run (length words) n
-slots (structs d p rows) n = row_run 1 d p rows
+slots (structs d p elements) n = element_runs 1 d p elements
 slots form n = run 0 n
 
 -- the pointer words in these slots, where the first of the objects begins at `next`
@@ -59,10 +59,10 @@ pointers_to [] next (tree form children rest) = []
 pointers_to (slot ∷ slots) next (tree form children rest) =
     pointer form (count children) (next - (slot + 1)) ∷ pointers_to slots (next + object_size form (count children) + total_words children) rest
 
--- rows of data, each with its p pointers after it
+-- data sections, each with its p pointers after it
 abbrev pub woven : ℕ → List (List ℕ) → List ℕ → List ℕ
 woven p [] links = []
-woven p (row ∷ rows) links = row ++ take p links ++ woven p rows (drop p links)
+woven p (element ∷ elements) links = element ++ take p links ++ woven p elements (drop p links)
 
 -- an object's own words, with its pointer words
 abbrev pub own : Form → List ℕ → List ℕ
@@ -70,7 +70,7 @@ own null links = []
 own (struct words) links = words ++ links
 own (numbers code values) links = digits (2 ^ 64) (words_for (length values) (width code)) (number_of (2 ^ width code) values)
 own pointers links = links
-own (structs d p rows) links = struct_pointer (length rows) d p ∷ woven p rows links
+own (structs d p elements) links = struct_pointer (length elements) d p ∷ woven p elements links
 
 -- trees in preorder: the words of each, then those of the trees below it
 abbrev pub body : Trees → List ℕ
@@ -102,9 +102,9 @@ HasRoom null n = n ≡ 0
 HasRoom (struct words) n = (length words < 2 ^ 16) × (n < 2 ^ 16) × All (λ w. w < 2 ^ 64) words
 HasRoom (numbers code values) n = (code < 6) × (length values < 2 ^ 29) × (n ≡ 0) × All (λ v. v < 2 ^ width code) values
 HasRoom pointers n = n < 2 ^ 29
-HasRoom (structs d p rows) n =
-    (d < 2 ^ 16) × (p < 2 ^ 16) × (length rows < 2 ^ 30) × (length rows * (d + p) < 2 ^ 29) × (n ≡ length rows * p)
-    × All (λ row. (length row ≡ d) × All (λ w. w < 2 ^ 64) row) rows
+HasRoom (structs d p elements) n =
+    (d < 2 ^ 16) × (p < 2 ^ 16) × (length elements < 2 ^ 30) × (length elements * (d + p) < 2 ^ 29) × (n ≡ length elements * p)
+    × All (λ element. (length element ≡ d) × All (λ w. w < 2 ^ 64) element) elements
 
 abbrev pub AllHaveRoom : Trees → Type 0
 AllHaveRoom none = ⊤

@@ -12,7 +12,7 @@ pub mod Traversed
 pub mod PointerErrors
 pub mod Layout
 pub mod Block
-pub mod Rows
+pub mod PointerSections
 pub mod Output
 pub mod Limits
 pub mod Prelude

@@ -68,13 +68,13 @@ pub record Shape : Type 0 where
   pub traversed : ℕ
 
 -- the data of n consecutive structs from a word on, and the places of their pointers
-abbrev pub rows_from : List ℕ → ℕ → ℕ → ℕ → ℕ → List (List ℕ)
-rows_from words start d p zero = []
-rows_from words start d p (suc n) = words_from words start d ∷ rows_from words (start + d + p) d p n
+abbrev pub elements_from : List ℕ → ℕ → ℕ → ℕ → ℕ → List (List ℕ)
+elements_from words start d p zero = []
+elements_from words start d p (suc n) = words_from words start d ∷ elements_from words (start + d + p) d p n
 
-abbrev pub row_places : ℕ → ℕ → ℕ → ℕ → ℕ → List Place
-row_places segment start d p zero = []
-row_places segment start d p (suc n) = places segment (start + d) p ++ row_places segment (start + d + p) d p n
+abbrev pub pointer_places : ℕ → ℕ → ℕ → ℕ → ℕ → List Place
+pointer_places segment start d p zero = []
+pointer_places segment start d p (suc n) = places segment (start + d) p ++ pointer_places segment (start + d + p) d p n
 
 abbrev pub struct_shape : List ℕ → Place → ℕ → ℕ → Shape
 struct_shape words start d p =
@@ -97,23 +97,23 @@ pointers_shape start n = record { form = pointers; children = places start.segme
 -- n structs of d and p words each after their tag, in some words
 abbrev pub structs_shape : List ℕ → Place → ℕ → ℕ → ℕ → ℕ → Shape
 structs_shape words start d p n size = record {
-  form = structs d p (rows_from words (start.word + 1) d p n);
-  children = row_places start.segment (start.word + 1) d p n;
+  form = structs d p (elements_from words (start.word + 1) d p n);
+  children = pointer_places start.segment (start.word + 1) d p n;
   traversed = 1 + size + (if d + p == 0 then n else 0);
 }
 
 -- the object at a place among the words of its segment, by its pointer
-pub data ShapeStands (words : List ℕ) (start : Place) (pointer : ℕ) : Shape → Type 0 where
+pub data ShapeIsAt (words : List ℕ) (start : Place) (pointer : ℕ) : Shape → Type 0 where
   a_struct : pointer_kind pointer ≡ 0 → start.word + data_words pointer + pointer_words pointer ≤ length words
-      → ShapeStands words start pointer (struct_shape words start (data_words pointer) (pointer_words pointer))
+      → ShapeIsAt words start pointer (struct_shape words start (data_words pointer) (pointer_words pointer))
   some_numbers : pointer_kind pointer ≡ 1 → code pointer < 6 → start.word + words_for (list_count pointer) (width (code pointer)) ≤ length words
-      → ShapeStands words start pointer (numbers_shape words start (code pointer) (list_count pointer))
+      → ShapeIsAt words start pointer (numbers_shape words start (code pointer) (list_count pointer))
   some_pointers : pointer_kind pointer ≡ 1 → code pointer ≡ 6 → start.word + list_count pointer ≤ length words
-      → ShapeStands words start pointer (pointers_shape start (list_count pointer))
+      → ShapeIsAt words start pointer (pointers_shape start (list_count pointer))
   some_structs : {tag : ℕ} → pointer_kind pointer ≡ 1 → code pointer ≡ 7 → start.word + 1 + list_count pointer ≤ length words
       → slice_get words start.word ≡ Some tag → pointer_kind tag ≡ 0
       → offset tag * (data_words tag + pointer_words tag) ≤ list_count pointer
-      → ShapeStands words start pointer (structs_shape words start (data_words tag) (pointer_words tag) (offset tag) (list_count pointer))
+      → ShapeIsAt words start pointer (structs_shape words start (data_words tag) (pointer_words tag) (offset tag) (list_count pointer))
 
 -- a null pointer
 abbrev pub nothing : Shape
@@ -124,5 +124,5 @@ pub data PointsTo (m : List (List ℕ)) (place : Place) : Shape → Type 0 where
   is_null : word_at m place ≡ Some 0 → PointsTo m place nothing
   is_object : {landing : Target} {words : List ℕ} {start : ℕ} {shape : Shape} → Lands m place landing
       → slice_get m landing.segment ≡ Some words → IsStart landing.origin landing.tag start
-      → ShapeStands words (record { segment = landing.segment; word = start }) landing.tag shape
+      → ShapeIsAt words (record { segment = landing.segment; word = start }) landing.tag shape
       → PointsTo m place (record { form = shape.form; children = shape.children; traversed = landing.landing_pads + shape.traversed })

@@ -38,7 +38,7 @@ list_length (Numbers size n) = n
 list_length (Pointers n) = n
 list_length (Structs elements following) = elements.count * (elements.size.data_words + elements.size.pointers)
 
--- the same kind of object, whose rows have no more words
+-- the same kind of object, whose sections have no more words
 abbrev pub IsNarrower : Body → Body → Type 0
 IsNarrower (Struct from) (Struct size) = (size.data_words ≤ from.data_words) × (size.pointers ≤ from.pointers)
 IsNarrower (Structs from following) (Structs elements words) =

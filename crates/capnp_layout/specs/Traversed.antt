@@ -21,6 +21,6 @@ IsPastLimit limit traversed = (most : ℕ) × (limit ≡ Some most) × (most < t
 -- the trees have this many words
 pub record TreesAt (m : List (List ℕ)) (at : List Place) (nesting traversed words : ℕ) : Type 0 where
   pub trees : Trees
-  pub stand : At m at trees traversed
+  pub are_at : At m at trees traversed
   pub shallow : depth trees ≤ nesting
   pub words_are : total_words trees ≡ words

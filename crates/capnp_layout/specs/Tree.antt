@@ -39,7 +39,7 @@ object_size null n = 0
 object_size (struct words) n = length words + n
 object_size (numbers code values) n = words_for (length values) (width code)
 object_size pointers n = n
-object_size (structs d p rows) n = 1 + length rows * (d + p)
+object_size (structs d p elements) n = 1 + length elements * (d + p)
 
 -- the words of trees, without landing pads
 abbrev pub total_words : Trees → ℕ

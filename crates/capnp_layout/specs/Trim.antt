@@ -39,26 +39,26 @@ cut_nulls (tree form children rest) = keep_tree (cut_nulls rest) form children
 -- the most words of data, and the most pointers, that an element of a list of structs needs
 abbrev pub least_data : List (List ℕ) → ℕ
 least_data [] = 0
-least_data (row ∷ rows) = max (length (cut_zeros row)) (least_data rows)
+least_data (element ∷ elements) = max (length (cut_zeros element)) (least_data elements)
 
 abbrev pub least_pointers : ℕ → List (List ℕ) → Trees → ℕ
 least_pointers p [] children = 0
-least_pointers p (row ∷ rows) children = max (count (cut_nulls (first p children))) (least_pointers p rows (following p children))
+least_pointers p (element ∷ elements) children = max (count (cut_nulls (first p children))) (least_pointers p elements (following p children))
 
 -- the first n of each p pointers
 abbrev pub narrowed : ℕ → ℕ → List (List ℕ) → Trees → Trees
 narrowed n p [] children = none
-narrowed n p (row ∷ rows) children = before (first n (first p children)) (narrowed n p rows (following p children))
+narrowed n p (element ∷ elements) children = before (first n (first p children)) (narrowed n p elements (following p children))
 
 -- what is left of a form, and of the trees below it, where the latter are trimmed already
 abbrev pub trim_form : Form → Trees → Form
 trim_form (struct words) children = struct (cut_zeros words)
-trim_form (structs d p rows) children = let n = least_data rows in structs n (least_pointers p rows children) (map (take n) rows)
+trim_form (structs d p elements) children = let n = least_data elements in structs n (least_pointers p elements children) (map (take n) elements)
 trim_form form children = form
 
 abbrev pub trim_children : Form → Trees → Trees
 trim_children (struct words) children = cut_nulls children
-trim_children (structs d p rows) children = narrowed (least_pointers p rows children) p rows children
+trim_children (structs d p elements) children = narrowed (least_pointers p elements children) p elements children
 trim_children form children = children
 
 -- trees trimmed at every depth

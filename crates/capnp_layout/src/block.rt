@@ -170,28 +170,28 @@ pub fn used(segment: &[u8], start: usize, count: usize) -> usize
     0
 }
 
-/// The most words that one of some rows needs without the zeros at its end. The first row begins at
+/// The most words that one of some parts needs without the zeros at its end. The first part begins at
 /// the word `start`, each other one `step` words after the one before it, and `count` words of each
 /// are looked at.
-pub fn most_used(segment: &[u8], start: usize, count: usize, step: usize, rows: u32) -> usize
-    requires there { start + rows * step ≤ length segment.now / 8 + (step - count) }
+pub fn most_used(segment: &[u8], start: usize, count: usize, step: usize, parts: u32) -> usize
+    requires there { start + parts * step ≤ length segment.now / 8 + (step - count) }
     requires inside { count ≤ step }
     requires small { step < 2 ^ 32 }
-    ensures value { result ≡ most_used (words_of segment.now) start count step rows }
+    ensures value { result ≡ most_used (words_of segment.now) start count step parts }
     ensures bound { result ≤ count }
 {
     if count == 0 {
         return 0;
     }
     let mut most = 0;
-    let mut row = start;
-    'rows: for _row in 0..rows {
-        // Speed: no row can need more words, so the others aren't read (`tools/time-building`).
+    let mut part = start;
+    'parts: for _part in 0..parts {
+        // Speed: no part can need more words, so the others aren't read (`tools/time-building`).
         if most == count {
             return count;
         }
-        most = larger(most, used(segment, row, count));
-        row += step;
+        most = larger(most, used(segment, part, count));
+        part += step;
     }
     most
 }

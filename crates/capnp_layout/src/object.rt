@@ -3,12 +3,12 @@ ghost use Rattle.std.specs.Prelude.{◌≡◌, ◌↔◌, ◌+◌, ◌/◌, ◌^
 ghost use Rattle.capnp_frame.specs.declared.error.ErrorKind.{ErrorKind};
 ghost use Rattle.capnp_layout.specs.Pointer.{words_of};
 ghost use Rattle.capnp_layout.specs.PointerWord.{IsLocalShape};
-ghost use Rattle.capnp_layout.specs.Object.{message_of, word_at, elements, ShapeStands};
+ghost use Rattle.capnp_layout.specs.Object.{message_of, word_at, elements, ShapeIsAt};
 ghost use Rattle.capnp_layout.specs.Tree.{numbers, Trees, depth};
 ghost use Rattle.capnp_layout.specs.Reached.{At};
 ghost use Rattle.capnp_layout.specs.Body.{IsObject, shape_of, room_of, words_in, traversed_of};
 ghost use Rattle.capnp_layout.specs.PointerErrors.{SizeError, PointerError};
-ghost use Rattle.capnp_layout.specs.Rows.{segment_of, places_in, end_of};
+ghost use Rattle.capnp_layout.specs.PointerSections.{segment_of, places_in, end_of};
 ghost use Rattle.capnp_layout.specs.declared.place.Place.{Place};
 ghost use Rattle.capnp_layout.specs.declared.pointer.Elements.{Elements};
 ghost use Rattle.capnp_layout.specs.declared.pointer.StructSize.{StructSize};
@@ -137,7 +137,7 @@ pub fn body_at(segment: &[u8], start: usize, shape: LocalShape) -> Result<Body>
     ensures found { let words = words_of segment.now in
         IfOk result (λ body. (tag number : ℕ) → IsLocalShape tag shape →
         let place : Place = record { segment = number; word = start } in
-        ShapeStands words place tag (shape_of words place body)) }
+        ShapeIsAt words place tag (shape_of words place body)) }
     ensures room { IfOk result (λ body. start + room_of body ≤ length segment.now / 8) }
     ensures elements { IfOk result (λ body. words_in body ≤ room_of body) }
     ensures errors { IfErr result (λ error. (tag : ℕ) → IsLocalShape tag shape →
@@ -165,7 +165,7 @@ fn structs(segment: &[u8], start: usize, words: u32) -> Result<Body>
     ensures found { let words_there = words_of segment.now in
         IfOk result (λ body. (tag number : ℕ) → IsLocalShape tag (LocalShape.Structs words) →
         let place : Place = record { segment = number; word = start } in
-        ShapeStands words_there place tag (shape_of words_there place body)) }
+        ShapeIsAt words_there place tag (shape_of words_there place body)) }
     ensures room { IfOk result (λ body. start + room_of body ≤ length segment.now / 8) }
     ensures elements { IfOk result (λ body. words_in body ≤ room_of body) }
     ensures errors { IfErr result (λ error. (tag : ℕ) → IsLocalShape tag (LocalShape.Structs words) →
@@ -216,7 +216,7 @@ impl<'a> Object<'a> {
         ensures end { end_of result ≤ self.now.start.word + words_in self.now.body }
         ensures segment { segment_of result ≡ self.now.start.segment }
     {
-        PointerSlots::of(self.start, self.body, self.body.row_size().pointers)
+        PointerSlots::of(self.start, self.body, self.body.section_sizes().pointers)
     }
 }
 

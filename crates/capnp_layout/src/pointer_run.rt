@@ -16,7 +16,7 @@ pub struct PointerRun<'a> {
 
 impl<'a> PointerRun<'a> {
     ghost use Rattle.capnp_layout.specs.Object.{places};
-    ghost use Rattle.capnp_layout.specs.Rows.{places_in, segment_of};
+    ghost use Rattle.capnp_layout.specs.PointerSections.{places_in, segment_of};
     ghost use Rattle.capnp_layout.specs.Local.{pointers_of};
 
     /// The list as an object.

@@ -1,46 +1,46 @@
-//! The pointers of an object, in rows. A row is a struct, or an element of a composite list: each
-//! has the same number of pointers, after its data words. A list of pointers is one row.
+//! The pointers of an object, section by section. A struct, and each element of a list of structs, has
+//! a pointer section after its data section. A list of pointers is one pointer section.
 ghost use Rattle.std.specs.Prelude.{◌≡◌, ◌≢◌, ◌↔◌, ◌+◌, ◌*◌, ◌^◌, ◌<◌, ◌≤◌, [], IsTrue};
 
 use crate::object::Body;
 use crate::place::Place;
 use crate::pointer::StructSize;
 
-/// How many data words and how many pointers each row of an object has.
+/// How many words the data section, and the pointer section, of a struct or of each element has.
 #[derive(Clone, Copy)]
-pub struct RowSize {
+pub struct SectionSizes {
     pub data_words: u16,
     pub pointers: u32,
 }
 
-/// The pointers that a walk over an object has not come to yet. Where rows have no pointers,
-/// nothing is left, however many rows there are.
+/// The pointers that a walk over an object has not come to yet. Where sections have no pointers,
+/// nothing is left, however many sections there are.
 #[derive(Drop)]
 pub struct PointerSlots {
     /// The place of the next pointer.
     next: Place,
-    /// How many pointers of this row are left.
+    /// How many pointers of this section are left.
     here: u32,
-    /// How many words are between the last pointer of a row and the first one of the next.
+    /// How many words are between the last pointer of a section and the first one of the next.
     gap: usize,
-    /// How many pointers each further row has.
+    /// How many pointers each further section has.
     pointers: u32,
-    /// How many further rows there are.
+    /// How many further sections there are.
     more: u32,
     ghost some: { 0 < more → 0 < pointers },
     ghost bound: { next.word + here + more * (gap + pointers) < 2 ^ 62 },
 }
 
 impl StructSize {
-    ghost use Rattle.capnp_layout.specs.Rows.{row_size};
+    ghost use Rattle.capnp_layout.specs.PointerSections.{section_sizes};
     ghost use Rattle.capnp_layout.specs.declared.object.Body.{Body};
 
-    /// The size of a struct's only row.
+    /// The sizes of the struct's sections.
     #[inline(always)]
-    pub fn row_size(self) -> RowSize
-        ensures { result ≡ row_size (Body.Struct self) }
+    pub fn section_sizes(self) -> SectionSizes
+        ensures { result ≡ section_sizes (Body.Struct self) }
     {
-        RowSize {
+        SectionSizes {
             data_words: self.data_words,
             pointers: self.pointers as u32,
         }
@@ -48,31 +48,31 @@ impl StructSize {
 }
 
 impl Body {
-    ghost use Rattle.capnp_layout.specs.Rows.{row_size, row_count, first_row};
+    ghost use Rattle.capnp_layout.specs.PointerSections.{section_sizes, section_count, first_section};
 
-    /// The size of each of its rows.
+    /// The sizes of its sections: of each element's, for a list of structs.
     #[inline(always)]
-    pub fn row_size(self) -> RowSize
-        ensures { result ≡ row_size self }
+    pub fn section_sizes(self) -> SectionSizes
+        ensures { result ≡ section_sizes self }
     {
         match self {
-            Body::Struct(size) => size.row_size(),
-            Body::Numbers(_, _) => RowSize {
+            Body::Struct(size) => size.section_sizes(),
+            Body::Numbers(_, _) => SectionSizes {
                 data_words: 0,
                 pointers: 0,
             },
-            Body::Pointers(count) => RowSize {
+            Body::Pointers(count) => SectionSizes {
                 data_words: 0,
                 pointers: count,
             },
-            Body::Structs(elements, _) => elements.size.row_size(),
+            Body::Structs(elements, _) => elements.size.section_sizes(),
         }
     }
 
-    // The number of its rows.
+    // The number of its pointer sections.
     #[inline(always)]
-    fn row_count(self) -> u32
-        ensures { result ≡ row_count self }
+    fn section_count(self) -> u32
+        ensures { result ≡ section_count self }
     {
         match self {
             Body::Numbers(_, _) => 0,
@@ -82,11 +82,11 @@ impl Body {
         }
     }
 
-    // The word at which its first row begins, where the object begins at a word.
+    // The word at which its first section begins, where the object begins at a word.
     #[inline(always)]
-    fn first_row(self, start: usize) -> usize
+    fn first_section(self, start: usize) -> usize
         requires { start < 2 ^ 62 }
-        ensures { result ≡ first_row self start }
+        ensures { result ≡ first_section self start }
     {
         match self {
             Body::Structs(_, _) => start + 1,
@@ -101,39 +101,39 @@ impl PointerSlots {
     ghost use Rattle.capnp_layout.specs.Body.{words_in};
     ghost use Rattle.capnp_layout.specs.Object.{places};
     ghost use Rattle.capnp_layout.specs.Layout.{run};
-    ghost use Rattle.capnp_layout.specs.Rows.{segment_of, row_size, kept_places, row_slots, kept_in, slots_of, places_in, slots_in, end_of, Takes};
+    ghost use Rattle.capnp_layout.specs.PointerSections.{segment_of, section_sizes, kept_places, section_slots, kept_in, slots_of, places_in, slots_in, end_of, Takes};
 
-    /// The first `kept` pointers in each row of an object that begins at a place.
+    /// The first `kept` pointers in each pointer section of an object that begins at a place.
     #[inline(always)]
     pub fn of(start: Place, body: Body, kept: u32) -> PointerSlots
-        requires kept { kept ≤ (row_size body).pointers }
+        requires kept { kept ≤ (section_sizes body).pointers }
         requires bound { start.word + words_in body < 2 ^ 61 }
         ensures places { places_in result ≡ kept_in start body kept }
-        ensures slots { kept ≡ (row_size body).pointers →
+        ensures slots { kept ≡ (section_sizes body).pointers →
             slots_in result ≡ slots_of start.word body }
         ensures end { end_of result ≤ start.word + words_in body }
         ensures segment { segment_of result ≡ start.segment }
     {
         let first = Place {
             segment: start.segment,
-            word: body.first_row(start.word),
+            word: body.first_section(start.word),
         };
-        PointerSlots::new(first, body.row_size(), kept, body.row_count())
+        PointerSlots::new(first, body.section_sizes(), kept, body.section_count())
     }
 
-    /// The first `kept` pointers in each of some rows, which begin at a place.
+    /// The first `kept` pointers of each of some consecutive structs, which begin at a place.
     #[inline(always)]
-    pub fn new(first: Place, size: RowSize, kept: u32, rows: u32) -> PointerSlots
+    pub fn new(first: Place, size: SectionSizes, kept: u32, count: u32) -> PointerSlots
         requires kept { kept ≤ size.pointers }
-        requires bound { first.word + rows * (size.data_words + size.pointers) < 2 ^ 61 }
+        requires bound { first.word + count * (size.data_words + size.pointers) < 2 ^ 61 }
         ensures places { places_in result
-            ≡ kept_places first.segment first.word size.data_words size.pointers kept rows }
+            ≡ kept_places first.segment first.word size.data_words size.pointers kept count }
         ensures slots { kept ≡ size.pointers →
-            slots_in result ≡ row_slots first.word size.data_words size.pointers rows }
-        ensures end { end_of result ≤ first.word + rows * (size.data_words + size.pointers) }
+            slots_in result ≡ section_slots first.word size.data_words size.pointers count }
+        ensures end { end_of result ≤ first.word + count * (size.data_words + size.pointers) }
         ensures segment { segment_of result ≡ first.segment }
     {
-        if kept == 0 || rows == 0 {
+        if kept == 0 || count == 0 {
             return PointerSlots {
                 next: first,
                 here: 0,
@@ -151,7 +151,7 @@ impl PointerSlots {
             here: kept,
             gap: data_words + (size.pointers - kept) as usize,
             pointers: kept,
-            more: rows - 1,
+            more: count - 1,
         }
     }
 
@@ -191,13 +191,13 @@ impl PointerSlots {
         ensures same_segment { segment_of self.new ≡ segment_of self.old }
     {
         if self.here == 0 {
-            self.open_row();
+            self.open_section();
         }
         self.take_here()
     }
 
-    // Goes on to the next row.
-    fn open_row(&mut self)
+    // Goes on to the next section.
+    fn open_section(&mut self)
         requires done { self.old.here ≡ 0 }
         requires more { 0 < self.old.more }
         ensures some { 0 < self.new.here }
@@ -211,7 +211,7 @@ impl PointerSlots {
         self.more -= 1;
     }
 
-    // Takes the next pointer of this row.
+    // Takes the next pointer of this section.
     #[inline(always)]
     fn take_here(&mut self) -> Place
         requires { 0 < self.old.here }

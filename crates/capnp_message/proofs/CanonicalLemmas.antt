@@ -41,7 +41,7 @@ form_found p (Err e) P (inr full) has = full
 pub tree_found : {limit : Option ℕ} (m : List (List ℕ)) (nesting : ℕ) (r : Result Bool Error) → IfErr r (λ error. WalkError m (root ∷ []) nesting limit error.kind)
     → (trees : Trees) → TreeAt m root nesting limit trees → IsOk r
 tree_found m nesting (Ok x) walk_error trees t = refl
-tree_found {limit} m nesting (Err e) walk_error trees t = absurd (walk_error_has_no_trees m (root ∷ []) nesting t.traversed limit e.kind trees walk_error t.stand t.shallow t.within)
+tree_found {limit} m nesting (Err e) walk_error trees t = absurd (walk_error_has_no_trees m (root ∷ []) nesting t.traversed limit e.kind trees walk_error t.are_at t.shallow t.within)
 
 -- where there is no word for the root, there is no form
 pub no_form : {S T : Type 0} (segments : S → List (List ℕ)) (inside message : ReadMessage S) (words : T → List ℕ) {error : Error} (r : Result T Error) → inside ≡ message

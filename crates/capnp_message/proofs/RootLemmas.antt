@@ -18,15 +18,15 @@ no_word_once m place own kind p q = one_error m place 0 own kind (no_word p) (no
 
 -- and that is the error of the pointer there
 pub invalid_pointer_once : (m : List (List ℕ)) (own kind : ErrorKind) {nesting : ℕ} → NoWord m root own → (place : Place) × (Some root ≡ Some place) × PointerError m place nesting kind → own ≡ kind
-invalid_pointer_once m own kind {nesting} none (place, stands, invalid) =
+invalid_pointer_once m own kind {nesting} none (place, is_at, invalid) =
     let same : root ≡ place = cc in
     one_error m root nesting own kind (no_word none) (subst (λ (p : Place). PointerError m p nesting kind) (sym same) invalid)
 
 -- where the word is there, there is no error
 pub word_apart : (m : List (List ℕ)) (word : ℕ) (kind : ErrorKind) → word_at m root ≡ Some word → NoWord m root kind → ⊥
-word_apart m word kind stands errors =
+word_apart m word kind is_at errors =
     let none : word_at m root ≡ None = no_word_there m root kind errors in
-    let both : Some word ≡ None = sym stands ∙ none in
+    let both : Some word ≡ None = sym is_at ∙ none in
     cc
 
 no_limit : (m : List (List ℕ)) (kind : ErrorKind) → NoWord m root kind → kind ≢ ReadLimitExceeded
@@ -45,7 +45,7 @@ root_nowhere {S} segments inside message shows accepts fails form_error {error} 
     subst (λ (x : Error). NoWord m root x.kind) (sym is) (subst (λ (x : ReadMessage S). NoWord (root_of segments x).message root error.kind) same none) in
     record {
       returned = inl own;
-      stands = tt;
+      has_root = tt;
       found = λ unlimited has accepted. absurd (word_apart m has.0 e.kind has.1 own);
       unlimited = λ unlimited. no_limit m e.kind own;
       exact = λ kind invalid_pointer none. invalid_pointer_once m e.kind kind own invalid_pointer;
@@ -58,20 +58,20 @@ read_root : {V : Type 0} (pointer : Pointer) (shows : V → Type 0) (accepts : T
     → IsViewOf pointer shows accepts fails form_error r → ReadsRoot pointer shows accepts fails form_error r
 read_root pointer shows accepts fails form_error (Ok view) has told = record {
   returned = told.returned;
-  stands = has;
-  found = λ unlimited stands accepted. told.found unlimited accepted;
+  has_root = has;
+  found = λ unlimited is_at accepted. told.found unlimited accepted;
   unlimited = told.unlimited;
   exact = told.exact;
-  form_errors = λ kind stands is. told.form_errors kind is;
+  form_errors = λ kind is_at is. told.form_errors kind is;
   nowhere = λ kind nowhere. absurd (word_apart pointer.message has.0 kind has.1 nowhere);
 }
 read_root pointer shows accepts fails form_error (Err error) has told = record {
   returned = inr told.returned;
-  stands = tt;
-  found = λ unlimited stands accepted. told.found unlimited accepted;
+  has_root = tt;
+  found = λ unlimited is_at accepted. told.found unlimited accepted;
   unlimited = told.unlimited;
   exact = told.exact;
-  form_errors = λ kind stands is. told.form_errors kind is;
+  form_errors = λ kind is_at is. told.form_errors kind is;
   nowhere = λ kind nowhere. absurd (word_apart pointer.message has.0 kind has.1 nowhere);
 }
 

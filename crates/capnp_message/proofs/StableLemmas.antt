@@ -21,7 +21,7 @@ kept_shallow nesting none null children p q = omega arith
 kept_shallow nesting none (struct words) children p q = omega arith
 kept_shallow nesting none (numbers code values) children p q = omega arith
 kept_shallow nesting none pointers children p q = omega arith
-kept_shallow nesting none (structs d n rows) children p q = omega arith
+kept_shallow nesting none (structs d n elements) children p q = omega arith
 
 cut_shallow : (nesting : ℕ) (t : Trees) → depth t ≤ nesting → depth (cut_nulls t) ≤ nesting
 cut_shallow nesting none p = omega arith
@@ -32,7 +32,7 @@ children_shallow nesting null children p = p
 children_shallow nesting (struct words) children p = cut_shallow nesting children p
 children_shallow nesting (numbers code values) children p = p
 children_shallow nesting pointers children p = p
-children_shallow nesting (structs d n rows) children p = shallow_narrowed nesting (least_pointers n rows children) n rows children p
+children_shallow nesting (structs d n elements) children p = shallow_narrowed nesting (least_pointers n elements children) n elements children p
 
 one_shallow : (form : Form) (a b c d : Trees) → is_null (trim_form form c) ≡ is_null form → depth b ≤ depth a
     → (if is_null (trim_form form c) then 0 else depth b + 1) ≤ (if is_null form then 0 else depth a + 1)
@@ -40,7 +40,7 @@ one_shallow null a b c d same p = omega arith
 one_shallow (struct words) a b c d same p = omega arith
 one_shallow (numbers code values) a b c d same p = omega arith
 one_shallow pointers a b c d same p = omega arith
-one_shallow (structs n q rows) a b c d same p = omega arith
+one_shallow (structs n q elements) a b c d same p = omega arith
 
 pub trim_shallow : (t : Trees) → depth (trim t) ≤ depth t
 trim_shallow none = omega arith
@@ -76,14 +76,14 @@ own_form p q words a message there unlimited deep =
     let twice : trim (trim (tree x.0 x.1 none)) ≡ trim (tree x.0 x.1 none) = trim_twice (tree x.0 x.1 none) rooms in
     let shown : q.message ≡ canon (tree x.0 x.1 none) ∷ [] = message ∙ ap (λ (l : List ℕ). l ∷ []) is in
     let depths : depth (tree x.0 x.1 none) ≤ p.nesting = subst (λ (t : Trees). depth t ≤ p.nesting) x.2 (depth_at p.place p.message p.nesting p.limit a.trees a.tree_is) in
-    let stands : At q.message (root ∷ []) (trim (tree x.0 x.1 none)) there_is.0 =
+    let is_at : At q.message (root ∷ []) (trim (tree x.0 x.1 none)) there_is.0 =
     subst (λ (m : List (List ℕ)). At m (root ∷ []) (trim (tree x.0 x.1 none)) there_is.0) (sym shown) there_is.1 in
     record {
       trees = trim (tree x.0 x.1 none);
       tree_is =
           leads_at q root (trim (tree x.0 x.1 none)) there (record {
             traversed = there_is.0;
-            stand = stands;
+            are_at = is_at;
             shallow = omega (arith, trim_shallow (tree x.0 x.1 none));
             within = no_limit q.limit there_is.0 unlimited;
           });

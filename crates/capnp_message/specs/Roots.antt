@@ -14,7 +14,7 @@ use Rattle.capnp_message.specs.Seen.{ReadMessage, HasRoot}
 pub record ReadsRoot {V : Type 0} (pointer : Pointer) (shows : V → Type 0) (accepts : Type 0)
     (fails form_error : ErrorKind → Type 0) (result : Result V Error) : Type 0 where
   pub returned : MatchResult result shows (λ error. NoWord pointer.message root error.kind ⊎ fails error.kind)
-  pub stands : OnOk result (HasRoot pointer)
+  pub has_root : OnOk result (HasRoot pointer)
   -- without a limit there is a view of what it accepts, and no error of the limit
   pub found : pointer.limit ≡ None → HasRoot pointer → accepts → IsOk result
   pub unlimited : pointer.limit ≡ None → IfErr result (λ error. error.kind ≢ ReadLimitExceeded)

@@ -1,4 +1,4 @@
-//! What these tests share: what views and walks say of roots, and what is expected at a row.
+//! What these tests share: what views and walks say of roots, and what is expected at a case.
 pub use crate::arenas::{
     Arena, Numbered, Walked, arena_of, kind_of, plain_arena, root_as, text_at,
 };
@@ -23,14 +23,14 @@ impl EnumElement for Unnamed {
     }
 }
 
-/// What is found at a row is what is wanted there.
+/// What is found at a case is what is wanted there.
 pub fn expect<R: Debug + Drop, T: PartialEq + Debug + Drop>(
     rt: &impl Abort,
-    row: R,
+    case: R,
     found: T,
     wanted: T,
 ) {
-    assert!(rt; found == wanted, "at {row:?}: {found:?} is not {wanted:?}");
+    assert!(rt; found == wanted, "at {case:?}: {found:?} is not {wanted:?}");
 }
 
 pub fn root_as_text<S: ReaderSegments>(arena: &ReaderArena<S>) -> Result<&[u8]> {

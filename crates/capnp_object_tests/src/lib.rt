@@ -1,4 +1,4 @@
-//! Worked rows over objects that are read: hostile pointers, and the calls of views; and what the
+//! Worked cases over objects that are read: hostile pointers, and the calls of views; and what the
 //! tests of builders share with them. It holds tests by the rules of `capnp_frame_tests`.
 #![tactic(auto)]
 

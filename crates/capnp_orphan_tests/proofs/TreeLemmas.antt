@@ -18,4 +18,4 @@ pub form_of : {T : Type 0} (m : List (List ℕ)) (nesting : ℕ) (limit : Option
 form_of m nesting limit words (Err error) t x is there = tt
 form_of m nesting limit words (Ok form) t x is there =
     let f = is.returned in
-    f.words_are ∙ ap canon (one_tree m (root ∷ []) f.trees t f.tree_is.traversed x f.tree_is.stand there).0
+    f.words_are ∙ ap canon (one_tree m (root ∷ []) f.trees t f.tree_is.traversed x f.tree_is.are_at there).0

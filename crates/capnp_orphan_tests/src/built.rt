@@ -83,8 +83,8 @@ fn texts<S: GrowingSegment>(objects: &mut Orphanage<S>) -> Result<Orphan<any_poi
 fn lists<S: GrowingSegment>(objects: &mut Orphanage<S>) -> Result<Orphan<any_pointer::Owned>> {
     let first = objects.numbers::<u8>(&[7])?;
     let second = objects.numbers::<u8>(&[])?;
-    let rows: [Orphan<primitive_list::Owned<u8>>; 2] = [first, second];
-    Ok(objects.pointer_list(&rows)?.of_type())
+    let elements: [Orphan<primitive_list::Owned<u8>>; 2] = [first, second];
+    Ok(objects.pointer_list(&elements)?.of_type())
 }
 
 fn structs<S: GrowingSegment>(objects: &mut Orphanage<S>) -> Result<Orphan<any_pointer::Owned>> {

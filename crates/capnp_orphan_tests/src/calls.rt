@@ -6,6 +6,6 @@ mod examples;
 mod long_lists;
 mod many_bytes;
 mod read_lists;
-mod rows;
+mod cases;
 mod schema_types;
 mod trees;

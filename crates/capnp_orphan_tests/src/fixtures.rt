@@ -1,4 +1,4 @@
-//! What these tests share: messages of an orphanage, and what is expected at a row.
+//! What these tests share: messages of an orphanage, and what is expected at a case.
 use capnp::any_struct::StructReader;
 use capnp::message::{DEFAULT_READER_OPTIONS, Reader};
 use capnp_frame::Result;
@@ -16,14 +16,14 @@ pub type Fields<'a, 'b> = StructReader<'a, &'b Orphanage>;
 /// A pointer of such a message.
 pub type Pointer<'a, 'b> = any_pointer::Reader<'a, &'b Orphanage>;
 
-/// What is found at a row is what is wanted there.
+/// What is found at a case is what is wanted there.
 pub fn expect<R: Debug + Drop, T: PartialEq + Debug + Drop>(
     rt: &impl Abort,
-    row: R,
+    case: R,
     found: T,
     wanted: T,
 ) {
-    assert!(rt; found == wanted, "at {row:?}: {found:?} is not {wanted:?}");
+    assert!(rt; found == wanted, "at {case:?}: {found:?} is not {wanted:?}");
 }
 
 /// An orphanage that holds nothing.

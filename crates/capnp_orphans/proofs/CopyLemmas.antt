@@ -115,10 +115,10 @@ copy_fails pointer before kind old between result appends most fails (inr (words
 -- the orphan of null is null
 zero_there : (m : List (List ℕ)) (place : Place) (shape : Shape) → PointsTo m place shape → is_null shape.form ≡ true → word_at m place ≡ Some 0
 zero_there m place shape (null_there e) is = e
-zero_there m place shape (is_object {shape = s} lands e begins stands) is = let some = not_null _ _ _ s stands in absurd (cc)
+zero_there m place shape (is_object {shape = s} lands e begins is_at) is = let some = not_null _ _ _ s is_at in absurd (cc)
 
-zero_stands : (m : List (List ℕ)) (place : Place) (trees : Trees) (traversed : ℕ) → At m (place ∷ []) trees traversed → starts_with_null trees ≡ true → word_at m place ≡ Some 0
-zero_stands m place trees traversed (at {shape = s} object inner more) is = zero_there m place s object is
+zero_is_at : (m : List (List ℕ)) (place : Place) (trees : Trees) (traversed : ℕ) → At m (place ∷ []) trees traversed → starts_with_null trees ≡ true → word_at m place ≡ Some 0
+zero_is_at m place trees traversed (at {shape = s} object inner more) is = zero_there m place s object is
 
 some_zero : (a : ℕ) → Some a ≡ Some 0 → a ≡ 0
 some_zero a same = cc
@@ -137,7 +137,7 @@ no_link word is =
 null_word : (body : List ℕ) (word : ℕ) (form : Form) (children : Trees) → IsOrphan body word form children → is_null form ≡ true → word ≡ 0
 null_word body word form children is null_is =
     let there = is.leads (link word 0) [] 0 (omega arith) refl in
-    no_link word (some_zero (link word 0) (zero_stands ((link word 0 ∷ (body ++ [])) ∷ []) (record { segment = 0; word = 0 }) (tree form children none) there.0 there.1 null_is))
+    no_link word (some_zero (link word 0) (zero_is_at ((link word 0 ∷ (body ++ [])) ∷ []) (record { segment = 0; word = 0 }) (tree form children none) there.0 there.1 null_is))
 
 pub null_copied : (pointer : Pointer) (body : List ℕ) (word : ℕ) → Denotes pointer nothing → HoldsValue (LeadsToTree pointer) body word → word ≡ 0
 null_copied pointer body word null_is holds =

@@ -4,7 +4,7 @@ use Rattle.capnp_layout.specs.Prelude.{Form, null, struct, numbers, pointers, st
 use Rattle.capnp_layout.proofs.words.SubsliceLemmas.{Holds, holds_none}
 use Rattle.capnp_layout.proofs.pointers.TagLemmas.{struct_fields, list_fields}
 use Rattle.capnp_layout.proofs.layouts.LayoutLemmas.{if_positive}
-use Rattle.capnp_layout.proofs.layouts.SizeLemmas.{rows_even}
+use Rattle.capnp_layout.proofs.layouts.SizeLemmas.{elements_even}
 use Rattle.capnp_layout.proofs.layouts.WrittenLemmas.{Read, Points, read_struct, read_pointers, read_numbers, read_structs}
 use Rattle.capnp_orphans.specs.Orphans.{link, links}
 
@@ -30,54 +30,54 @@ list_link start place c n small low few =
 
 struct_points : (segment : List ℕ) (start place d p : ℕ) → start < 2 ^ 29 → place < 2 ^ 29 → 0 < d + p → d < 2 ^ 16
     → slice_get segment place ≡ Some (link (struct_pointer start d p) place) → Points segment place (struct_pointer (offset_to start place) d p) start
-struct_points segment start place d p small low some few stand =
+struct_points segment start place d p small low some few link_is_at =
     let f = struct_fields (offset_to start place) d p (omega arith) few in
-    record { stands = stand ∙ ap Some (struct_link start place d p small low few some); positive = omega (arith, some); is_local = omega (arith, f.kind_is); target = omega (arith, f.offset_is) }
+    record { is_at = link_is_at ∙ ap Some (struct_link start place d p small low few some); positive = omega (arith, some); is_local = omega (arith, f.kind_is); target = omega (arith, f.offset_is) }
 
 list_points : (segment : List ℕ) (start place c n : ℕ) → start < 2 ^ 29 → place < 2 ^ 29 → c < 8
     → slice_get segment place ≡ Some (link (list_pointer start c n) place) → Points segment place (list_pointer (offset_to start place) c n) start
-list_points segment start place c n small low few stand =
+list_points segment start place c n small low few link_is_at =
     let f = list_fields (offset_to start place) c n (omega arith) few in
-    record { stands = stand ∙ ap Some (list_link start place c n small low few); positive = omega arith; is_local = omega (arith, f.kind_is); target = omega (arith, f.offset_is) }
+    record { is_at = link_is_at ∙ ap Some (list_link start place c n small low few); positive = omega arith; is_local = omega (arith, f.kind_is); target = omega (arith, f.offset_is) }
 
 some_struct : (segment : List ℕ) (place start : ℕ) (words links : List ℕ) → place < 2 ^ 29 → start < 2 ^ 29 → 0 < length words + length links → HasRoom (struct words) (length links)
     → slice_get segment place ≡ Some (link (pointer (struct words) (length links) start) place) → Holds segment start (words ++ links) → Read (segment ∷ []) 0 segment place start (struct words) links
-some_struct segment place start words links low small some room stand h =
+some_struct segment place start words links low small some room link_is_at h =
     let d : ℕ = length words in
     let p : ℕ = length links in
     let tag_is : pointer (struct words) (length links) start ≡ struct_pointer start (length words) (length links) =
     ap (λ (o : ℕ). struct_pointer o (length words) (length links)) (if_positive (length words + length links) minus_one start some) in
-    let stand' : slice_get segment place ≡ Some (link (struct_pointer start (length words) (length links)) place) =
-    stand ∙ ap (λ (w : ℕ). Some (link w place)) tag_is in
+    let link_is_at' : slice_get segment place ≡ Some (link (struct_pointer start (length words) (length links)) place) =
+    link_is_at ∙ ap (λ (w : ℕ). Some (link w place)) tag_is in
     read_struct (segment ∷ []) 0 segment refl place start (struct_pointer (offset_to start place) d p) (offset_to start place) words links
-    (struct_points segment start place d p small low some room.0 stand') (struct_fields (offset_to start place) d p (omega arith) room.0) h
+    (struct_points segment start place d p small low some room.0 link_is_at') (struct_fields (offset_to start place) d p (omega arith) room.0) h
 
 empty_points : (segment : List ℕ) (word : ℕ) → slice_get segment word ≡ Some (struct_pointer minus_one 0 0) → Points segment word (struct_pointer minus_one 0 0) word
-empty_points segment word stand = record { stands = stand; positive = omega arith; is_local = omega arith; target = omega arith }
+empty_points segment word link_is_at = record { is_at = link_is_at; positive = omega arith; is_local = omega arith; target = omega arith }
 
 -- an object is read from its words, wherever the pointer to it is
 pub read_link : (segment : List ℕ) (place start : ℕ) (form : Form) (links : List ℕ) → place < 2 ^ 29 → start < 2 ^ 29 → place ≤ length segment → HasRoom form (length links)
     → slice_get segment place ≡ Some (link (pointer form (length links) start) place) → Holds segment start (own form links) → Read (segment ∷ []) 0 segment place start form links
-read_link segment place start null [] low small within room stand h = record { traversed = 0; object = is_null stand; linked = refl }
-read_link segment place start null (x ∷ links) low small within room stand h = absurd (omega (arith, room))
-read_link segment place start (struct []) [] low small within room stand h =
+read_link segment place start null [] low small within room link_is_at h = record { traversed = 0; object = is_null link_is_at; linked = refl }
+read_link segment place start null (x ∷ links) low small within room link_is_at h = absurd (omega (arith, room))
+read_link segment place start (struct []) [] low small within room link_is_at h =
     let f = struct_fields minus_one 0 0 (omega arith) (omega arith) in
-    let r = read_struct (segment ∷ []) 0 segment refl place place (struct_pointer minus_one 0 0) minus_one [] [] (empty_points segment place stand) f (holds_none segment place within) in
+    let r = read_struct (segment ∷ []) 0 segment refl place place (struct_pointer minus_one 0 0) minus_one [] [] (empty_points segment place link_is_at) f (holds_none segment place within) in
     record { traversed = r.traversed; object = r.object; linked = refl }
-read_link segment place start (struct []) (x ∷ links) low small within room stand h = some_struct segment place start [] (x ∷ links) low small (omega arith) room stand h
-read_link segment place start (struct (w ∷ words)) links low small within room stand h = some_struct segment place start (w ∷ words) links low small (omega arith) room stand h
-read_link segment place start (numbers c values) [] low small within room stand h =
+read_link segment place start (struct []) (x ∷ links) low small within room link_is_at h = some_struct segment place start [] (x ∷ links) low small (omega arith) room link_is_at h
+read_link segment place start (struct (w ∷ words)) links low small within room link_is_at h = some_struct segment place start (w ∷ words) links low small (omega arith) room link_is_at h
+read_link segment place start (numbers c values) [] low small within room link_is_at h =
     read_numbers (segment ∷ []) 0 segment refl place start (list_pointer (offset_to start place) c (length values)) (offset_to start place) c values
-    (list_points segment start place c (length values) small low (omega (arith, room.0)) stand) (list_fields (offset_to start place) c (length values) (omega arith) (omega (arith, room.0))) room.0 room.3 h
-read_link segment place start (numbers c values) (x ∷ links) low small within room stand h = absurd (omega (arith, room.2))
-read_link segment place start pointers links low small within room stand h =
+    (list_points segment start place c (length values) small low (omega (arith, room.0)) link_is_at) (list_fields (offset_to start place) c (length values) (omega arith) (omega (arith, room.0))) room.0 room.3 h
+read_link segment place start (numbers c values) (x ∷ links) low small within room link_is_at h = absurd (omega (arith, room.2))
+read_link segment place start pointers links low small within room link_is_at h =
     read_pointers (segment ∷ []) 0 segment refl place start (list_pointer (offset_to start place) 6 (length links)) (offset_to start place) links
-    (list_points segment start place 6 (length links) small low (omega arith) stand) (list_fields (offset_to start place) 6 (length links) (omega arith) (omega arith)) h
-read_link segment place start (structs d p rows) links low small within room stand h =
-    let n : ℕ = length rows * (d + p) in
-    read_structs (segment ∷ []) 0 segment refl place start (list_pointer (offset_to start place) 7 (length rows * (d + p))) (offset_to start place) (struct_pointer (length rows) d p) d p rows links
-    (list_points segment start place 7 (length rows * (d + p)) small low (omega arith) stand) (list_fields (offset_to start place) 7 (length rows * (d + p)) (omega arith) (omega arith))
-    (struct_fields (length rows) d p room.2 room.0) (rows_even d rows room.5) room.4 h
+    (list_points segment start place 6 (length links) small low (omega arith) link_is_at) (list_fields (offset_to start place) 6 (length links) (omega arith) (omega arith)) h
+read_link segment place start (structs d p elements) links low small within room link_is_at h =
+    let n : ℕ = length elements * (d + p) in
+    read_structs (segment ∷ []) 0 segment refl place start (list_pointer (offset_to start place) 7 (length elements * (d + p))) (offset_to start place) (struct_pointer (length elements) d p) d p elements links
+    (list_points segment start place 7 (length elements * (d + p)) small low (omega arith) link_is_at) (list_fields (offset_to start place) 7 (length elements * (d + p)) (omega arith) (omega arith))
+    (struct_fields (length elements) d p room.2 room.0) (elements_even d elements room.5) room.4 h
 
 pub links_get : (words : List ℕ) (place i x : ℕ) → slice_get words i ≡ Some x → slice_get (links words place) i ≡ Some (link x (place + i))
 links_get [] place i x is = absurd (let no : ◌≡◌ {A = Option ℕ} None (Some x) = is in cc)

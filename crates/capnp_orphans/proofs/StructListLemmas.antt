@@ -5,23 +5,23 @@ use Rattle.std.proofs.lemmas.List.{append-nil, length-take, take_all, take_more}
 use Rattle.std.proofs.lemmas.Option.{slice_get_within}
 use Rattle.std.proofs.lemmas.List.Elements.{All-nil, All-cons}
 use Rattle.std.proofs.Math.Seq.{take-append_seam, drop-append_seam}
-use Rattle.capnp_layout.specs.Prelude.{words_of, structs, Trees, none, tree, before, places, row_places, At, nowhere, at, pointer, struct_pointer, list_pointer, woven, placed, row_run, put}
+use Rattle.capnp_layout.specs.Prelude.{words_of, structs, Trees, none, tree, before, places, pointer_places, At, nowhere, at, pointer, struct_pointer, list_pointer, woven, placed, element_runs, put}
 use Rattle.capnp_layout.specs.declared.place.Place.{Place}
 use Rattle.capnp_layout.proofs.words.SubsliceLemmas.{Holds, holds_left, holds_right, holds_same}
-use Rattle.capnp_layout.proofs.pointers.SlotLemmas.{placed-row_run}
-use Rattle.capnp_layout.proofs.trees.StandLemmas.{at_both}
+use Rattle.capnp_layout.proofs.pointers.SlotLemmas.{placed-element_runs}
+use Rattle.capnp_layout.proofs.trees.TreeCountLemmas.{at_both}
 use Rattle.capnp_layout.proofs.layouts.BlockLemmas.{put_both}
 use Rattle.capnp_wire.proofs.views.ValueLemmas.{put_whole}
 use Rattle.capnp_values.proofs.structs.SectionLemmas.{data_put}
 use Rattle.capnp_orphans.specs.declared.draft.StructDraft.{StructDraft}
 use Rattle.capnp_orphans.specs.Orphans.{link, links, IsOrphan, AreOrphans}
-use Rattle.capnp_orphans.specs.Held.{rows_of, adopted_by, elements, AreSized}
+use Rattle.capnp_orphans.specs.Held.{words_of_each, adopted_by, elements, AreSized}
 use Rattle.capnp_orphans.proofs.LinkLemmas.{length-links_at, read_link}
-use Rattle.capnp_orphans.proofs.OrphanLemmas.{orphans_stand, words_appended}
+use Rattle.capnp_orphans.proofs.OrphanLemmas.{orphans_are_at, words_appended}
 
-pub length-rows_of : {T : Type 0} {D P : ℕ} (xs : List (StructDraft T D P)) → length (rows_of xs) ≡ length xs
-length-rows_of [] = refl
-length-rows_of (x ∷ xs) = ap (λ (n : ℕ). suc n) (length-rows_of xs)
+pub length-words_of_each : {T : Type 0} {D P : ℕ} (xs : List (StructDraft T D P)) → length (words_of_each xs) ≡ length xs
+length-words_of_each [] = refl
+length-words_of_each (x ∷ xs) = ap (λ (n : ℕ). suc n) (length-words_of_each xs)
 
 -- where a further struct comes
 more_size : (n place d p : ℕ) → place + d + p + n * (d + p) + d ≡ place + suc n * (d + p) + d
@@ -104,7 +104,7 @@ length-element_links {T} {D} {P} (x ∷ xs) place sized =
     let split : suc (length xs) * P ≡ P + length xs * P = omega arith in
     omega (arith, length-append (links x.pointers (place + D)) (element_links xs (place + D + P)), length-links_at x.pointers (place + D), sized.0.1, length-element_links xs (place + D + P) sized.1)
 
-pub elements_woven : {T : Type 0} {D P : ℕ} (xs : List (StructDraft T D P)) (place : ℕ) → AreSized xs → elements xs place ≡ woven P (rows_of xs) (element_links xs place)
+pub elements_woven : {T : Type 0} {D P : ℕ} (xs : List (StructDraft T D P)) (place : ℕ) → AreSized xs → elements xs place ≡ woven P (words_of_each xs) (element_links xs place)
 elements_woven [] place sized = refl
 elements_woven {T} {D} {P} (x ∷ xs) place sized =
     let own_links : List ℕ = links x.pointers (place + D) in
@@ -113,12 +113,12 @@ elements_woven {T} {D} {P} (x ∷ xs) place sized =
     let front : take P (own_links ++ others) ≡ own_links = ap (λ (n : ℕ). take n (own_links ++ others)) (sym long) ∙ take-append_seam own_links others in
     let back : drop P (own_links ++ others) ≡ others = ap (λ (n : ℕ). drop n (own_links ++ others)) (sym long) ∙ drop-append_seam own_links others in
     ap (λ (l : List ℕ). (x.words ++ own_links) ++ l) (elements_woven xs (place + D + P) sized.1)
-    ∙ ap (λ (l : List ℕ). (x.words ++ l) ++ woven P (rows_of xs) others) (sym front)
-    ∙ ap (λ (l : List ℕ). (x.words ++ take P (own_links ++ others)) ++ woven P (rows_of xs) l) (sym back)
+    ∙ ap (λ (l : List ℕ). (x.words ++ l) ++ woven P (words_of_each xs) others) (sym front)
+    ∙ ap (λ (l : List ℕ). (x.words ++ take P (own_links ++ others)) ++ woven P (words_of_each xs) l) (sym back)
 
-pub rows_fit : {T : Type 0} {D P : ℕ} (xs : List (StructDraft T D P)) → AreSized xs → All (λ row. (length row ≡ D) × All (λ w. w < 2 ^ 64) row) (rows_of xs)
-rows_fit {D = D} [] sized = All-nil (λ row. (length row ≡ D) × All (λ w. w < 2 ^ 64) row)
-rows_fit {D} (x ∷ xs) sized = All-cons (λ row. (length row ≡ D) × All (λ w. w < 2 ^ 64) row) x.words (rows_of xs) (sized.0.0, sized.0.2) (rows_fit xs sized.1)
+pub drafts_fit : {T : Type 0} {D P : ℕ} (xs : List (StructDraft T D P)) → AreSized xs → All (λ element. (length element ≡ D) × All (λ w. w < 2 ^ 64) element) (words_of_each xs)
+drafts_fit {D = D} [] sized = All-nil (λ element. (length element ≡ D) × All (λ w. w < 2 ^ 64) element)
+drafts_fit {D} (x ∷ xs) sized = All-cons (λ element. (length element ≡ D) × All (λ w. w < 2 ^ 64) element) x.words (words_of_each xs) (sized.0.0, sized.0.2) (drafts_fit xs sized.1)
 
 -- orphans in two parts
 record Split (body a b : List ℕ) (trees : Trees) : Type 0 where
@@ -136,11 +136,11 @@ split_orphans body (word ∷ a) b (tree form children others) are =
     record { front = tree form children s.front; rest = s.rest; whole = ap (λ (t : Trees). tree form children t) s.whole; front_are = (are.0, s.front_are); rest_are = s.rest_are }
 
 -- the trees below the structs are at their pointers
-rows_stand : {T : Type 0} {D P : ℕ} (first : ℕ) (body more : List ℕ) (xs : List (StructDraft T D P)) (trees : Trees) (place : ℕ) → AreSized xs → AreOrphans body (adopted_by xs) trees
+drafts_are_at : {T : Type 0} {D P : ℕ} (first : ℕ) (body more : List ℕ) (xs : List (StructDraft T D P)) (trees : Trees) (place : ℕ) → AreSized xs → AreOrphans body (adopted_by xs) trees
     → place + length xs * (D + P) ≤ 2 ^ 29 → Holds (first ∷ (body ++ more)) place (elements xs place)
-    → (traversed : ℕ) × At ((first ∷ (body ++ more)) ∷ []) (row_places 0 place D P (length xs)) trees traversed
-rows_stand first body more [] trees place sized are room h = (0, subst (λ (t : Trees). At ((first ∷ (body ++ more)) ∷ []) [] t 0) (sym are) nowhere)
-rows_stand {T} {D} {P} first body more (x ∷ xs) trees place sized are room h =
+    → (traversed : ℕ) × At ((first ∷ (body ++ more)) ∷ []) (pointer_places 0 place D P (length xs)) trees traversed
+drafts_are_at first body more [] trees place sized are room h = (0, subst (λ (t : Trees). At ((first ∷ (body ++ more)) ∷ []) [] t 0) (sym are) nowhere)
+drafts_are_at {T} {D} {P} first body more (x ∷ xs) trees place sized are room h =
     let segment : List ℕ = first ∷ (body ++ more) in
     let split : suc (length xs) * (D + P) ≡ D + P + length xs * (D + P) = omega arith in
     let s = split_orphans body x.pointers (adopted_by xs) trees are in
@@ -151,42 +151,42 @@ rows_stand {T} {D} {P} first body more (x ∷ xs) trees place sized are room h =
     let onward : place + (D + P) ≡ place + D + P = omega arith in
     let others : Holds segment (place + D + P) (elements xs (place + D + P)) =
     subst (λ (n : ℕ). Holds segment n (elements xs (place + D + P))) onward (holds_right segment place (D + P) (x.words ++ own_links) (elements xs (place + D + P)) long h) in
-    let one = orphans_stand first body more x.pointers s.front (place + D) s.front_are (omega (arith, sized.0.1, split, room)) there in
+    let one = orphans_are_at first body more x.pointers s.front (place + D) s.front_are (omega (arith, sized.0.1, split, room)) there in
     let one_here : At (segment ∷ []) (places 0 (place + D) P) s.front one.0 = subst (λ (n : ℕ). At (segment ∷ []) (places 0 (place + D) n) s.front one.0) sized.0.1 one.1 in
-    let two = rows_stand first body more xs s.rest (place + D + P) sized.1 s.rest_are (omega (arith, split, room)) others in (
+    let two = drafts_are_at first body more xs s.rest (place + D + P) sized.1 s.rest_are (omega (arith, split, room)) others in (
       one.0 + two.0,
-      subst (λ (t : Trees). At (segment ∷ []) (places 0 (place + D) P ++ row_places 0 (place + D + P) D P (length xs)) t (one.0 + two.0)) s.whole
-          (at_both (segment ∷ []) (places 0 (place + D) P) (row_places 0 (place + D + P) D P (length xs)) s.front s.rest one.0 two.0 one_here two.1),
+      subst (λ (t : Trees). At (segment ∷ []) (places 0 (place + D) P ++ pointer_places 0 (place + D + P) D P (length xs)) t (one.0 + two.0)) s.whole
+          (at_both (segment ∷ []) (places 0 (place + D) P) (pointer_places 0 (place + D + P) D P (length xs)) s.front s.rest one.0 two.0 one_here two.1),
     )
 
 -- a list of structs that hold orphans is one orphan more
 pub structs_are_orphan : {T : Type 0} {D P : ℕ} (body : List ℕ) (xs : List (StructDraft T D P)) (children : Trees) (start : ℕ) → start ≡ 1 + length body → D < 2 ^ 16 → P < 2 ^ 16 → length xs < 2 ^ 29
     → start + 1 + length xs * (D + P) < 2 ^ 29 → AreSized xs → AreOrphans body (adopted_by xs) children
-    → IsOrphan (body ++ (struct_pointer (length xs) D P ∷ elements xs (start + 1))) (list_pointer start 7 (length xs * (D + P))) (structs D P (rows_of xs)) children
+    → IsOrphan (body ++ (struct_pointer (length xs) D P ∷ elements xs (start + 1))) (list_pointer start 7 (length xs * (D + P))) (structs D P (words_of_each xs)) children
 structs_are_orphan {T} {D} {P} body xs children start is few_words few_pointers many room sized are = record {
-  leads = λ first more place low stand.
-      let rows : List (List ℕ) = rows_of xs in
+  leads = λ first more place low link_is_at.
+      let drafted : List (List ℕ) = words_of_each xs in
       let ls : List ℕ = element_links xs (start + 1) in
       let object_size : List ℕ = struct_pointer (length xs) D P ∷ elements xs (start + 1) in
       let segment : List ℕ = first ∷ ((body ++ (struct_pointer (length xs) D P ∷ elements xs (start + 1))) ++ more) in
-      let rows_many : length (rows_of xs) ≡ length xs = length-rows_of xs in
+      let drafts_many : length (words_of_each xs) ≡ length xs = length-words_of_each xs in
       let long : length (element_links xs (start + 1)) ≡ length xs * P = length-element_links xs (start + 1) sized in
       let there : Holds segment start object_size = words_appended first body object_size more start is in
-      let own_is : struct_pointer (length xs) D P ∷ elements xs (start + 1) ≡ struct_pointer (length (rows_of xs)) D P ∷ woven P (rows_of xs) (element_links xs (start + 1)) =
+      let own_is : struct_pointer (length xs) D P ∷ elements xs (start + 1) ≡ struct_pointer (length (words_of_each xs)) D P ∷ woven P (words_of_each xs) (element_links xs (start + 1)) =
       ap (λ (l : List ℕ). struct_pointer (length xs) D P ∷ l) (elements_woven xs (start + 1) sized)
-      ∙ ap (λ (n : ℕ). struct_pointer n D P ∷ woven P (rows_of xs) (element_links xs (start + 1))) (sym rows_many) in
-      let stand' : slice_get segment place ≡ Some (link (pointer (structs D P (rows_of xs)) (length (element_links xs (start + 1))) start) place) =
-      subst (λ (n : ℕ). slice_get segment place ≡ Some (link (list_pointer start 7 (n * (D + P))) place)) (sym rows_many) stand in
-      let size_is : length (rows_of xs) * (D + P) ≡ length xs * (D + P) = ap (λ (n : ℕ). n * (D + P)) rows_many in
-      let children_many : length (element_links xs (start + 1)) ≡ length (rows_of xs) * P = long ∙ ap (λ (n : ℕ). n * P) (sym rows_many) in
-      let read = read_link segment place start (structs D P rows) ls low (omega (arith, room)) (omega (arith, slice_get_within segment place _ stand))
-      (few_words, few_pointers, omega (arith, rows_many, many), omega (arith, size_is, room), children_many, rows_fit xs sized) stand' (holds_same segment start object_size _ own_is there) in
+      ∙ ap (λ (n : ℕ). struct_pointer n D P ∷ woven P (words_of_each xs) (element_links xs (start + 1))) (sym drafts_many) in
+      let link_is_at' : slice_get segment place ≡ Some (link (pointer (structs D P (words_of_each xs)) (length (element_links xs (start + 1))) start) place) =
+      subst (λ (n : ℕ). slice_get segment place ≡ Some (link (list_pointer start 7 (n * (D + P))) place)) (sym drafts_many) link_is_at in
+      let size_is : length (words_of_each xs) * (D + P) ≡ length xs * (D + P) = ap (λ (n : ℕ). n * (D + P)) drafts_many in
+      let children_many : length (element_links xs (start + 1)) ≡ length (words_of_each xs) * P = long ∙ ap (λ (n : ℕ). n * P) (sym drafts_many) in
+      let read = read_link segment place start (structs D P drafted) ls low (omega (arith, room)) (omega (arith, slice_get_within segment place _ link_is_at))
+      (few_words, few_pointers, omega (arith, drafts_many, many), omega (arith, size_is, room), children_many, drafts_fit xs sized) link_is_at' (holds_same segment start object_size _ own_is there) in
       let onward : segment ≡ first ∷ (body ++ (object_size ++ more)) = ap (λ (l : List ℕ). first ∷ l) (append_assoc body object_size more) in
       let rest : Holds segment (start + 1) (elements xs (start + 1)) = holds_right segment start 1 (struct_pointer (length xs) D P ∷ []) (elements xs (start + 1)) refl there in
-      let children_there = rows_stand first body (object_size ++ more) xs children (start + 1) sized are (omega (arith, room)) (subst (λ (l : List ℕ). Holds l (start + 1) (elements xs (start + 1))) onward rest) in
-      let children_here : At (segment ∷ []) (row_places 0 (start + 1) D P (length xs)) children children_there.0 =
-      subst (λ (l : List ℕ). At (l ∷ []) (row_places 0 (start + 1) D P (length xs)) children children_there.0) (sym onward) children_there.1 in
-      let run_is : placed 0 start (row_run 1 D P (rows_of xs)) ≡ row_places 0 (start + 1) D P (length xs) =
-      placed-row_run 0 start (start + 1) 1 D P (rows_of xs) refl ∙ ap (λ (n : ℕ). row_places 0 (start + 1) D P n) rows_many in
+      let children_there = drafts_are_at first body (object_size ++ more) xs children (start + 1) sized are (omega (arith, room)) (subst (λ (l : List ℕ). Holds l (start + 1) (elements xs (start + 1))) onward rest) in
+      let children_here : At (segment ∷ []) (pointer_places 0 (start + 1) D P (length xs)) children children_there.0 =
+      subst (λ (l : List ℕ). At (l ∷ []) (pointer_places 0 (start + 1) D P (length xs)) children children_there.0) (sym onward) children_there.1 in
+      let run_is : placed 0 start (element_runs 1 D P (words_of_each xs)) ≡ pointer_places 0 (start + 1) D P (length xs) =
+      placed-element_runs 0 start (start + 1) 1 D P (words_of_each xs) refl ∙ ap (λ (n : ℕ). pointer_places 0 (start + 1) D P n) drafts_many in
       (read.traversed + children_there.0 + 0, at read.object (subst (λ (there : List Place). At (segment ∷ []) there children children_there.0) (sym run_is) children_here) nowhere);
 }

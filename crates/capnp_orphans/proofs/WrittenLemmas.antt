@@ -11,7 +11,7 @@ use Rattle.capnp_layout.proofs.trees.PlacedLemmas.{alone}
 use Rattle.capnp_wire.proofs.layouts.FreeLemmas.{whole_written}
 use Rattle.capnp_orphans.specs.declared.draft.StructDraft.{StructDraft}
 use Rattle.capnp_orphans.specs.Orphans.{links, IsOrphan}
-use Rattle.capnp_orphans.specs.Held.{HoldsValue, HoldsStruct, HoldsPointers, HoldsStructs, rows_of, elements, AreSized}
+use Rattle.capnp_orphans.specs.Held.{HoldsValue, HoldsStruct, HoldsPointers, HoldsStructs, words_of_each, elements, AreSized}
 use Rattle.capnp_orphans.proofs.OrphanLemmas.{struct_is_orphan, pointers_are_orphan, value_is_orphan}
 use Rattle.capnp_orphans.proofs.StructListLemmas.{structs_are_orphan}
 
@@ -143,8 +143,8 @@ pub structs_children : {T : Type 0} {D P : ℕ} (body block : List ℕ) (xs : Li
     → HoldsStructs body xs (body ++ words_of block) w
 structs_children {T} {D} {P} body block xs start w is few_words few_pointers many room sized block_is word_is = record {
   tree_is = λ children are.
-      subst (λ (x : ℕ). IsOrphan (body ++ words_of block) x (structs D P (rows_of xs)) children) (sym word_is)
-      (subst (λ (l : List ℕ). IsOrphan (body ++ l) (list_pointer start 7 (length xs * (D + P))) (structs D P (rows_of xs)) children) (sym block_is)
+      subst (λ (x : ℕ). IsOrphan (body ++ words_of block) x (structs D P (words_of_each xs)) children) (sym word_is)
+      (subst (λ (l : List ℕ). IsOrphan (body ++ l) (list_pointer start 7 (length xs * (D + P))) (structs D P (words_of_each xs)) children) (sym block_is)
       (structs_are_orphan body xs children start is few_words few_pointers many room sized are));
   words_are = ap (λ (l : List ℕ). body ++ l) block_is ∙ ap (λ (n : ℕ). body ++ (struct_pointer (length xs) D P ∷ elements xs n)) (omega (arith, is));
   word_is = word_is ∙ ap (λ (n : ℕ). list_pointer n 7 (length xs * (D + P))) is;

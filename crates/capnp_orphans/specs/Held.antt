@@ -36,9 +36,9 @@ abbrev pub draft_of : {T : Type 0} {D P : ℕ} → List ℕ → List ℕ → Str
 draft_of words adopted = record { words = words; pointers = adopted; schema = record {} }
 
 -- the data words of structs, in order
-abbrev pub rows_of : {T : Type 0} {D P : ℕ} → List (StructDraft T D P) → List (List ℕ)
-rows_of [] = []
-rows_of (draft ∷ drafts) = draft.words ∷ rows_of drafts
+abbrev pub words_of_each : {T : Type 0} {D P : ℕ} → List (StructDraft T D P) → List (List ℕ)
+words_of_each [] = []
+words_of_each (draft ∷ drafts) = draft.words ∷ words_of_each drafts
 
 -- the orphans that structs have adopted, in order
 abbrev pub adopted_by : {T : Type 0} {D P : ℕ} → List (StructDraft T D P) → List ℕ
@@ -53,7 +53,7 @@ elements {D = D} {P = P} (draft ∷ drafts) place = (draft.words ++ links draft.
 -- It is the list of these structs, written right after the old body: their tag, and then their words.
 pub record HoldsStructs {T : Type 0} {D P : ℕ} (old : List ℕ) (drafts : List (StructDraft T D P)) (body : List ℕ) (word : ℕ) : Type 0 where
   -- its tree has the trees of the orphans that they have adopted
-  pub tree_is : (children : Trees) → AreOrphans old (adopted_by drafts) children → IsOrphan body word (structs D P (rows_of drafts)) children
+  pub tree_is : (children : Trees) → AreOrphans old (adopted_by drafts) children → IsOrphan body word (structs D P (words_of_each drafts)) children
   -- whatever the orphans are, its words are these
   pub words_are : body ≡ old ++ (struct_pointer (length drafts) D P ∷ elements drafts (2 + length old))
   pub word_is : word ≡ list_pointer (1 + length old) 7 (length drafts * (D + P))

@@ -5,19 +5,19 @@ use Rattle.std.proofs.lemmas.List.{map-append, take_more}
 use Rattle.capnp_frame.specs.declared.error.Error.{Error}
 use Rattle.capnp_layout.specs.Prelude.{Form, struct, structs, pointers, Trees, none, tree, message_of, At, root}
 use Rattle.capnp_orphans.specs.declared.draft.StructDraft.{StructDraft}
-use Rattle.capnp_orphans.specs.Orphans.{link, StandsAt, IsOrphan, AreOrphans}
+use Rattle.capnp_orphans.specs.Orphans.{link, TreeIsAt, IsOrphan, AreOrphans}
 use Rattle.capnp_orphans.specs.Segments.{Segment, body_of}
-use Rattle.capnp_orphans.specs.Held.{HoldsValue, HoldsStruct, HoldsPointers, HoldsStructs, rows_of, adopted_by, AreValues, AreTrees}
+use Rattle.capnp_orphans.specs.Held.{HoldsValue, HoldsStruct, HoldsPointers, HoldsStructs, words_of_each, adopted_by, AreValues, AreTrees}
 use Rattle.capnp_orphans.specs.Adding.{Keeps, SetsRoot}
 
 -- an orphan is still one of the same tree when words are appended
 pub still_orphan : (body more : List ℕ) (word : ℕ) (form : Form) (children : Trees) → IsOrphan body word form children → IsOrphan (body ++ more) word form children
 still_orphan body more word form children h = record {
-  leads = λ first others place low stand.
+  leads = λ first others place low link_is_at.
       let same : first ∷ ((body ++ more) ++ others) ≡ first ∷ (body ++ (more ++ others)) = ap (λ (l : List ℕ). first ∷ l) (append_assoc body more others) in
       let there : slice_get (first ∷ (body ++ (more ++ others))) place ≡ Some (link word place) =
-      subst (λ (l : List ℕ). slice_get l place ≡ Some (link word place)) same stand in
-      subst (λ (l : List ℕ). StandsAt l place form children) (sym same) (h.leads first (more ++ others) place low there);
+      subst (λ (l : List ℕ). slice_get l place ≡ Some (link word place)) same link_is_at in
+      subst (λ (l : List ℕ). TreeIsAt l place form children) (sym same) (h.leads first (more ++ others) place low there);
 }
 
 -- two steps, one after the other
@@ -88,9 +88,9 @@ pointers_value old new adopted children has_tree word (Ok object) are is h = (po
 pointers_value old new adopted children has_tree word (Err error) are is h = tt
 
 pub structs_value : {T S : Type 0} {D P : ℕ} (old new : List ℕ) (drafts : List (StructDraft S D P)) (children : Trees) (has_tree : Trees → Type 0) (word : T → ℕ) (result : Result T Error)
-    → AreOrphans old (adopted_by drafts) children → has_tree (tree (structs D P (rows_of drafts)) children none) → IfOk result (λ object. HoldsStructs old drafts new (word object))
+    → AreOrphans old (adopted_by drafts) children → has_tree (tree (structs D P (words_of_each drafts)) children none) → IfOk result (λ object. HoldsStructs old drafts new (word object))
     → IfOk result (λ object. HoldsValue has_tree new (word object))
-structs_value {D = D} {P = P} old new drafts children has_tree word (Ok object) are is h = (structs D P (rows_of drafts), children, is, h.tree_is children are)
+structs_value {D = D} {P = P} old new drafts children has_tree word (Ok object) are is h = (structs D P (words_of_each drafts), children, is, h.tree_is children are)
 structs_value old new drafts children has_tree word (Err error) are is h = tt
 
 -- the root is the value that it is set to

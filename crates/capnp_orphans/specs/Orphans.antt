@@ -13,15 +13,15 @@ links [] place = []
 links (word ∷ words) place = link word place ∷ links words (place + 1)
 
 -- a tree stands for the pointer at a word of the segment
-abbrev pub StandsAt : List ℕ → ℕ → Form → Trees → Type 0
-StandsAt segment place form children =
+abbrev pub TreeIsAt : List ℕ → ℕ → Form → Trees → Type 0
+TreeIsAt segment place form children =
     (traversed : ℕ) × At (segment ∷ []) (record { segment = 0; word = place } ∷ []) (tree form children none) traversed
 
 -- Wherever in the segment the pointer to the orphan is put, whatever the root's word is, and
 -- whatever is written after the words that are there, the pointer stands for this tree.
 pub record IsOrphan (body : List ℕ) (word : ℕ) (form : Form) (children : Trees) : Type 0 where
   pub leads : (first : ℕ) (more : List ℕ) (place : ℕ) → place < 2 ^ 29 → slice_get (first ∷ (body ++ more)) place ≡ Some (link word place)
-      → StandsAt (first ∷ (body ++ more)) place form children
+      → TreeIsAt (first ∷ (body ++ more)) place form children
 
 -- orphans in order are those of these trees
 abbrev pub AreOrphans : List ℕ → List ℕ → Trees → Type 0

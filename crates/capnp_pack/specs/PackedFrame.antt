@@ -42,5 +42,5 @@ pub record IsPackedEncoding (text : List ℕ) (segments : List (List ℕ)) : Typ
   pub spelled : text ≡ first_text ++ others_text ++ segments_encoding
 
 -- a packed encoding of the message is at the front
-abbrev pub PackedStands : Padding → List (List ℕ) → List ℕ → List ℕ → Type 0
-PackedStands rule segments raw rest = (text : List ℕ) × IsPackedFrame rule text segments × (raw ≡ text ++ rest)
+abbrev pub PackedFound : Padding → List (List ℕ) → List ℕ → List ℕ → Type 0
+PackedFound rule segments raw rest = (text : List ℕ) × IsPackedFrame rule text segments × (raw ≡ text ++ rest)

@@ -4,12 +4,12 @@ use Rattle.std.specs.List.{concat}
 use Rattle.capnp_frame.specs.declared.io.Read.{Ghosts}
 use Rattle.capnp_frame.specs.declared.serialize.segment_table.Padding.{Padding}
 use Rattle.capnp_frame.specs.Prelude.{Outgrows, TakesForLengths, StreamRules, framed_rules}
-use Rattle.capnp_pack.specs.PackedFrame.{PackedStands}
+use Rattle.capnp_pack.specs.PackedFrame.{PackedFound}
 use Rattle.capnp_pack.specs.PackedSource.{Unpacks, ChunkError}
 
 -- Packed messages, whose padding the rule accepts: each request is a packed chunk.
 abbrev pub packed_rules : Padding → StreamRules
-packed_rules rule = record (framed_rules rule Unpacks ChunkError) { stands = PackedStands rule }
+packed_rules rule = record (framed_rules rule Unpacks ChunkError) { finds = PackedFound rule }
 
 -- Packed messages that are read into the memory of the message `kept`: none is taken for as many segments as it has, or for one, and
 -- for as many bytes.

@@ -3,7 +3,7 @@ pub use Rattle.capnp_pack.specs.Calls.{HandsOn, LeavesOf, TakesFrom, TakesNext}
 pub use Rattle.capnp_pack.specs.Chunk.{IsChunk, text_of, words_of_groups}
 pub use Rattle.capnp_pack.specs.Group.{AreZero, Group, IsGroup, IsWord, bytes_at, group_encoding, group_words, literal, marked, tagged, unmarked, zero_bytes, zero_word, zeros}
 pub use Rattle.capnp_pack.specs.Packed.{AreLongest, IfFirst, IsLongest, Packs}
-pub use Rattle.capnp_pack.specs.PackedFrame.{IsPackedEncoding, IsPackedFrame, PackedStands, table_first, table_others}
+pub use Rattle.capnp_pack.specs.PackedFrame.{IsPackedEncoding, IsPackedFrame, PackedFound, table_first, table_others}
 pub use Rattle.capnp_pack.specs.PackedSink.{AppendsPacked, PackedChunkError, LeavesPacked}
 pub use Rattle.capnp_pack.specs.PackedSource.{GroupError, IsHeadAt, LeavesOverrun, PackedError, Overran, Overruns, ChunkError, Unpacks, group_size, head_encoding}
 pub use Rattle.capnp_pack.specs.PackedStreams.{packed_reusing_rules, packed_rules, packed_skipping_rules, packed_source}

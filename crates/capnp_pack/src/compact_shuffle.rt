@@ -1,5 +1,5 @@
 //! Which bytes of a word a tag marks.
-// Row t lists the indices of the bytes of a word that the tag t marks, and is filled up with 128.
+// Entry t lists the indices of the bytes of a word that the tag t marks, and is filled up with 128.
 #[rattlefmt::skip]
 pub(crate) static COMPACT_SHUFFLE: [[u8; 16]; 256] = [
     [128, 128, 128, 128, 128, 128, 128, 128, 128, 128, 128, 128, 128, 128, 128, 128],

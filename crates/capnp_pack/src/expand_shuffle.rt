@@ -1,5 +1,5 @@
 //! Where the bytes of a word are after its tag.
-// Row t has for each byte of a word its index among the bytes that the tag t marks, or 128 where it
+// Entry t has for each byte of a word its index among the bytes that the tag t marks, or 128 where it
 // isn't marked; the eight further entries are 128, too.
 #[rattlefmt::skip]
 pub(crate) static EXPAND_SHUFFLE: [[u8; 16]; 256] = [

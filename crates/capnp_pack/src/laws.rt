@@ -1,10 +1,10 @@
 //! Facts about packed encodings, each the contract of a function that does nothing.
 ghost use Rattle.std.specs.Prelude.{◌≡◌, ℕ, ◌+◌, ◌*◌, ◌/◌, ◌<◌, ◌≤◌, List, [], ◌∷◌, ◌++◌, length, ◌↔◌};
 ghost use Rattle.std.specs.List.{AllByRecursion};
-ghost use Rattle.capnp_frame.specs.Prelude.{IsWholeWords, lengths, zero_padded_table, HasTable, MessageStands, IsFront, AppendsAll, AppendsSame, LeavesFront, chunks};
+ghost use Rattle.capnp_frame.specs.Prelude.{IsWholeWords, lengths, zero_padded_table, HasTable, MessageFound, IsFront, AppendsAll, AppendsSame, LeavesFront, chunks};
 ghost use Rattle.capnp_frame.specs.declared.serialize.segment_table.Padding.{Padding};
 ghost use Rattle.capnp_pack.specs.Packed.{Packs};
-ghost use Rattle.capnp_pack.specs.PackedFrame.{IsPackedFrame, IsPackedEncoding, PackedStands};
+ghost use Rattle.capnp_pack.specs.PackedFrame.{IsPackedFrame, IsPackedEncoding, PackedFound};
 ghost use Rattle.capnp_pack.specs.PackedSource.{Unpacks};
 ghost use Rattle.capnp_pack.specs.PackedSink.{AppendsPacked, LeavesPacked};
 
@@ -20,7 +20,7 @@ pub fn packed_request_has_one_result()
 /// The three requests for a message take exactly a packed encoding of it from a packed source.
 pub fn packed_requests_take_a_packed_frame()
     ensures { (rule : Padding) (segments : List (List ℕ)) (raw rest : List ℕ) →
-        MessageStands rule Unpacks segments raw rest ↔ PackedStands rule segments raw rest }
+        MessageFound rule Unpacks segments raw rest ↔ PackedFound rule segments raw rest }
 {}
 
 /// No packed encoding of a message is the start of a different one, by either rule of padding, and

@@ -1,7 +1,7 @@
 -- Which of some structs a word belongs to, by how many words it comes after the first one's start.
 use Rattle.std.proofs.Common.{◌≡◌, ℕ, zero, suc, ◌+◌, ◌-◌, ◌*◌, ◌/◌, ◌%◌, ◌<◌, ◌≤◌, [], refl, sym, ap, ◌∙◌, arith}
 use Rattle.std.proofs.lemmas.Nat.{div-add-mod', mod_below, mod-mul-add, div-mul-add}
-use Rattle.capnp_layout.specs.Prelude.{row_places}
+use Rattle.capnp_layout.specs.Prelude.{pointer_places}
 use Rattle.capnp_layout.specs.declared.pointer.StructSize.{StructSize}
 use Rattle.capnp_show.specs.Objects.{size_of}
 use Rattle.capnp_show.specs.Words.{IsPointerOfElement}
@@ -43,6 +43,6 @@ element_is size count index words words_are p =
     record { some = omega arith; among = omega (arith, quotient); after = omega (arith, rest, product) }
 
 -- structs without pointers have none
-pub no_pointers : (n segment start d : ℕ) → row_places segment start d 0 n ≡ []
+pub no_pointers : (n segment start d : ℕ) → pointer_places segment start d 0 n ≡ []
 no_pointers zero segment start d = refl
 no_pointers (suc n) segment start d = no_pointers n segment (start + d + 0) d

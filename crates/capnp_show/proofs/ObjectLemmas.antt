@@ -45,5 +45,5 @@ pub landing_pad_is : (m : List (List ℕ)) (place : Place) (words : List ℕ) (l
 landing_pad_is m place words landing None lands there none =
     (no_far m place landing lands (λ far word at is. none far (word, rw there at at, is)), tt)
 landing_pad_is m place words landing (Some far) lands there (word, at, is) =
-    let stands = word_there m place words word there at in
-    (words_of_far m place landing word far lands stands is, (word, stands, is))
+    let word_is = word_there m place words word there at in
+    (words_of_far m place landing word far lands word_is is, (word, word_is, is))

@@ -5,7 +5,7 @@ use Rattle.capnp.specs.Prelude.{ErrorKind, Zero}
 use Rattle.capnp.specs.declared.streams.Format.{Format}
 use Rattle.capnp.specs.declared.streams.Format.TheVariants.{Framed, Packed}
 use Rattle.capnp_frame.specs.declared.error.ErrorKind.TheVariants.{EmptyBuffer, MessageEndsPrematurely}
-use Rattle.capnp_frame.specs.Prelude.{FlatRules, no_alloc_rules, StandsBy, RulesError}
+use Rattle.capnp_frame.specs.Prelude.{FlatRules, no_alloc_rules, FoundBy, RulesError}
 use Rattle.capnp_show.specs.declared.detected.Look.{Look}
 use Rattle.capnp_show.specs.declared.detected.Look.TheVariants.{Is, More}
 
@@ -18,10 +18,10 @@ abbrev pub framed_within : Option ℕ → FlatRules
 framed_within limit = no_alloc_rules Zero limit
 
 -- a framed message is at the front
-pub record Stands (limit : Option ℕ) (front : List ℕ) : Type 0 where
+pub record HasMessage (limit : Option ℕ) (front : List ℕ) : Type 0 where
   pub message : List (List ℕ)
   pub rest : List ℕ
-  pub stands : StandsBy (framed_within limit) message front rest
+  pub is_found : FoundBy (framed_within limit) message front rest
 
 -- the bytes end within what may be a framed message
 pub record Ends (limit : Option ℕ) (front : List ℕ) : Type 0 where
@@ -37,12 +37,12 @@ pub record Differs (limit : Option ℕ) (front : List ℕ) : Type 0 where
 
 -- the bytes begin a framed message: one is at their front, or they end within one
 abbrev pub Begins : Option ℕ → List ℕ → Type 0
-Begins limit front = Stands limit front ⊎ Ends limit front
+Begins limit front = HasMessage limit front ⊎ Ends limit front
 
 -- What some bytes say, of which `enough` are enough to tell: they are framed where a message is there or may follow, packed where
 -- none begins so, and they say nothing yet where they are few and end within what may be one.
 abbrev pub Says : ℕ → Option ℕ → List ℕ → Look → Type 0
-Says enough limit front (Is Framed) = Stands limit front ⊎ (Ends limit front × (enough ≤ length front))
+Says enough limit front (Is Framed) = HasMessage limit front ⊎ (Ends limit front × (enough ≤ length front))
 Says enough limit front (Is Packed) = Differs limit front
 Says enough limit front More = Ends limit front × (length front < enough)
 

@@ -3,7 +3,7 @@ pub mod Texts
 pub mod Hashes
 pub mod Fronts
 pub mod Objects
-pub mod Rows
+pub mod NodeRuns
 pub mod Words
 pub mod Arguments
 pub mod ErrorLines

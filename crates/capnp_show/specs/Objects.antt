@@ -1,7 +1,7 @@
 -- What the program finds at pointers (src/objects.rt), in the terms of the crate that reads objects.
 use Rattle.std.specs.Prelude.{◌≡◌, ℕ, ◌+◌, ◌-◌, ◌^◌, ◌<◌, min, if◌then◌else◌, List, Option, Some, None, slice_get, IfSome}
 use Rattle.capnp.specs.Prelude.{ErrorKind}
-use Rattle.capnp_layout.specs.Prelude.{message_of, word_at, Lands, Target, IsStart, ShapeStands, IsFarPointer, shape_of, traversed_of, PointerError}
+use Rattle.capnp_layout.specs.Prelude.{message_of, word_at, Lands, Target, IsStart, ShapeIsAt, IsFarPointer, shape_of, traversed_of, PointerError}
 use Rattle.capnp_layout.specs.declared.place.Place.{Place}
 use Rattle.capnp_layout.specs.declared.pointer.FarPointer.{FarPointer}
 use Rattle.capnp_layout.specs.declared.pointer.StructSize.{StructSize}
@@ -37,7 +37,7 @@ pub record IsObject (segments : List (List ℕ)) (place : Place) (object : Objec
   -- the words of its segment, and what it is among them
   pub words : List ℕ
   pub content : slice_get (message_of segments) object.start.segment ≡ Some words
-  pub stands : ShapeStands words object.start landing.tag (shape_of words object.start object.body)
+  pub is_at : ShapeIsAt words object.start landing.tag (shape_of words object.start object.body)
   pub landing_pads : landing_pad_words object.far ≡ landing.landing_pads
   -- its landing pad is where the pointer says
   pub far_pointer : IfSome object.far (λ far. (word : ℕ) × (word_at (message_of segments) place ≡ Some word) × IsFarPointer word far)

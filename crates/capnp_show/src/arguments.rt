@@ -24,55 +24,55 @@ const EXAMPLES: &str = "Examples:
   capnp_show --pack --words 99999999 log > log.packed   messages of over 64 MiB, too, packed";
 
 // A flag: its name, what the help says of it, and the arguments that it can't be given with.
-struct FlagRow {
+struct FlagEntry {
     name: &'static str,
     help: &'static str,
     conflicts: &'static [&'static str],
 }
 
 // What is read, and in which form it is shown.
-const FLAGS: [FlagRow; 9] = [
-    FlagRow {
+const FLAGS: [FlagEntry; 9] = [
+    FlagEntry {
         name: "packed",
         help: "The messages are packed",
         conflicts: &[],
     },
-    FlagRow {
+    FlagEntry {
         name: "detect",
         help: "Tell by the first bytes whether they are packed",
         conflicts: &["packed"],
     },
-    FlagRow {
+    FlagEntry {
         name: "hash",
         help: "Show the SHA-256 of each canonical form",
         conflicts: &[],
     },
-    FlagRow {
+    FlagEntry {
         name: "tree",
         help: "Show the objects of each message",
         conflicts: &[],
     },
-    FlagRow {
+    FlagEntry {
         name: "json",
         help: "Show each message as a JSON object, on a line",
         conflicts: &[],
     },
-    FlagRow {
+    FlagEntry {
         name: "count",
         help: "Show the number of messages alone",
         conflicts: &[],
     },
-    FlagRow {
+    FlagEntry {
         name: "html",
         help: "Draw the messages, as a page that stands alone",
         conflicts: &["tree", "json", "count"],
     },
-    FlagRow {
+    FlagEntry {
         name: "pack",
         help: "Write each framed message packed",
         conflicts: &["packed", "detect", "hash", "tree", "json", "count", "html"],
     },
-    FlagRow {
+    FlagEntry {
         name: "unpack",
         help: "Write each packed message framed",
         conflicts: &[
@@ -82,25 +82,25 @@ const FLAGS: [FlagRow; 9] = [
 ];
 
 // A number: its name, the most that it may be, and what the help says of it.
-struct NumberRow {
+struct NumberEntry {
     name: &'static str,
     most: u64,
     help: &'static str,
 }
 
 // How much is read of it.
-const NUMBERS: [NumberRow; 3] = [
-    NumberRow {
+const NUMBERS: [NumberEntry; 3] = [
+    NumberEntry {
         name: "first",
         most: u64::MAX,
         help: "Stop after N messages of each file",
     },
-    NumberRow {
+    NumberEntry {
         name: "words",
         most: u64::MAX,
         help: "Refuse messages of more words [default: 8388608, 64 MiB]",
     },
-    NumberRow {
+    NumberEntry {
         name: "nesting",
         most: i32::MAX as u64,
         help: "Follow pointers so deep [default: 64]",
@@ -141,11 +141,11 @@ fn flagged<'a>(alloc: Global, command: Command<'a>) -> Result<Command<'a>, Alloc
 fn with_flags<'a>(
     alloc: Global,
     command: Command<'a>,
-    rows: &[FlagRow],
+    entries: &[FlagEntry],
 ) -> Result<Command<'a>, AllocError> {
     let mut command = command;
-    for row in rows {
-        command = with_flag(alloc, command, row.name, row.help, row.conflicts)?;
+    for entry in entries {
+        command = with_flag(alloc, command, entry.name, entry.help, entry.conflicts)?;
     }
     Ok(command)
 }
@@ -179,8 +179,8 @@ fn counted<'a>(alloc: Global, command: Command<'a>) -> Result<Command<'a>, Alloc
 // The command with the numbers.
 fn with_numbers<'a>(alloc: Global, command: Command<'a>) -> Result<Command<'a>, AllocError> {
     let mut command = command;
-    for row in &NUMBERS {
-        command = with_number(alloc, command, row.name, row.most, row.help)?;
+    for entry in &NUMBERS {
+        command = with_number(alloc, command, entry.name, entry.most, entry.help)?;
     }
     Ok(command)
 }

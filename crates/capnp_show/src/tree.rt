@@ -5,7 +5,7 @@
 ghost use Rattle.std.specs.Prelude.{◌≡◌, ◌↔◌, ◌≤◌, ◌+◌, ◌-◌, [], ◌∷◌, min, MatchOption, IfOk, IfSome, IsTrue, IsFalse, None, option_map};
 ghost use Rattle.std.specs.List.{All};
 ghost use Rattle.capnp_wire.specs.Prelude.{nesting_of};
-ghost use Rattle.capnp_show.specs.Rows.{row_after, pointers_row, IsSpent, IsNodeOf, LeavesRows, LeavesWords, Comes, Finds, IsBelow};
+ghost use Rattle.capnp_show.specs.NodeRuns.{run_after, pointers_run, IsSpent, IsNodeOf, LeavesRuns, LeavesWords, Comes, Finds, IsBelow};
 
 use crate::objects::{Object, moved, object_at};
 use capnp::ErrorKind;
@@ -45,21 +45,21 @@ pub struct Node {
 
 // Nodes that are still to come, one after the other.
 #[derive(Clone, Copy)]
-struct Row {
+struct NodeRun {
     // The next node, and how many there are.
     index: u64,
     count: u64,
     // Where the next node is.
     next: Place,
     // What each node is.
-    kind: RowKind,
+    kind: NodeRunKind,
     depth: u64,
     // How many more objects may be nested below.
     nesting: u64,
 }
 
 #[derive(Clone, Copy)]
-enum RowKind {
+enum NodeRunKind {
     Root,
     Pointers,
     Elements(StructSize),
@@ -68,7 +68,7 @@ enum RowKind {
 /// A walk over the objects of a message.
 #[derive(Drop)]
 pub struct Walk {
-    rows: Vec<Row>,
+    runs: Vec<NodeRun>,
     // How many more words objects may have, if there is a limit.
     left: Option<u64>,
 }
@@ -77,24 +77,24 @@ impl Walk {
     /// A walk that begins at the root pointer, the first word of the first segment.
     pub fn new(alloc: Global, limits: ReaderOptions) -> Result<Walk, AllocError>
         ensures left { IfOk result (λ walk. walk.left ≡ limits.traversal_limit_in_words) }
-        ensures rows { IfOk result (λ walk. walk.rows.items ≡ record {
+        ensures runs { IfOk result (λ walk. walk.runs.items ≡ record {
           index = 0;
           count = 1;
           next = record { segment = 0; word = 0 };
-          kind = RowKind.Root;
+          kind = NodeRunKind.Root;
           depth = 0;
           nesting = nesting_of limits.nesting_limit;
         } ∷ []) }
     {
-        let mut rows = Vec::new(alloc);
-        rows.push(Row {
+        let mut runs = Vec::new(alloc);
+        runs.push(NodeRun {
             index: 0,
             count: 1,
             next: Place {
                 segment: 0,
                 word: 0,
             },
-            kind: RowKind::Root,
+            kind: NodeRunKind::Root,
             depth: 0,
             nesting: u64::try_from(limits.nesting_limit).unwrap_or(0),
         })?;
@@ -102,74 +102,74 @@ impl Walk {
             Some(words) => Some(words as u64),
             None => None,
         };
-        Ok(Walk { rows, left })
+        Ok(Walk { runs, left })
     }
 
     /// The next node; `None` at the end.
     pub fn next<S: ReaderSegments>(&mut self, segments: &S) -> Result<Option<Node>, AllocError>
-        ensures { IfOk result (λ found. MatchOption found (All IsSpent self.old.rows.items)
-            (λ node. Comes (S.segments segments.now) self.old.rows.items self.old.left node
-            self.new.rows.items self.new.left)) }
+        ensures { IfOk result (λ found. MatchOption found (All IsSpent self.old.runs.items)
+            (λ node. Comes (S.segments segments.now) self.old.runs.items self.old.left node
+            self.new.runs.items self.new.left)) }
     {
-        while let Some(row) = self.rows.pop() {
-            if row.index < row.count {
-                self.rows.push(row.after())?;
-                return Ok(Some(self.node(segments, row)?));
+        while let Some(run) = self.runs.pop() {
+            if run.index < run.count {
+                self.runs.push(run.after())?;
+                return Ok(Some(self.node(segments, run)?));
             }
         }
         Ok(None)
     }
 
-    // The next node of a row.
-    fn node<S: ReaderSegments>(&mut self, segments: &S, row: Row) -> Result<Node, AllocError>
-        ensures node { IfOk result (IsNodeOf (S.segments segments.now) row self.old.left) }
-        ensures rows { IfOk result (λ node.
-            LeavesRows row node.found self.old.rows.items self.new.rows.items) }
+    // The next node of a run.
+    fn node<S: ReaderSegments>(&mut self, segments: &S, run: NodeRun) -> Result<Node, AllocError>
+        ensures node { IfOk result (IsNodeOf (S.segments segments.now) run self.old.left) }
+        ensures runs { IfOk result (λ node.
+            LeavesRuns run node.found self.old.runs.items self.new.runs.items) }
         ensures words { IfOk result (λ node. LeavesWords node.found self.old.left self.new.left) }
     {
-        let label = match row.kind {
-            RowKind::Root => Label::Root,
-            RowKind::Pointers => Label::Pointer(row.index),
-            RowKind::Elements(_) => Label::Element(row.index),
+        let label = match run.kind {
+            NodeRunKind::Root => Label::Root,
+            NodeRunKind::Pointers => Label::Pointer(run.index),
+            NodeRunKind::Elements(_) => Label::Element(run.index),
         };
-        let found = match row.kind {
-            RowKind::Elements(size) => {
-                self.rows
-                    .push(row.pointers_of(row.next, size, row.nesting))?;
-                Found::Element(row.next, size)
+        let found = match run.kind {
+            NodeRunKind::Elements(size) => {
+                self.runs
+                    .push(run.pointers_of(run.next, size, run.nesting))?;
+                Found::Element(run.next, size)
             }
-            _ => self.follow(segments, row)?,
+            _ => self.follow(segments, run)?,
         };
         Ok(Node {
             label,
-            place: row.next,
-            depth: row.depth,
+            place: run.next,
+            depth: run.depth,
             found,
         })
     }
 
-    // What the next pointer of a row leads to.
-    fn follow<S: ReaderSegments>(&mut self, segments: &S, row: Row) -> Result<Found, AllocError>
+    // What the next pointer of a run leads to.
+    fn follow<S: ReaderSegments>(&mut self, segments: &S, run: NodeRun) -> Result<Found, AllocError>
         ensures found { IfOk result (λ found.
-            Finds (S.segments segments.now) row.next row.nesting self.old.left found) }
-        ensures rows { IfOk result (λ found.
-            LeavesRows row found self.old.rows.items self.new.rows.items) }
+            Finds (S.segments segments.now) run.next run.nesting self.old.left found) }
+        ensures runs { IfOk result (λ found.
+            LeavesRuns run found self.old.runs.items self.new.runs.items) }
         ensures words { IfOk result (λ found. LeavesWords found self.old.left self.new.left) }
     {
-        let object = match object_at(segments, row.next) {
+        let object = match object_at(segments, run.next) {
             Ok(Some(object)) => object,
             Ok(None) => return Ok(Found::Null),
             Err(error) => return Ok(Found::Invalid(error.kind)),
         };
-        if row.nesting == 0 {
+        if run.nesting == 0 {
             return Ok(Found::Invalid(ErrorKind::NestingLimitExceeded));
         }
         if !self.take(object.traversed()) {
-            self.rows.clear();
+            self.runs.clear();
             return Ok(Found::Invalid(ErrorKind::ReadLimitExceeded));
         }
-        if let Some(below) = row.below(&object) {
-            self.rows.push(below)?;
+        if let Some(below) = run.below(&object) {
+            self.runs.push(below)?;
         }
         Ok(Found::Object(object))
     }
@@ -180,7 +180,7 @@ impl Walk {
         ensures unlimited { self.old.left ≡ None → IsTrue result }
         ensures taken { IsTrue result → self.new.left ≡ option_map (λ left. left - words) self.old.left }
         ensures kept { IsFalse result → self.new.left ≡ self.old.left }
-        ensures rows { self.new.rows ≡ self.old.rows }
+        ensures runs { self.new.runs ≡ self.old.runs }
     {
         let Some(left) = self.left else {
             return true;
@@ -195,16 +195,16 @@ impl Walk {
     }
 }
 
-impl Row {
-    // The row after its next node.
-    fn after(self) -> Row
-        ensures { result ≡ row_after self }
+impl NodeRun {
+    // The run after its next node.
+    fn after(self) -> NodeRun
+        ensures { result ≡ run_after self }
     {
         let words = match self.kind {
-            RowKind::Elements(size) => size.words(),
+            NodeRunKind::Elements(size) => size.words(),
             _ => 1,
         };
-        Row {
+        NodeRun {
             index: self.index.saturating_add(1),
             count: self.count,
             next: moved(self.next, words),
@@ -214,9 +214,9 @@ impl Row {
         }
     }
 
-    // The nodes below an object that this row leads to: its pointers, or, where its elements have
+    // The nodes below an object that this run leads to: its pointers, or, where its elements have
     // pointers, its elements.
-    fn below(self, object: &Object) -> Option<Row>
+    fn below(self, object: &Object) -> Option<NodeRun>
         ensures { IsBelow self object.now result }
     {
         let nesting = self.nesting.saturating_sub(1);
@@ -224,12 +224,12 @@ impl Row {
             Body::Struct(size) => Some(self.pointers_of(object.start, size, nesting)),
             Body::Numbers(_, _) => None,
             Body::Pointers(count) => {
-                Some(self.row(RowKind::Pointers, object.start, u64::from(count), nesting))
+                Some(self.run(NodeRunKind::Pointers, object.start, u64::from(count), nesting))
             }
             Body::Structs(elements, _) if elements.size.pointers == 0 => None,
             Body::Structs(elements, _) => {
-                Some(self.row(
-                    RowKind::Elements(elements.size),
+                Some(self.run(
+                    NodeRunKind::Elements(elements.size),
                     moved(object.start, 1),
                     u64::from(elements.count),
                     nesting,
@@ -239,15 +239,15 @@ impl Row {
     }
 
     // The pointers of a struct at a place.
-    fn pointers_of(self, start: Place, size: StructSize, nesting: u64) -> Row
-        ensures { result ≡ pointers_row self start size nesting }
+    fn pointers_of(self, start: Place, size: StructSize, nesting: u64) -> NodeRun
+        ensures { result ≡ pointers_run self start size nesting }
     {
         let first = moved(start, u64::from(size.data_words));
-        self.row(RowKind::Pointers, first, u64::from(size.pointers), nesting)
+        self.run(NodeRunKind::Pointers, first, u64::from(size.pointers), nesting)
     }
 
-    // Nodes one step deeper than those of this row.
-    fn row(self, kind: RowKind, next: Place, count: u64, nesting: u64) -> Row
+    // Nodes one step deeper than those of this run.
+    fn run(self, kind: NodeRunKind, next: Place, count: u64, nesting: u64) -> NodeRun
         ensures { result ≡ record {
           index = 0;
           count = count;
@@ -257,7 +257,7 @@ impl Row {
           nesting = nesting;
         } }
     {
-        Row {
+        NodeRun {
             index: 0,
             count,
             next,

@@ -29,8 +29,8 @@ fn text_of(format: Format) -> &'static [u8] {
 
 fn name_of(format: Format) -> At<'static> {
     match format {
-        Format::Framed => At::row("three messages, framed"),
-        Format::Packed => At::row("three messages, packed"),
+        Format::Framed => At::case("three messages, framed"),
+        Format::Packed => At::case("three messages, packed"),
     }
 }
 
@@ -139,10 +139,10 @@ const ERRORS: [Failure; 4] = [
 
 #[test]
 fn messages_that_are_not_there(rt: HostRuntime) -> Result<()> {
-    for (number, row) in (0..).zip(&ERRORS) {
+    for (number, case) in (0..).zip(&ERRORS) {
         for format in &FORMATS {
-            let at = At::new(name_of(*format).row, number);
-            retried!(read_too_many(&rt, *format, row, at))?;
+            let at = At::new(name_of(*format).case, number);
+            retried!(read_too_many(&rt, *format, case, at))?;
         }
     }
     Ok(())
@@ -187,7 +187,7 @@ fn no_chunk_follows_a_failed_one(rt: HostRuntime) -> Result<()> {
 
 // Whether the run meets no failure.
 fn write_to(rt: &(impl Abort + AllocGlobal), format: Format, fails_at: u64) -> Result<bool> {
-    let at = At::new(name_of(format).row, fails_at);
+    let at = At::new(name_of(format).case, fails_at);
     let mut sink = FailingSink::new(Vec::new(rt.alloc()), fails_at);
     let returned = kind_of(write_three(rt, format, &mut sink))?;
     let text = text_of(format);

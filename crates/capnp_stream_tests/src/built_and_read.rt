@@ -23,7 +23,7 @@ fn a_list_of_numbers(rt: HostRuntime) -> Result<()> {
 fn build_list(rt: &(impl Abort + AllocGlobal)) -> Result<()> {
     let mut message = Builder::new_default(rt.alloc());
     message.initn_root::<primitive_list::Owned<u64>>(5)?;
-    assert_count(rt, size_of(rt, &message)?, 7, At::row("five numbers"));
+    assert_count(rt, size_of(rt, &message)?, 7, At::case("five numbers"));
     Ok(())
 }
 
@@ -51,7 +51,7 @@ fn build_struct(rt: &(impl Abort + AllocGlobal)) -> Result<()> {
         rt,
         sink.as_slice(),
         &PACKED_WORDS,
-        At::row("a struct of two words"),
+        At::case("a struct of two words"),
     );
     Ok(())
 }
@@ -100,7 +100,7 @@ fn read_back(
 }
 
 fn write_many(rt: &(impl Abort + AllocGlobal)) -> Result<()> {
-    let at = At::row("511 segments");
+    let at = At::case("511 segments");
     let message = build_many(rt.alloc(), 510)?;
     read_back(rt, Format::Packed, &message)?;
     let mut sink: Vec<u8> = Vec::new(rt.alloc());
@@ -110,7 +110,7 @@ fn write_many(rt: &(impl Abort + AllocGlobal)) -> Result<()> {
 }
 
 fn fail_more(rt: &(impl Abort + AllocGlobal)) -> Result<()> {
-    let at = At::row("512 segments");
+    let at = At::case("512 segments");
     let failed = Some(ErrorKind::InvalidNumberOfSegments(512));
     let message = build_many(rt.alloc(), 511)?;
     assert_count(rt, size_of(rt, &message)?, 257 + 1 + 511 * 3, at);

@@ -52,9 +52,9 @@ fn heap_of(alloc: Global, is_far: bool) -> HeapAllocator {
     }
 }
 
-fn build(alloc: Global, row: &Built) -> Result<Builder<HeapAllocator>> {
-    let mut message = Builder::new(alloc, heap_of(alloc, row.is_far));
-    message.set_root::<text::Owned, &str>(row.text)?;
+fn build(alloc: Global, case: &Built) -> Result<Builder<HeapAllocator>> {
+    let mut message = Builder::new(alloc, heap_of(alloc, case.is_far));
+    message.set_root::<text::Owned, &str>(case.text)?;
     Ok(message)
 }
 
@@ -89,31 +89,31 @@ pub fn size_of(rt: &impl Abort, message: &Builder<HeapAllocator>) -> Result<usiz
 
 #[test]
 fn texts_of_built_messages(rt: HostRuntime) -> Result<()> {
-    for row in &BUILT {
-        retried!(write_framed(&rt, row))?;
-        retried!(write_packed(&rt, row))?;
+    for case in &BUILT {
+        retried!(write_framed(&rt, case))?;
+        retried!(write_packed(&rt, case))?;
     }
     Ok(())
 }
 
-fn write_framed(rt: &(impl Abort + AllocGlobal), row: &Built) -> Result<()> {
-    let at = At::row(row.text);
-    let message = build(rt.alloc(), row)?;
-    assert_bytes(rt, &words_of(rt, &message)?, row.framed, at);
+fn write_framed(rt: &(impl Abort + AllocGlobal), case: &Built) -> Result<()> {
+    let at = At::case(case.text);
+    let message = build(rt.alloc(), case)?;
+    assert_bytes(rt, &words_of(rt, &message)?, case.framed, at);
     let mut sink: Vec<u8> = Vec::new(rt.alloc());
     write(rt, Format::Framed, &mut sink, &message)?;
-    assert_bytes(rt, sink.as_slice(), row.framed, at);
-    assert_count(rt, size_of(rt, &message)?, row.framed.len() / 8, at);
+    assert_bytes(rt, sink.as_slice(), case.framed, at);
+    assert_count(rt, size_of(rt, &message)?, case.framed.len() / 8, at);
     Ok(())
 }
 
-fn write_packed(rt: &(impl Abort + AllocGlobal), row: &Built) -> Result<()> {
-    let at = At::row(row.text);
-    let message = build(rt.alloc(), row)?;
-    assert_holds(rt, message.size_in_words() == row.words, at);
+fn write_packed(rt: &(impl Abort + AllocGlobal), case: &Built) -> Result<()> {
+    let at = At::case(case.text);
+    let message = build(rt.alloc(), case)?;
+    assert_holds(rt, message.size_in_words() == case.words, at);
     let mut sink: Vec<u8> = Vec::new(rt.alloc());
     write(rt, Format::Packed, &mut sink, &message)?;
-    assert_bytes(rt, sink.as_slice(), row.packed, at);
+    assert_bytes(rt, sink.as_slice(), case.packed, at);
     Ok(())
 }
 
@@ -173,7 +173,7 @@ fn write_packed_to(rt: &(impl Abort + AllocGlobal), at: At<'_>) -> Result<()> {
     Ok(())
 }
 
-// Row hello-far: the first segment has room for the root's word alone.
+// Case hello-far: the first segment has room for the root's word alone.
 fn write_far(
     rt: &(impl Abort + AllocGlobal),
     format: Format,

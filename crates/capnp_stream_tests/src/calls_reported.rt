@@ -1,4 +1,4 @@
-//! Assertions that tell the call at which they fail, beside the row.
+//! Assertions that tell the call at which they fail, beside the case.
 use crate::assertions::At;
 use crate::flat::Form;
 use crate::readers::Call;
@@ -8,27 +8,27 @@ use std::process::Abort;
 /// A call returned what is wanted.
 pub fn assert_call(rt: &impl Abort, holds: bool, call: Call, at: At<'_>) {
     let (format, padding, reader) = call;
-    let At { row, number } = at;
+    let At { case, number } = at;
     assert!(rt;
         holds,
-        "at {row}, {number}, {format:?}, {padding:?}, {reader:?}"
+        "at {case}, {number}, {format:?}, {padding:?}, {reader:?}"
     );
 }
 
 /// A call leaves this number of bytes unread.
 pub fn assert_unread(rt: &impl Abort, found: usize, wanted: usize, call: Call, at: At<'_>) {
     let (format, padding, reader) = call;
-    let At { row, number } = at;
+    let At { case, number } = at;
     assert!(rt;
         found == wanted,
-        "{found} for {wanted} at {row}, {number}, {format:?}, {padding:?}, {reader:?}"
+        "{found} for {wanted} at {case}, {number}, {format:?}, {padding:?}, {reader:?}"
     );
 }
 
 /// A form returned what is wanted.
 pub fn assert_form(rt: &impl Abort, holds: bool, (form, rule): (Form, Padding), at: At<'_>) {
-    let At { row, number } = at;
-    assert!(rt; holds, "at {row}, {number}, {form:?}, {rule:?}");
+    let At { case, number } = at;
+    assert!(rt; holds, "at {case}, {number}, {form:?}, {rule:?}");
 }
 
 /// A form leaves this number of bytes of its slice.
@@ -39,9 +39,9 @@ pub fn assert_left(
     (form, rule): (Form, Padding),
     at: At<'_>,
 ) {
-    let At { row, number } = at;
+    let At { case, number } = at;
     assert!(rt;
         found == wanted,
-        "{found} for {wanted} at {row}, {number}, {form:?}, {rule:?}"
+        "{found} for {wanted} at {case}, {number}, {form:?}, {rule:?}"
     );
 }

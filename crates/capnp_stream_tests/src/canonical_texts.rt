@@ -76,7 +76,7 @@ fn a_form_of_a_packed_message(rt: HostRuntime) -> Result<()> {
 
 // What a reader of packed messages returns has a form, too; a sink that is too short fails.
 fn write_packed(rt: &(impl Abort + AllocGlobal)) -> Result<()> {
-    let at = At::row("a form of a packed message");
+    let at = At::case("a form of a packed message");
     let mut source = TEXT_PACKED;
     let options = DEFAULT_READER_OPTIONS;
     let reader = serialize_packed::read_message(rt.alloc(), &mut source, options)?;

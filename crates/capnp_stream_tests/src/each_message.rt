@@ -21,7 +21,7 @@ struct Ended {
 
 // A way, the encodings that are read, one after the other, and how runs over them end by both rules.
 #[derive(Drop)]
-struct Row {
+struct Case {
     name: &'static str,
     way: Way,
     text: &'static [u8],
@@ -66,22 +66,22 @@ const AFTER_TWO: Ended = Ended {
 // padding that isn't zero, and nothing is written of its message; their lenient forms write the
 // encoding of zero padding.
 #[rattlefmt::skip]
-const ROWS: [Row; 3] = [
-    Row {
+const CASES: [Case; 3] = [
+    Case {
         name: "packed up to a cut word",
         way: Way::Pack,
         text: CUT_AFTER_TWO,
         strict: AFTER_TWO,
         lenient: AFTER_TWO,
     },
-    Row {
+    Case {
         name: "another padding after a message, packed",
         way: Way::Pack,
         text: PADDED,
         strict: Ended { failure: Some((1, ErrorKind::NonZeroPadding)), unread: 8, written: &[0, 0] },
         lenient: Ended { failure: None, unread: 0, written: PACKED },
     },
-    Row {
+    Case {
         name: "another padding after a message, unpacked",
         way: Way::Unpack,
         text: PACKED_PADDED,
@@ -92,18 +92,18 @@ const ROWS: [Row; 3] = [
 
 #[test]
 fn both_rules(rt: HostRuntime) -> Result<()> {
-    for row in &ROWS {
-        retried!(write_each(&rt, row, Padding::Zero, &row.strict))?;
-        retried!(write_each(&rt, row, Padding::Any, &row.lenient))?;
-        retried!(transcode_row(&rt, row, Padding::Zero, &row.strict))?;
-        retried!(transcode_row(&rt, row, Padding::Any, &row.lenient))?;
+    for case in &CASES {
+        retried!(write_each(&rt, case, Padding::Zero, &case.strict))?;
+        retried!(write_each(&rt, case, Padding::Any, &case.lenient))?;
+        retried!(transcode_case(&rt, case, Padding::Zero, &case.strict))?;
+        retried!(transcode_case(&rt, case, Padding::Any, &case.lenient))?;
     }
     Ok(())
 }
 
-// A row, and 1 where any padding is accepted.
-fn at(row: &Row, padding: Padding) -> At<'static> {
-    At::new(row.name, u64::from(padding == Padding::Any))
+// A case, and 1 where any padding is accepted.
+fn at(case: &Case, padding: Padding) -> At<'static> {
+    At::new(case.name, u64::from(padding == Padding::Any))
 }
 
 // A stop for want of memory is handed back.
@@ -117,41 +117,41 @@ fn failure_of(returned: std::result::Result<(), FailedAt>) -> Result<Option<(u64
 
 fn write_each(
     rt: &(impl Abort + AllocGlobal),
-    row: &Row,
+    case: &Case,
     padding: Padding,
     ended: &Ended,
 ) -> Result<()> {
-    let mut source = row.text;
+    let mut source = case.text;
     let mut sink: Vec<u8> = Vec::new(rt.alloc());
     let failure = failure_of(write_each_message(
         rt.alloc(),
         &mut source,
         &mut sink,
-        row.way.input(),
+        case.way.input(),
         TableRules::new(padding, DEFAULT_READER_OPTIONS),
-        &row.way,
+        &case.way,
     ))?;
-    let at = at(row, padding);
-    assert!(rt; failure == ended.failure, "{stop:?} at {}, {}", at.row, at.number);
+    let at = at(case, padding);
+    assert!(rt; failure == ended.failure, "{stop:?} at {}, {}", at.case, at.number);
     assert_count(rt, source.len(), ended.unread, at);
     assert_bytes(rt, sink.as_slice(), ended.written, at);
     Ok(())
 }
 
-fn transcode_row(
+fn transcode_case(
     rt: &(impl Abort + AllocGlobal),
-    row: &Row,
+    case: &Case,
     padding: Padding,
     ended: &Ended,
 ) -> Result<()> {
-    let mut source = row.text;
+    let mut source = case.text;
     let mut sink: Vec<u8> = Vec::new(rt.alloc());
     let returned = if padding == Padding::Any {
-        transcoded_leniently(rt, row.way, &mut source, &mut sink)?
+        transcoded_leniently(rt, case.way, &mut source, &mut sink)?
     } else {
-        transcoded(rt, row.way, &mut source, &mut sink)?
+        transcoded(rt, case.way, &mut source, &mut sink)?
     };
-    let at = at(row, padding);
+    let at = at(case, padding);
     let wanted = match ended.failure {
         Some((_, kind)) => Some(kind),
         None => None,

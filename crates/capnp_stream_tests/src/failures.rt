@@ -102,7 +102,7 @@ fn read_whole(
     Ok(())
 }
 
-// Row two-segments takes a given number of reads of at most a given number of bytes.
+// Case two-segments takes a given number of reads of at most a given number of bytes.
 const READS: [(usize, u64); 4] = [(1, 24), (3, 9), (8, 3), (24, 3)];
 
 #[test]
@@ -148,10 +148,10 @@ fn read_again(rt: &(impl Abort + AllocGlobal), call: Call) -> Result<()> {
             call,
             text_of(sample, call.0),
             wanted,
-            At::row(sample.name),
+            At::case(sample.name),
         )?;
     }
-    fail_first(rt, call, &[], Wanted::End, At::row("nothing"))
+    fail_first(rt, call, &[], Wanted::End, At::case("nothing"))
 }
 
 fn fail_first(

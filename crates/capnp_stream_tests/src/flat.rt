@@ -109,10 +109,10 @@ fn messages_in_each_form(rt: HostRuntime) -> Result<()> {
         for form in &FORMS {
             let call = (*form, *rule);
             for sample in &SAMPLES {
-                let at = At::row(sample.name);
+                let at = At::case(sample.name);
                 retried!(find_message(&rt, call, sample.framed, sample.segments, at))?;
             }
-            let at = At::row("flatten, and what follows it");
+            let at = At::case("flatten, and what follows it");
             retried!(find_message(&rt, call, THREE, ONE_AND_TWO, at))?;
         }
     }

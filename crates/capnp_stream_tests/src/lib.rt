@@ -1,4 +1,4 @@
-//! Worked rows over the readers and writers of both formats, and their calls. It holds tests alone,
+//! Worked cases over the readers and writers of both formats, and their calls. It holds tests alone,
 //! by the rules of `capnp_frame_tests`.
 #![tactic(auto)]
 

@@ -34,7 +34,7 @@ pub enum Reader {
     ProvidedNeeded(usize),
 }
 
-/// Each call, the caller-provided buffer being larger than each message of a row.
+/// Each call, the caller-provided buffer being larger than each message of a case.
 pub const READERS: [Reader; 7] = [
     Reader::Copying,
     Reader::Reusing,

@@ -35,7 +35,7 @@ fn count_chunks(rt: &(impl Abort + AllocGlobal)) -> Result<()> {
             let mut source = Counting::new(text);
             let call = (Padding::Any, *reader);
             let returned = is_read(rt.alloc(), call, &mut source, NO_LIMIT, wanted)?;
-            let at = At::row(name);
+            let at = At::case(name);
             assert_call(rt, returned, (Format::Framed, Padding::Any, *reader), at);
             assert_calls(rt, source.empty, 0, at);
             assert_calls(rt, source.requests, chunks, at);

@@ -29,7 +29,7 @@ fn a_root_past_the_limit(rt: HostRuntime) -> Result<()> {
         &rt,
         again,
         ErrorKind::ReadLimitExceeded,
-        At::row("a second root"),
+        At::case("a second root"),
     );
     Ok(())
 }

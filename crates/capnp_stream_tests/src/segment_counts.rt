@@ -31,7 +31,7 @@ fn lists_of_many_segments(rt: HostRuntime) -> Result<()> {
 
 fn read_many(rt: &(impl Abort + AllocGlobal), format: Format) -> Result<()> {
     let readers = read_back(rt, format, &WORDS, &[EMPTY])?;
-    let at = At::row(match format {
+    let at = At::case(match format {
         Format::Framed => "511 segments, framed",
         Format::Packed => "511 segments, packed",
     });
@@ -42,7 +42,7 @@ fn read_many(rt: &(impl Abort + AllocGlobal), format: Format) -> Result<()> {
 fn fail_in_a_list(rt: &(impl Abort + AllocGlobal), format: Format) -> Result<()> {
     let returned = kind_of(read_back(rt, format, &[WORD], &MANY))?;
     let kind = ErrorKind::InvalidNumberOfSegments(600);
-    let at = At::row(match format {
+    let at = At::case(match format {
         Format::Framed => "600 segments, framed",
         Format::Packed => "600 segments, packed",
     });

@@ -89,7 +89,7 @@ pub const STREAMS: [Stream; 4] = [
     },
 ];
 
-// However little a source shows or returns, each call returns the same. No row has a padding that
+// However little a source shows or returns, each call returns the same. No case has a padding that
 // isn't zero, so the lenient calls return the same, too.
 #[test]
 fn messages_after_one_another(rt: HostRuntime) -> Result<()> {

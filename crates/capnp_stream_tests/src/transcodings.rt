@@ -82,7 +82,7 @@ fn a_sink_that_fails(rt: HostRuntime) -> Result<()> {
             let is_third = written >= length_of(*way == Way::Pack, 2);
             within_the_third = within_the_third.saturating_add(u32::from(is_third));
         }
-        assert_holds(&rt, ended && within_the_third > 0, At::row(name_of(*way)));
+        assert_holds(&rt, ended && within_the_third > 0, At::case(name_of(*way)));
     }
     Ok(())
 }

@@ -28,8 +28,8 @@ fn write_message<S: ReaderSegments>(
         Format::Packed => text.as_slice() == message.packed,
     };
     assert!(rt; is_written, "{name}, {writer:?}");
-    assert_holds(rt, has_segments(segments, message.segments), At::row(name));
-    assert_holds(rt, has_size(segments, message.size_in_words), At::row(name));
+    assert_holds(rt, has_segments(segments, message.segments), At::case(name));
+    assert_holds(rt, has_size(segments, message.size_in_words), At::case(name));
     Ok(())
 }
 

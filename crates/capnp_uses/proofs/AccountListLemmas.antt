@@ -11,7 +11,7 @@ use Rattle.capnp_wire.specs.Prelude.{structs, Trees, none, tree, total_words, Is
 use Rattle.capnp_values.specs.DataSections.{with_bits, with_field}
 use Rattle.capnp_orphans.specs.declared.draft.StructDraft.{StructDraft}
 use Rattle.capnp_orphans.specs.Segments.{Segment, body_of, Appends}
-use Rattle.capnp_orphans.specs.Held.{HoldsValue, HoldsStructs, AreValues, TakesStructs, ManyStructs, rows_of, adopted_by}
+use Rattle.capnp_orphans.specs.Held.{HoldsValue, HoldsStructs, AreValues, TakesStructs, ManyStructs, words_of_each, adopted_by}
 use Rattle.capnp_orphans.specs.Adding.{Keeps, Adds, RoomError}
 use Rattle.capnp_orphans.specs.OrphanLaws.{keeps_on, one_value_more, their_trees, structs_value}
 use Rattle.capnp_uses.specs.declared.account.Owned.{Owned}
@@ -33,7 +33,7 @@ Drafted = StructDraft Owned 1 1
 pub record AreDrafted (accounts : List NewAccount) (old new : Segment) (drafts : List Drafted) : Type 0 where
   pub keeps : Keeps old new
   pub names : AreValues IsName (body_of new) accounts (adopted_by drafts)
-  pub rows : rows_of drafts ≡ map (λ (account : NewAccount). account.id ∷ []) accounts
+  pub elements : words_of_each drafts ≡ map (λ (account : NewAccount). account.id ∷ []) accounts
   pub bytes : length new.bytes ≡ length old.bytes + 8 * sum_by name_words accounts
   pub most : new.most ≡ old.most
   pub count : length drafts ≡ length accounts
@@ -43,9 +43,9 @@ adopted_more [] draft word is = rw is refl
 adopted_more (other ∷ drafts) draft word is =
     ap (λ (l : List ℕ). other.pointers ++ l) (adopted_more drafts draft word is) ∙ sym (append_assoc other.pointers (adopted_by drafts) (word ∷ []))
 
-rows_more : (drafts : List Drafted) (draft : Drafted) → rows_of (drafts ++ draft ∷ []) ≡ rows_of drafts ++ draft.words ∷ []
-rows_more [] draft = refl
-rows_more (other ∷ drafts) draft = ap (λ (l : List (List ℕ)). other.words ∷ l) (rows_more drafts draft)
+words_of_more : (drafts : List Drafted) (draft : Drafted) → words_of_each (drafts ++ draft ∷ []) ≡ words_of_each drafts ++ draft.words ∷ []
+words_of_more [] draft = refl
+words_of_more (other ∷ drafts) draft = ap (λ (l : List (List ℕ)). other.words ∷ l) (words_of_more drafts draft)
 
 -- the words of a name
 text_words : (bytes : List ℕ) (words : ℕ) → HasWords (IsTextTree bytes) false words → words ≡ length bytes / 8 + 1
@@ -68,12 +68,12 @@ drafted_next accounts i d old new after drafts pushed draft word words within ar
     let account : NewAccount = slice_index_or accounts i d in
     let more : take (i + 1) accounts ≡ take i accounts ++ account ∷ [] = take_more accounts i d within in
     let sum : sum_by name_words (take (i + 1) accounts) ≡ sum_by name_words (take i accounts) + name_words account = sum_by_more name_words accounts i d within in
-    let row : NewAccount → List ℕ = λ x. x.id ∷ [] in
+    let words_of_one : NewAccount → List ℕ = λ x. x.id ∷ [] in
     rw is (record {
       keeps = keeps_on old new after are.keeps keeps;
       names = rw (more, adopted_more drafts draft word pointers_are) (one_value_more IsName new after (take i accounts) (adopted_by drafts) account word keeps are.names holds);
-      rows = rows_more drafts draft ∙ ap (λ (l : List (List ℕ)). l ++ draft.words ∷ []) are.rows ∙ ap (λ (l : List ℕ). map row (take i accounts) ++ l ∷ []) words_are
-          ∙ sym (map-append row (take i accounts) (account ∷ [])) ∙ ap (λ (l : List NewAccount). map row l) (sym more);
+      elements = words_of_more drafts draft ∙ ap (λ (l : List (List ℕ)). l ++ draft.words ∷ []) are.elements ∙ ap (λ (l : List ℕ). map words_of_one (take i accounts) ++ l ∷ []) words_are
+          ∙ sym (map-append words_of_one (take i accounts) (account ∷ [])) ∙ ap (λ (l : List NewAccount). map words_of_one l) (sym more);
       bytes = let one = appended_len words new after appends in let two = text_words account.name.now words has in let three = are.bytes in omega (arith, one, two, three, sum);
       most = most ∙ are.most;
       count = length-append drafts (draft ∷ []) ∙ ap (λ (k : ℕ). k + 1) are.count ∙ sym (length-append (take i accounts) (account ∷ [])) ∙ ap (λ (l : List NewAccount). length l) (sym more);
@@ -87,7 +87,7 @@ list_drafted accounts old new after drafts word result are adds =
     record {
       keeps = keeps_on old new after are.keeps adds.keeps;
       orphan = structs_value (body_of new) (body_of after) drafts t.0 (IsAccountList accounts) word result t.1
-          (t.0, t.2, ap (λ (rows : List (List ℕ)). tree (structs 1 1 rows) t.0 none) are.rows) adds.orphan;
+          (t.0, t.2, ap (λ (elements : List (List ℕ)). tree (structs 1 1 elements) t.0 none) are.elements) adds.orphan;
     }
 
 pub list_len : {T : Type 0} (accounts : List NewAccount) (old new after : Segment) (drafts : List Drafted) (result : Result T Error) → AreDrafted accounts old new drafts

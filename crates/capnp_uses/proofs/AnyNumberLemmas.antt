@@ -7,7 +7,7 @@ use Rattle.capnp_wire.specs.Prelude.{Form, null, struct, numbers, pointers, stru
 use Rattle.capnp_wire.specs.declared.any_object.numbers.Numbers.{Numbers as NumbersReader}
 use Rattle.capnp_wire.specs.declared.any_object.reader.Reader.{Reader}
 use Rattle.capnp_wire.specs.declared.any_object.reader.Reader.TheVariants.{Null, Struct, Structs, Pointers, Numbers}
-use Rattle.capnp_layout.proofs.trees.StandLemmas.{within_none}
+use Rattle.capnp_layout.proofs.trees.TreeCountLemmas.{within_none}
 use Rattle.capnp_wire.proofs.views.ViewLemmas.{Decides, wrong_kind_once, wrong_kind_unlimited}
 use Rattle.capnp_uses.specs.AnyNumbers.{IsAnyNumbers, TakesAnyNumbers, AnyNumbersFormError}
 
@@ -23,7 +23,7 @@ taken null values t = tt
 taken (struct words) values t = t
 taken (numbers code there) values t = tt
 taken pointers values t = t
-taken (structs d p rows) values t = t
+taken (structs d p elements) values t = t
 
 pub any_numbers_accepted : (p : Pointer) (values : List ℕ) → Reads p (λ form. IsAnyNumbers form values) → Accepts p TakesAnyNumbers
 any_numbers_accepted p values read = (read.0, read.1, taken read.0.form values read.2.0)

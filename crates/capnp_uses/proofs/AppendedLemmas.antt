@@ -13,7 +13,7 @@ use Rattle.capnp.specs.declared.streams.Format.{Format}
 use Rattle.capnp.specs.Prelude.{grammar_of, rules_of, IsTextOf, ErrorsAs, AppendsEach, SegmentCountErrorIn, OneOfError}
 use Rattle.capnp.proofs.ChunkLemmas.{format_memory}
 use Rattle.capnp.proofs.RunLemmas.{format_lawful, format_requested, format_parts}
-use Rattle.capnp.proofs.ReaderLemmas.{nothing_stands}
+use Rattle.capnp.proofs.ReaderLemmas.{nothing_found}
 use Rattle.capnp.proofs.AppendedLemmas.{appended_texts}
 
 -- encodings of as many messages are those of the same messages
@@ -57,7 +57,7 @@ pub none_left : {S X : Type 0} (rule : Padding) (format : Format) (limit : Optio
     (source : Ghosts S) (old new : S) → source.unread old ≡ Some []
     → ReadsStream source old new (rules_of rule format) limit (next_in segments (Ok end)) → end ≡ None
 none_left rule format limit segments None source old new none reads = refl
-none_left rule format limit segments (Some x) source old new none reads = absurd (nothing_stands rule (format_lawful format) (segments x) (source.unread old) (source.unread new) none
+none_left rule format limit segments (Some x) source old new none reads = absurd (nothing_found rule (format_lawful format) (segments x) (source.unread old) (source.unread new) none
     (IfKnown-weaker (source.unread old) (source.unread new) (λ raw rest. (format_requested rule format (segments x) raw rest).1) reads.found))
 
 -- what is appended to a vector fails for too many segments, or for want of memory

@@ -7,21 +7,21 @@ use Rattle.capnp_build.specs.Prelude.{Space, used_of, message, IsSet}
 use Rattle.capnp_uses.specs.Roots.{HasRootForm}
 use Rattle.capnp_uses.proofs.RootLemmas.{root_denotes, root_is_read}
 
-text_stands : (spaces : List Space) (bytes : List ℕ) → IsSet (λ trees. IsTextTree bytes trees) false spaces → HasRootForm spaces (numbers 2 (bytes ++ 0 ∷ []))
-text_stands spaces bytes set = (set.traversed, subst (λ (t : Trees). At (message spaces) (root ∷ []) t set.traversed) set.tree_is.1 set.stands)
+text_is_root : (spaces : List Space) (bytes : List ℕ) → IsSet (λ trees. IsTextTree bytes trees) false spaces → HasRootForm spaces (numbers 2 (bytes ++ 0 ∷ []))
+text_is_root spaces bytes set = (set.traversed, subst (λ (t : Trees). At (message spaces) (root ∷ []) t set.traversed) set.tree_is.1 set.is_at)
 
 form_denoted : (spaces : List Space) (form : Form) → HasRootForm spaces form → (shape : Shape) × Denotes (unlimited_root (map used_of spaces)) shape × (shape.form ≡ form)
 form_denoted spaces form (traversed, at {shape = shape} points inside others) = (shape, root_denotes spaces shape points, refl)
 
 pub text_accepted : (spaces : List Space) (bytes : List ℕ) → IsSet (λ trees. IsTextTree bytes trees) false spaces → Accepts (unlimited_root (map used_of spaces)) TakesText
 text_accepted spaces bytes set =
-    let there = form_denoted spaces (numbers 2 (bytes ++ 0 ∷ [])) (text_stands spaces bytes set) in
+    let there = form_denoted spaces (numbers 2 (bytes ++ 0 ∷ [])) (text_is_root spaces bytes set) in
     (there.0, there.1, subst TakesText (sym there.2) (refl, (bytes, refl)))
 
 pub text_read : (spaces : List Space) (bytes shown : List ℕ) → IsSet (λ trees. IsTextTree bytes trees) false spaces
     → Reads (unlimited_root (map used_of spaces)) (λ form. IsText form shown) → shown ≡ bytes
 text_read spaces bytes shown set reads =
-    let is = root_is_read spaces (numbers 2 (bytes ++ 0 ∷ [])) (λ form. IsText form shown) (text_stands spaces bytes set) reads in
+    let is = root_is_read spaces (numbers 2 (bytes ++ 0 ∷ [])) (λ form. IsText form shown) (text_is_root spaces bytes set) reads in
     append_cancel_right shown bytes (0 ∷ []) (sym is.1)
 
 -- equal bytes are found equal

@@ -8,7 +8,7 @@ use Rattle.capnp_frame.specs.declared.io.Read.{Ghosts}
 use Rattle.capnp_frame.specs.declared.serialize.segment_table.Padding.TheVariants.{Zero}
 use Rattle.capnp_frame.specs.Prelude.{IfKnown, Fails, next_in, ReadsStream, AreEncodings, TakesMemory}
 use Rattle.capnp.specs.declared.streams.Format.{Format}
-use Rattle.capnp.specs.Prelude.{ExternalError, ReturnsEncodings, grammar_of, gives_of, rules_of, StandsNext, NextError, IsStream}
+use Rattle.capnp.specs.Prelude.{ExternalError, ReturnsEncodings, grammar_of, gives_of, rules_of, FoundNext, NextError, IsStream}
 use Rattle.capnp.proofs.EndLemmas.{stream_once}
 use Rattle.capnp.proofs.RunLemmas.{format_parts}
 use Rattle.capnp_uses.specs.Devices.{ReadsFirst, ReadsAll}
@@ -57,8 +57,8 @@ first_of_bytes source old new format limit (Ok None) bytes is texts reads =
       exact = λ kind (left, line). at_known _ (source.unread old) bytes is reads.exact kind left line;
     }
 first_of_bytes source old new format limit (Ok (Some first)) bytes is texts reads =
-    let found : (rest : List ℕ) × StandsNext Zero format limit first bytes rest =
-    rest_after (StandsNext Zero format limit first) (source.unread old) (source.unread new) bytes is texts.found in
+    let found : (rest : List ℕ) × FoundNext Zero format limit first bytes rest =
+    rest_after (FoundNext Zero format limit first) (source.unread old) (source.unread new) bytes is texts.found in
     record {
       found = found;
       none = tt;
@@ -86,11 +86,11 @@ reads_first source old new format limit r known unread texts reads =
 -- and leaves what follows
 pub leaves_rest : {X : Type 0} (format : Format) (limit : Option ℕ) (segments : X → List (List ℕ)) (r : Result (Option X) Error) (known old new : Option (List ℕ)) → old ≡ known
     → ReturnsEncodings (grammar_of Zero format) limit old new (next_in segments r)
-    → IfOk r (λ found. IfSome found (λ read. IfKnown known new (StandsNext Zero format limit (segments read))))
+    → IfOk r (λ found. IfSome found (λ read. IfKnown known new (FoundNext Zero format limit (segments read))))
 leaves_rest format limit segments (Err error) known old new same texts = tt
 leaves_rest format limit segments (Ok None) known old new same texts = tt
 leaves_rest format limit segments (Ok (Some read)) known old new same texts =
-    subst (λ (o : Option (List ℕ)). IfKnown o new (StandsNext Zero format limit (segments read))) same texts.found
+    subst (λ (o : Option (List ℕ)). IfKnown o new (FoundNext Zero format limit (segments read))) same texts.found
 
 -- A reader fails with the device's failure only where the device fails.
 
@@ -179,13 +179,13 @@ fails_after format limit messages error before (Some bytes) (Some rest) new T te
 -- A message that was read is not listed for want of memory.
 pub fails_to_list : {X : Type 0} (format : Format) (limit : Option ℕ) (messages : X → List (List (List ℕ))) (error : Error) (before : List (List (List ℕ))) (message : List (List ℕ))
     (known unread new : Option (List ℕ)) → IfKnown known unread (AreEncodings (grammar_of Zero format) limit before)
-    → IfKnown unread new (StandsNext Zero format limit message) → ExternalError error.kind → IfSome known (ReadsAll format limit messages (Err error))
-fails_to_list format limit messages error before message None unread new texts stands external = tt
-fails_to_list format limit messages error before message (Some bytes) None new texts stands external = absurd texts
-fails_to_list format limit messages error before message (Some bytes) (Some rest) None texts stands external = absurd stands
-fails_to_list format limit messages error before message (Some bytes) (Some rest) (Some left) texts stands external =
+    → IfKnown unread new (FoundNext Zero format limit message) → ExternalError error.kind → IfSome known (ReadsAll format limit messages (Err error))
+fails_to_list format limit messages error before message None unread new texts is_found external = tt
+fails_to_list format limit messages error before message (Some bytes) None new texts is_found external = absurd texts
+fails_to_list format limit messages error before message (Some bytes) (Some rest) None texts is_found external = absurd is_found
+fails_to_list format limit messages error before message (Some bytes) (Some rest) (Some left) texts is_found external =
     all_fail format limit messages error bytes
-    (λ none. absurd (never format limit message rest left (nothing_listed format limit before bytes rest texts none).1 stands)) (inl external)
+    (λ none. absurd (never format limit message rest left (nothing_listed format limit before bytes rest texts none).1 is_found)) (inl external)
 
 -- Nor is the message past a full list.
 pub fails_past_full : {X : Type 0} (format : Format) (limit : Option ℕ) (messages : X → List (List (List ℕ))) (error : Error) (before : List (List (List ℕ)))

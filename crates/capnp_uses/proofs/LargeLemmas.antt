@@ -5,7 +5,7 @@ use Rattle.std.proofs.lemmas.List.{length-map}
 use Rattle.capnp_frame.specs.declared.error.Error.{Error}
 use Rattle.capnp_frame.specs.declared.error.ErrorKind.{ErrorKind}
 use Rattle.capnp_wire.specs.Prelude.{Trees, struct, structs, none, tree, total_words, HasWords, WordsError, IsTextTree, LongText}
-use Rattle.capnp_values.specs.Fields.{IsRow, FieldsError}
+use Rattle.capnp_values.specs.Fields.{IsValueInFront, FieldsError}
 use Rattle.capnp_values.specs.Structs.{IsStruct, StructError}
 use Rattle.capnp_values.specs.StructLists.{ElementsError, IsStructList, StructListError}
 use Rattle.capnp_build.specs.Prelude.{Space, Built, FindsNoRoom, FailsFirstSegment, ClearedRootError}
@@ -31,10 +31,10 @@ words_error_blames : (found : List (List ℕ)) (whole : Trees) (has : Trees → 
 words_error_blames found whole has fails blames within kind (inl errors) = blames kind errors
 words_error_blames found whole has fails blames within kind (inr (t, is, many, kind_is)) = inr (omega (arith, within t is, many), (_, kind_is))
 
-row_blames : (found : List (List ℕ)) (whole : Trees) (has : Trees → Type 0) (fails others : ErrorKind → Type 0) → Blames fails (IsTooLarge found whole)
+fields_blame : (found : List (List ℕ)) (whole : Trees) (has : Trees → Type 0) (fails others : ErrorKind → Type 0) → Blames fails (IsTooLarge found whole)
     → ((t : Trees) → has t → total_words t ≤ total_words whole) → Blames others (IsTooLarge found whole) → Blames (λ kind. FieldsError has fails others kind) (IsTooLarge found whole)
-row_blames found whole has fails others blames within rest kind (inl words_error) = words_error_blames found whole has fails blames within kind words_error
-row_blames found whole has fails others blames within rest kind (inr errors) = rest kind errors.2
+fields_blame found whole has fails others blames within rest kind (inl words_error) = words_error_blames found whole has fails blames within kind words_error
+fields_blame found whole has fails others blames within rest kind (inr errors) = rest kind errors.2
 
 struct_blames : (words size : ℕ) (fails fact : ErrorKind → Type 0) → words < 2 ^ 16 → size < 2 ^ 16 → Blames fails fact → Blames (λ kind. StructError words size fails kind) fact
 struct_blames words size fails fact few few_pointers blames kind (inl (inl many, kind_is)) = absurd (omega (arith, many, few))
@@ -48,19 +48,19 @@ none_blames fact kind errors = absurd errors
 text_blames : (bytes : List ℕ) (found : List (List ℕ)) (whole : Trees) (others : ErrorKind → Type 0) → Blames (LongText bytes) (λ kind. Any (λ b. LongText b kind) found)
     → total_words (text_tree bytes none) ≤ total_words whole → Blames others (IsTooLarge found whole)
     → Blames (λ kind. FieldsError (λ t. IsTextTree bytes t) (λ k. LongText bytes k) others kind) (IsTooLarge found whole)
-text_blames bytes found whole others listed within rest = row_blames found whole (λ t. IsTextTree bytes t) (λ k. LongText bytes k) others (λ kind long. inl (listed kind long))
+text_blames bytes found whole others listed within rest = fields_blame found whole (λ t. IsTextTree bytes t) (λ k. LongText bytes k) others (λ kind long. inl (listed kind long))
     (λ t is. subst (λ (x : Trees). total_words x ≤ total_words whole) (sym is.1) within) rest
 
 -- the texts of some structs
-rows_blame : {V : Type 0} (f : V → List ℕ) (found : List (List ℕ)) (whole : Trees) (values : List V)
+elements_blame : {V : Type 0} (f : V → List ℕ) (found : List (List ℕ)) (whole : Trees) (values : List V)
     → Blames (λ kind. Any (λ b. LongText b kind) (map f values)) (λ kind. Any (λ b. LongText b kind) found) → total_words (texts (map f values)) ≤ total_words whole
-    → Blames (λ kind. ElementsError (λ v u. IsRow (λ x. IsTextTree (f v) x) (λ x. x ≡ none) u) (λ v m. FieldsError (λ x. IsTextTree (f v) x) (λ n. LongText (f v) n) (λ n. ⊥) m) values kind)
+    → Blames (λ kind. ElementsError (λ v u. IsValueInFront (λ x. IsTextTree (f v) x) (λ x. x ≡ none) u) (λ v m. FieldsError (λ x. IsTextTree (f v) x) (λ n. LongText (f v) n) (λ n. ⊥) m) values kind)
     (IsTooLarge found whole)
-rows_blame f found whole [] listed within kind errors = absurd errors
-rows_blame f found whole (value ∷ values) listed within kind (inl errors) =
+elements_blame f found whole [] listed within kind errors = absurd errors
+elements_blame f found whole (value ∷ values) listed within kind (inl errors) =
     text_blames (f value) found whole (λ n. ⊥) (λ k long. listed k (any_here (λ b. LongText b k) (f value) (map f values) long)) (omega (arith, within)) (none_blames (IsTooLarge found whole)) kind errors
-rows_blame f found whole (value ∷ values) listed within kind (inr errors) =
-    rows_blame f found whole values (λ k long. listed k (any_next (λ b. LongText b k) (f value) (map f values) long)) (omega (arith, within)) kind errors.2
+elements_blame f found whole (value ∷ values) listed within kind (inr errors) =
+    elements_blame f found whole values (λ k long. listed k (any_next (λ b. LongText b k) (f value) (map f values) long)) (omega (arith, within)) kind errors.2
 
 -- the words of a list of structs of a word and a pointer
 list_words : (words : List (List ℕ)) (bytes : List (List ℕ)) → total_words (phones_tree words bytes) ≡ 1 + length words * 2 + total_words (texts bytes)
@@ -69,7 +69,7 @@ list_words words bytes = omega arith
 -- a list of such structs
 list_blames : {V : Type 0} (w f : V → List ℕ) (found : List (List ℕ)) (whole : Trees) (values : List V)
     → Blames (λ kind. Any (λ b. LongText b kind) (map f values)) (λ kind. Any (λ b. LongText b kind) found) → total_words (phones_tree (map w values) (map f values)) ≤ total_words whole
-    → Blames (λ kind. StructListError (λ v u. IsRow (λ x. IsTextTree (f v) x) (λ x. x ≡ none) u)
+    → Blames (λ kind. StructListError (λ v u. IsValueInFront (λ x. IsTextTree (f v) x) (λ x. x ≡ none) u)
     (λ v m. FieldsError (λ x. IsTextTree (f v) x) (λ n. LongText (f v) n) (λ n. ⊥) m) 1 1 values kind) (IsTooLarge found whole)
 list_blames w f found whole values listed within kind (inl (inl (inl many, kind_is))) = absurd (omega (arith, many))
 list_blames w f found whole values listed within kind (inl (inl (inr many, kind_is))) = absurd (omega (arith, many))
@@ -78,12 +78,12 @@ list_blames w f found whole values listed within kind (inl (inr (inl (d, p, many
 list_blames w f found whole values listed within kind (inl (inr (inr (d, p, few, many, kind_is)))) =
     inr (omega (arith, many, within, list_words (map w values) (map f values), length-map values w), (_, kind_is))
 list_blames w f found whole values listed within kind (inr errors) =
-    rows_blame f found whole values listed (omega (arith, within, list_words (map w values) (map f values))) kind errors.4
+    elements_blame f found whole values listed (omega (arith, within, list_words (map w values) (map f values))) kind errors.4
 
 -- a person
 person_blames : (words name address city : List ℕ) → length words < 2 ^ 16 → length address < 2 ^ 16
     → Blames (λ kind. StructError (length words) 2 (λ k. FieldsError (λ t. IsTextTree name t) (λ j. LongText name j)
-    (λ j. FieldsError (λ t. IsStruct address 1 (λ u. IsRow (λ v. IsTextTree city v) (λ v. v ≡ none) u) t)
+    (λ j. FieldsError (λ t. IsStruct address 1 (λ u. IsValueInFront (λ v. IsTextTree city v) (λ v. v ≡ none) u) t)
     (λ i. StructError (length address) 1 (λ h. FieldsError (λ t. IsTextTree city t) (λ g. LongText city g) (λ g. ⊥) h) i) (λ i. ⊥) j) k) kind)
     (IsTooLarge (name ∷ city ∷ []) (tree (struct words) (text_tree name (tree (struct address) (text_tree city none) none)) none))
 person_blames words name address city few none_few =
@@ -93,7 +93,7 @@ person_blames words name address city few none_few =
     let lived : total_words home ≤ total_words whole = omega arith in
     let city_blames = text_blames city found whole (λ g. ⊥)
     (λ k long. any_next (λ b. LongText b k) name (city ∷ []) (any_here (λ b. LongText b k) city [] long)) (omega arith) (none_blames (IsTooLarge found whole)) in
-    let home_blames = row_blames found whole (λ t. IsStruct address 1 (λ u. IsRow (λ v. IsTextTree city v) (λ v. v ≡ none) u) t) _ (λ i. ⊥)
+    let home_blames = fields_blame found whole (λ t. IsStruct address 1 (λ u. IsValueInFront (λ v. IsTextTree city v) (λ v. v ≡ none) u) t) _ (λ i. ⊥)
     (struct_blames (length address) 1 _ (IsTooLarge found whole) none_few (omega arith) city_blames)
     (λ t is. subst (λ (x : Trees). total_words x ≤ total_words whole) (sym (whole_address address city t is)) lived) (none_blames (IsTooLarge found whole)) in
     struct_blames (length words) 2 _ (IsTooLarge found whole) few (omega arith)
@@ -101,7 +101,7 @@ person_blames words name address city few none_few =
 
 pub person_fails : (words : List ℕ) (id : ℕ) (n address c name city : List ℕ) → words ≡ id ∷ [] → n ≡ name → address ≡ [] → c ≡ city
     → Blames (λ kind. StructError (length words) 2 (λ k. FieldsError (λ t. IsTextTree n t) (λ j. LongText n j)
-    (λ j. FieldsError (λ t. IsStruct address 1 (λ u. IsRow (λ v. IsTextTree c v) (λ v. v ≡ none) u) t)
+    (λ j. FieldsError (λ t. IsStruct address 1 (λ u. IsValueInFront (λ v. IsTextTree c v) (λ v. v ≡ none) u) t)
     (λ i. StructError (length address) 1 (λ h. FieldsError (λ t. IsTextTree c t) (λ g. LongText c g) (λ g. ⊥) h) i) (λ i. ⊥) j) k) kind)
     (IsTooLarge (name ∷ city ∷ []) (person_tree id name city))
 person_fails words id n address c name city words_are n_is address_is c_is kind errors =
@@ -115,8 +115,8 @@ person_fails words id n address c name city words_are n_is address_is c_is kind 
 contact_blames : {V : Type 0} (w f : V → List ℕ) (phones : List V) (words name mail : List ℕ) → length words < 2 ^ 16
     → Blames (λ kind. StructError (length words) 3 (λ k. FieldsError (λ t. IsTextTree name t) (λ j. LongText name j)
     (λ j. FieldsError (λ t. IsTextTree mail t) (λ h. LongText mail h)
-    (λ h. FieldsError (λ t. IsStructList w (λ v u. IsRow (λ x. IsTextTree (f v) x) (λ x. x ≡ none) u) 1 1 phones t)
-    (λ g. StructListError (λ v u. IsRow (λ x. IsTextTree (f v) x) (λ x. x ≡ none) u)
+    (λ h. FieldsError (λ t. IsStructList w (λ v u. IsValueInFront (λ x. IsTextTree (f v) x) (λ x. x ≡ none) u) 1 1 phones t)
+    (λ g. StructListError (λ v u. IsValueInFront (λ x. IsTextTree (f v) x) (λ x. x ≡ none) u)
     (λ v m. FieldsError (λ x. IsTextTree (f v) x) (λ n. LongText (f v) n) (λ n. ⊥) m) 1 1 phones g) (λ g. ⊥) h) j) k) kind)
     (IsTooLarge (name ∷ mail ∷ map f phones) (tree (struct words) (text_tree name (text_tree mail (phones_tree (map w phones) (map f phones)))) none))
 contact_blames w f phones words name mail few =
@@ -126,7 +126,7 @@ contact_blames w f phones words name mail few =
     let found = name ∷ mail ∷ others in
     let listed : total_words list ≤ total_words whole = omega arith in
     let list_blamed = list_blames w f found whole phones (λ k long. any_next (λ b. LongText b k) name (mail ∷ others) (any_next (λ b. LongText b k) mail others long)) listed in
-    let phones_blame = row_blames found whole (λ t. IsStructList w (λ v u. IsRow (λ x. IsTextTree (f v) x) (λ x. x ≡ none) u) 1 1 phones t) _ (λ g. ⊥) list_blamed
+    let phones_blame = fields_blame found whole (λ t. IsStructList w (λ v u. IsValueInFront (λ x. IsTextTree (f v) x) (λ x. x ≡ none) u) 1 1 phones t) _ (λ g. ⊥) list_blamed
     (λ t is. subst (λ (x : Trees). total_words x ≤ total_words whole) (sym (whole_list w f phones t is)) listed) (none_blames (IsTooLarge found whole)) in
     struct_blames (length words) 3 _ (IsTooLarge found whole) few (omega arith)
     (text_blames name found whole _ (λ k long. any_here (λ b. LongText b k) name (mail ∷ others) long) (omega arith)
@@ -135,8 +135,8 @@ contact_blames w f phones words name mail few =
 pub contact_fails : {V : Type 0} (w f : V → List ℕ) (vs phones : List V) (words : List ℕ) (id : ℕ) (n m name mail : List ℕ) → words ≡ id ∷ [] → n ≡ name → m ≡ mail → vs ≡ phones
     → Blames (λ kind. StructError (length words) 3 (λ k. FieldsError (λ t. IsTextTree n t) (λ j. LongText n j)
     (λ j. FieldsError (λ t. IsTextTree m t) (λ h. LongText m h)
-    (λ h. FieldsError (λ t. IsStructList w (λ v u. IsRow (λ x. IsTextTree (f v) x) (λ x. x ≡ none) u) 1 1 vs t)
-    (λ g. StructListError (λ v u. IsRow (λ x. IsTextTree (f v) x) (λ x. x ≡ none) u)
+    (λ h. FieldsError (λ t. IsStructList w (λ v u. IsValueInFront (λ x. IsTextTree (f v) x) (λ x. x ≡ none) u) 1 1 vs t)
+    (λ g. StructListError (λ v u. IsValueInFront (λ x. IsTextTree (f v) x) (λ x. x ≡ none) u)
     (λ v m. FieldsError (λ x. IsTextTree (f v) x) (λ n. LongText (f v) n) (λ n. ⊥) m) 1 1 vs g) (λ g. ⊥) h) j) k) kind)
     (IsTooLarge (name ∷ mail ∷ map f phones) (contact_tree id name mail (map w phones) (map f phones)))
 contact_fails {V = V} w f vs phones words id n m name mail words_are n_is m_is vs_are kind errors =
@@ -178,7 +178,7 @@ unread_as alloc has whole one limit old new kind unread =
     let set = unread.set in
     let put = unread.placed in
     record {
-      set = record { trees = set.trees; tree_is = one set.trees set.tree_is; traversed = set.traversed; stands = set.stands };
+      set = record { trees = set.trees; tree_is = one set.trees set.tree_is; traversed = set.traversed; is_at = set.is_at };
       placed = record {
         cleared = put.cleared;
         words = put.words;

@@ -27,8 +27,8 @@ packed_read limit read message text left begins writable packed =
 -- so a root that is written is the root that is read
 pub packed_root : (limit : Option ℕ) (form : Form) (read message : List (List ℕ)) (text left : List ℕ) → BeginsPacked Zero limit read text left → IsWritable message
     → IsPackedEncodingOf message text → HasPlainRoot message form → HasPlainRoot read form
-packed_root limit form read message text left begins writable packed stands =
-    subst (λ (m : List (List ℕ)). HasPlainRoot m form) (sym (packed_read limit read message text left begins writable packed)) stands
+packed_root limit form read message text left begins writable packed is_at =
+    subst (λ (m : List (List ℕ)). HasPlainRoot m form) (sym (packed_read limit read message text left begins writable packed)) is_at
 
 -- what is added to nothing
 pub added_text : (message : List (List ℕ)) (old new : List ℕ) → old ≡ [] → Adds (IsPackedEncodingOf message) old new → IsPackedEncodingOf message new

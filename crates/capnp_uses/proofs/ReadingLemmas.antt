@@ -12,7 +12,7 @@ use Rattle.capnp_wire.specs.Prelude.{nesting_of, default_root, Pointer, IsCanoni
 use Rattle.capnp_message.specs.Seen.{root_of}
 use Rattle.capnp_message.specs.Canonical.{CanonicalFormError}
 use Rattle.capnp.specs.declared.streams.Format.{Format}
-use Rattle.capnp.specs.Prelude.{grammar_of, gives_of, BeginsFramed, StandsNext, NextError, TakesForNext, EndsBy, IsPlainSource, ReturnsEncodings}
+use Rattle.capnp.specs.Prelude.{grammar_of, gives_of, BeginsFramed, FoundNext, NextError, TakesForNext, EndsBy, IsPlainSource, ReturnsEncodings}
 use Rattle.capnp.proofs.RunLemmas.{format_lawful, format_requested, format_parts}
 use Rattle.capnp.proofs.ReaderLemmas.{nothing_begins}
 use Rattle.capnp_uses.proofs.AppendedLemmas.{memory_only}
@@ -29,7 +29,7 @@ pub exactly : {X : Type 0} (segments : X → List (List ℕ)) (format : Format) 
     → ReturnsEncodings (grammar_of Zero format) limit (Some bytes) (Some left) (next_in segments r)
     → IfOk (next_in segments r) (λ found. IfNone found (bytes ≡ []))
     → IfErr (next_in segments r) (λ e. e.kind ≡ DeviceFailed → Fails 0 0)
-    → (message : List (List ℕ)) (rest : List ℕ) → StandsNext Zero format limit message bytes rest
+    → (message : List (List ℕ)) (rest : List ℕ) → FoundNext Zero format limit message bytes rest
     → MatchResult r (λ found. IsSomeAnd found (λ x. segments x ≡ message)) (λ e. e.kind ≡ OutOfMemory)
 exactly segments format limit bytes left (Ok None) texts none failed message rest begins =
     absurd (nothing_begins Zero (format_lawful format) (format_requested Zero format) limit (λ m. ⊥) (Some bytes) none message rest begins)
@@ -56,9 +56,9 @@ next_error segments format limit bytes left (Err e) failed errors = slice_error 
 
 -- and one that asks for none
 pub exactly_provided : {X : Type 0} (segments : X → List (List ℕ)) (format : Format) (limit : Option ℕ) (bytes left : List ℕ) (r : Result X Error)
-    → IfOk r (λ x. StandsNext Zero format limit (segments x) bytes left)
-    → ((message : List (List ℕ)) (rest : List ℕ) → StandsNext Zero format limit message bytes rest → IsOk r)
-    → (message : List (List ℕ)) (rest : List ℕ) → StandsNext Zero format limit message bytes rest
+    → IfOk r (λ x. FoundNext Zero format limit (segments x) bytes left)
+    → ((message : List (List ℕ)) (rest : List ℕ) → FoundNext Zero format limit message bytes rest → IsOk r)
+    → (message : List (List ℕ)) (rest : List ℕ) → FoundNext Zero format limit message bytes rest
     → IsOkAnd r (λ x. segments x ≡ message)
 exactly_provided segments format limit bytes left (Ok x) found accepted message rest begins =
     ((format_parts Zero format limit).begins_once (segments x) message bytes left rest found begins).0
@@ -76,17 +76,17 @@ pub form_of_root : {X : Type 0} (numbers_of : X → List ℕ) (Q : Error → Typ
 form_of_root numbers_of Q (Ok x) pointer other same returned = subst (λ p. IsCanonicalForm p (numbers_of x)) same returned
 form_of_root numbers_of Q (Err e) pointer other same returned = tt
 
-pub form_stands : {X : Type 0} (numbers_of : X → List ℕ) (m : List (List ℕ)) (bytes : List ℕ) (r : Result X Error) → (rest : List ℕ) × BeginsFramed Zero default_limit m bytes rest
+pub form_is_found : {X : Type 0} (numbers_of : X → List ℕ) (m : List (List ℕ)) (bytes : List ℕ) (r : Result X Error) → (rest : List ℕ) × BeginsFramed Zero default_limit m bytes rest
     → IfOk r (λ x. IsCanonicalForm (default_root m) (numbers_of x))
     → IfOk r (λ x. (message : List (List ℕ)) × (rest : List ℕ) × BeginsFramed Zero default_limit message bytes rest × IsCanonicalForm (default_root message) (numbers_of x))
-form_stands numbers_of m bytes (Ok x) begins form = (m, begins.0, begins.1, form)
-form_stands numbers_of m bytes (Err e) begins form = tt
+form_is_found numbers_of m bytes (Ok x) begins form = (m, begins.0, begins.1, form)
+form_is_found numbers_of m bytes (Err e) begins form = tt
 
 -- where no message is there
 pub no_form : {X : Type 0} (numbers_of : X → List ℕ) (bytes : List ℕ) (error : Error) → ((message : List (List ℕ)) (rest : List ℕ) → BeginsFramed Zero default_limit message bytes rest → ⊥)
     → RulesError (no_alloc_rules Zero default_limit) error.kind bytes → ReturnsCanonical bytes numbers_of (Err error)
 no_form numbers_of bytes error none errors = record {
-  stands = tt;
+  is_found = tt;
   form = λ message rest begins. tt;
   found = λ message rest begins form. absurd (none message rest begins);
   errors = inl errors;

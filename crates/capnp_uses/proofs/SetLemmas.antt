@@ -21,7 +21,7 @@ pub set_as : (p : Pointer) (spaces : List Space) (form : Form) (children : Trees
     → (traversed : ℕ) × Root (message spaces) form children traversed
 set_as p spaces form children is s =
     let same : s.trees ≡ tree form children none = leads_one p s.trees (tree form children none) s.tree_is is in
-    (s.traversed, subst (λ (t : Trees). At (message spaces) (root ∷ []) t s.traversed) same s.stands)
+    (s.traversed, subst (λ (t : Trees). At (message spaces) (root ∷ []) t s.traversed) same s.is_at)
 
 pub canonical_as : (p : Pointer) (spaces : List Space) (trees : Trees) → LeadsToTree p trees → IsWhole (LeadsToTree p) true spaces → message spaces ≡ canon trees ∷ []
 canonical_as p spaces trees is s = s.words_are ∙ ap (λ (t : Trees). canon t ∷ []) (leads_one p s.trees trees s.tree_is is)
@@ -29,7 +29,7 @@ canonical_as p spaces trees is s = s.words_are ∙ ap (λ (t : Trees). canon t �
 -- where there is a tree at the root, there is a segment
 pub root_has_segment : (spaces : List Space) (form : Form) (children : Trees) (traversed : ℕ) → Root (message spaces) form children traversed → 0 < length spaces
 root_has_segment [] form children traversed (at {shape = shape} points inside others) = absurd (word_of_object [] root shape refl points)
-root_has_segment (space ∷ spaces) form children traversed stands = omega arith
+root_has_segment (space ∷ spaces) form children traversed is_at = omega arith
 
 -- what was set has a form
 form_there : (p : Pointer) (spaces : List Space) (trees : Trees) (traversed : ℕ) → LeadsToTree p trees → At (message spaces) (root ∷ []) trees traversed
@@ -38,7 +38,7 @@ form_there p spaces trees traversed leads (at points inside nowhere) = (_, _, _,
 
 pub set_form : (p : Pointer) (spaces : List Space) → IsSet (LeadsToTree p) false spaces
     → (form : Form) × (children : Trees) × (counted : ℕ) × LeadsToTree p (tree form children none) × Root (message spaces) form children counted
-set_form p spaces set = form_there p spaces set.trees set.traversed set.tree_is set.stands
+set_form p spaces set = form_there p spaces set.trees set.traversed set.tree_is set.is_at
 
 -- its first data word is set, where it has n of them
 pub word_set : (p : Pointer) (word n : ℕ) (spaces last : List Space) (form : Form) (children : Trees) (traversed : ℕ) → LeadsToTree p (tree form children none)
@@ -47,23 +47,23 @@ pub word_set : (p : Pointer) (word n : ℕ) (spaces last : List Space) (form : F
 word_set p word n spaces last null children traversed leads there taken counted some set = absurd (omega (arith, counted [] refl, some))
 word_set p word n spaces last (struct words) children traversed leads there taken counted some set =
     let after = set words children traversed there in
-    record { form = struct words; children = children; tree_is = leads; taken = taken; traversed = after.0; stands = after.1 }
+    record { form = struct words; children = children; tree_is = leads; taken = taken; traversed = after.0; is_at = after.1 }
 word_set p word n spaces last (numbers code values) children traversed leads there taken counted some set = absurd taken
 word_set p word n spaces last pointers children traversed leads there taken counted some set = absurd taken
-word_set p word n spaces last (structs d m rows) children traversed leads there taken counted some set = absurd taken
+word_set p word n spaces last (structs d m elements) children traversed leads there taken counted some set = absurd taken
 
 -- and where it has none there is none to set
 pub word_kept : (p : Pointer) (word n : ℕ) (spaces : List Space) (form : Form) (children : Trees) (traversed : ℕ) → LeadsToTree p (tree form children none)
     → Root (message spaces) form children traversed → TakesStruct form → ((words : List ℕ) → HasData form words → n ≡ length words) → n ≤ 0
     → IsSetWithWord (LeadsToTree p) word spaces
 word_kept p word n spaces null children traversed leads there taken counted gone =
-    record { form = null; children = children; tree_is = leads; taken = taken; traversed = traversed; stands = there }
+    record { form = null; children = children; tree_is = leads; taken = taken; traversed = traversed; is_at = there }
 word_kept p word n spaces (struct []) children traversed leads there taken counted gone =
-    record { form = struct []; children = children; tree_is = leads; taken = taken; traversed = traversed; stands = there }
+    record { form = struct []; children = children; tree_is = leads; taken = taken; traversed = traversed; is_at = there }
 word_kept p word n spaces (struct (first ∷ words)) children traversed leads there taken counted gone = absurd (omega (arith, counted (first ∷ words) refl, gone))
 word_kept p word n spaces (numbers code values) children traversed leads there taken counted gone = absurd taken
 word_kept p word n spaces pointers children traversed leads there taken counted gone = absurd taken
-word_kept p word n spaces (structs d m rows) children traversed leads there taken counted gone = absurd taken
+word_kept p word n spaces (structs d m elements) children traversed leads there taken counted gone = absurd taken
 
 -- a type that rejects the root rejects the tree that was set
 form_error_at : {A S : Type 0} (alloc : Ghosts A S) (p : Pointer) (old : Built A) (spaces : List Space) (kind : ErrorKind) (trees : Trees) (traversed : ℕ) → LeadsToTree p trees → At (message spaces) (root ∷ []) trees traversed
@@ -75,7 +75,7 @@ form_error_at alloc p old (space ∷ spaces) kind trees traversed leads (at poin
 pub form_error_tree : {A S : Type 0} (alloc : Ghosts A S) (p : Pointer) (old : Built A) (kind : ErrorKind) → IsSet (LeadsToTree p) false old.spaces
     → FirstSegmentError alloc old kind ⊎ RootFormError StructFormError old.spaces kind
     → (form : Form) × (children : Trees) × LeadsToTree p (tree form children none) × StructFormError form kind
-form_error_tree alloc p old kind set form_errors = form_error_at alloc p old old.spaces kind set.trees set.traversed set.tree_is set.stands refl form_errors
+form_error_tree alloc p old kind set form_errors = form_error_at alloc p old old.spaces kind set.trees set.traversed set.tree_is set.is_at refl form_errors
 
 -- why what was set is not written to memory
 pub not_written : (message : List (List ℕ)) (error : Error) → WriterError (ByKind OutOfMemory) message error.kind → (error.kind ≡ DeviceFailed → Fails 0 0)

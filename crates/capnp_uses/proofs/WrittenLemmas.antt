@@ -12,14 +12,14 @@ use Rattle.capnp_frame.proofs.slices.AgreementLemmas.{limit_cases}
 use Rattle.capnp_frame.proofs.tables.LimitLemmas.{past_limit}
 use Rattle.capnp_layout.specs.Prelude.{Trees, At, at, root}
 use Rattle.capnp_wire.specs.Prelude.{HasWords}
-use Rattle.capnp_wire.proofs.layouts.LaidOutLemmas.{word_stands}
+use Rattle.capnp_wire.proofs.layouts.LaidOutLemmas.{word_is_there}
 use Rattle.capnp_build.specs.Prelude.{Space, Built, message, IsSet, IsPut}
 use Rattle.capnp_build.specs.declared.allocator.Allocator as allocator
-use Rattle.capnp_build.proofs.roots.NullLemmas.{root_stands}
+use Rattle.capnp_build.proofs.roots.NullLemmas.{root_is_there}
 use Rattle.capnp_message.specs.Seen.{ReadMessage}
 use Rattle.capnp.specs.declared.streams.Format.{Format}
-use Rattle.capnp.specs.Prelude.{ExternalError, by_format, ReadsMessage, OrFailsAtEnd, rules_of, StandsNext, IsTextOf, output_of}
-use Rattle.capnp.proofs.AppendedLemmas.{text_stands}
+use Rattle.capnp.specs.Prelude.{ExternalError, by_format, ReadsMessage, OrFailsAtEnd, rules_of, FoundNext, IsTextOf, output_of}
+use Rattle.capnp.proofs.AppendedLemmas.{text_found}
 use Rattle.capnp.proofs.FormatLemmas.{or_fails_failed}
 use Rattle.capnp.proofs.ReaderLemmas.{or_fails_accepted, or_fails_reads}
 use Rattle.capnp.proofs.RunLemmas.{format_lawful, format_requested, format_parts}
@@ -29,13 +29,13 @@ use Rattle.capnp_uses.proofs.AppendedLemmas.{memory_only}
 -- where there is a tree at the root, there is a segment
 pub has_segment : (spaces : List Space) (trees : Trees) (traversed : ℕ) → At (message spaces) (root ∷ []) trees traversed → 0 < length spaces
 has_segment spaces trees traversed (at points inside following) =
-    let word = word_stands (message spaces) root _ points in (root_stands spaces word.0 word.1).0
+    let word = word_is_there (message spaces) root _ points in (root_is_there spaces word.0 word.1).0
 
 -- what was added to nothing is its encoding, and no more
-added_stands : (rule : Padding) (format : Format) (limit : Option ℕ) (m : List (List ℕ)) (shown : List ℕ) → IsWritable m
-    → IsTextOf format m shown → IsWithinSegmentLimit m → KeepsLimit (lengths m) limit → StandsNext rule format limit m shown []
-added_stands rule format limit m shown writable here few size =
-    subst (λ (l : List ℕ). StandsNext rule format limit m l []) (append-nil shown) (text_stands rule format limit m shown [] writable few size here)
+added_found : (rule : Padding) (format : Format) (limit : Option ℕ) (m : List (List ℕ)) (shown : List ℕ) → IsWritable m
+    → IsTextOf format m shown → IsWithinSegmentLimit m → KeepsLimit (lengths m) limit → FoundNext rule format limit m shown []
+added_found rule format limit m shown writable here few size =
+    subst (λ (l : List ℕ). FoundNext rule format limit m l []) (append-nil shown) (text_found rule format limit m shown [] writable few size here)
 
 pub added_alone : (format : Format) (m : List (List ℕ)) (start new shown : List ℕ) → start ≡ [] → shown ≡ new
     → Adds (IsTextOf format m) start new → IsTextOf format m shown
@@ -43,31 +43,31 @@ added_alone format m start new shown none same (text, here, e) =
     subst (IsTextOf format m) (sym (same ∙ e ∙ ap (λ (l : List ℕ). l ++ text) none)) here
 
 -- without a limit of words
-unlimited : (rule : Padding) (format : Format) (limit : Option ℕ) (m : List (List ℕ)) (raw rest : List ℕ) → StandsNext rule format limit m raw rest
-    → StandsNext rule format None m raw rest
-unlimited rule format limit m raw rest stands = let within = stands.within in record {
-  text = stands.text;
-  is_text = stands.is_text;
+unlimited : (rule : Padding) (format : Format) (limit : Option ℕ) (m : List (List ℕ)) (raw rest : List ℕ) → FoundNext rule format limit m raw rest
+    → FoundNext rule format None m raw rest
+unlimited rule format limit m raw rest is_found = let within = is_found.within in record {
+  text = is_found.text;
+  is_text = is_found.is_text;
   within = record { some = within.some; few = within.few; each = within.each; size = tt };
-  spelled = stands.spelled;
+  spelled = is_found.spelled;
 }
 
 -- what is read of it is the message, which is within the limit
 read_again : (rule : Padding) (format : Format) (limit : Option ℕ) (read m : List (List ℕ)) (shown : List ℕ) (left : Option (List ℕ))
-    → StandsNext rule format None m shown [] → IfKnown (Some shown) left (StandsNext rule format limit read) → (read ≡ m) × KeepsLimit (lengths m) limit
-read_again rule format limit read m shown None stands found = absurd found
-read_again rule format limit read m shown (Some rest) stands found =
-    let same = ((format_parts rule format None).begins_once read m shown rest [] (unlimited rule format limit read shown rest found) stands).0 in
+    → FoundNext rule format None m shown [] → IfKnown (Some shown) left (FoundNext rule format limit read) → (read ≡ m) × KeepsLimit (lengths m) limit
+read_again rule format limit read m shown None is_found found = absurd found
+read_again rule format limit read m shown (Some rest) is_found found =
+    let same = ((format_parts rule format None).begins_once read m shown rest [] (unlimited rule format limit read shown rest found) is_found).0 in
     (same, subst (λ m. KeepsLimit (lengths m) limit) same found.within.size)
 
 -- past the limit of words it fails with that line of the table of errors
 reads_too_many : {S : Type 0} (rule : Padding) (format : Format) (limit : Option ℕ) (source : Ghosts S) (old new : S) (m : List (List ℕ)) (e : Error)
-    (shown : List ℕ) → StandsNext rule format None m shown [] → source.unread old ≡ Some shown → IsTooLarge (lengths m) limit
+    (shown : List ℕ) → FoundNext rule format None m shown [] → source.unread old ≡ Some shown → IsTooLarge (lengths m) limit
     → OrFailsAtEnd (ReadsStream source old new (rules_of rule format) limit) (Err e)
     → (e.kind ≡ DeviceFailed) ⊎ (e.kind ≡ OutOfMemory) ⊎ (e.kind ≡ MessageTooLarge (size_in_words m))
-reads_too_many rule format limit source old new m e shown stands unread over reads =
-    let requested = (format_requested rule format m shown []).1 (stands.text, stands.is_text, stands.spelled) in
-    let (left, line) = past_limit rule (format_lawful format) limit m shown [] requested (few_segments stands.within) over in
+reads_too_many rule format limit source old new m e shown is_found unread over reads =
+    let requested = (format_requested rule format m shown []).1 (is_found.text, is_found.is_text, is_found.spelled) in
+    let (left, line) = past_limit rule (format_lawful format) limit m shown [] requested (few_segments is_found.within) over in
     elim reads [
       | inl reported ↦ (rw unread at reported.exact) (MessageTooLarge (size_in_words m)) left line
       | inr (end, reported) ↦ absurd ((rw unread at reported.exact) (MessageTooLarge (size_in_words m)) left line)
@@ -79,12 +79,12 @@ reads_too_many rule format limit source old new m e shown stands unread over rea
 -- so of what is written and read nothing else comes than the limit and want of memory
 again_error : {S : Type 0} (rule : Padding) (format : Format) (limit : Option ℕ) (source : Ghosts S) (old new : S) (m : List (List ℕ)) (e : Error) (shown : List ℕ)
     → IsTextOf format m shown → IsWritable m → IsWithinSegmentLimit m → source.unread old ≡ Some shown → source.failures old ≡ 0 → source.failures new ≡ 0
-    → (StandsNext rule format limit m shown [] → ExternalError e.kind)
+    → (FoundNext rule format limit m shown [] → ExternalError e.kind)
     → OrFailsAtEnd (ReadsStream source old new (rules_of rule format) limit) (Err e)
     → ReadAgainError m limit e.kind
 again_error rule format limit source old new m e shown here writable few unread none still accepted reads = elim (limit_cases (lengths m) limit) [
-  | inr keeps ↦ inr (inr (memory_only e.kind (accepted (added_stands rule format limit m shown writable here few keeps)) never))
-  | inl over ↦ elim (reads_too_many rule format limit source old new m e shown (added_stands rule format None m shown writable here few tt) unread over reads) [
+  | inr keeps ↦ inr (inr (memory_only e.kind (accepted (added_found rule format limit m shown writable here few keeps)) never))
+  | inl over ↦ elim (reads_too_many rule format limit source old new m e shown (added_found rule format None m shown writable here few tt) unread over reads) [
     | inl device ↦ inr (inr (memory_only e.kind (inl device) never))
     | inr (inl memory) ↦ inr (inr memory)
     | inr (inr size) ↦ inr (inl (over, size))
@@ -102,11 +102,11 @@ pub written_and_read : {S : Type 0} (rule : Padding) (format : Format) (options 
     → ReadsWritten m options (λ reader. reader.segments) (λ reader. reader.options) r
 written_and_read rule format options source old new m (Ok x) shown here writable few unread none still reads =
     let limit = options.traversal_limit_in_words in
-    let again = read_again rule format limit x.segments m shown (source.unread new) (added_stands rule format None m shown writable here few tt) (rw unread at (reads.texts tt).found) in
+    let again = read_again rule format limit x.segments m shown (source.unread new) (added_found rule format None m shown writable here few tt) (rw unread at (reads.texts tt).found) in
     record { back = again.0; size = again.1; few = few; options_are = reads.options_are; errors = tt }
 written_and_read rule format options source old new m (Err e) shown here writable few unread none still reads =
     let accepted : (raw : List ℕ) → source.unread old ≡ Some raw → (message : List (List ℕ)) (rest : List ℕ)
-    → StandsNext rule format options.traversal_limit_in_words message raw rest → ExternalError e.kind
+    → FoundNext rule format options.traversal_limit_in_words message raw rest → ExternalError e.kind
     = λ raw is. rw is at (or_fails_accepted source old new (by_format rule format) options e tt reads) in
     record {
       back = tt;
@@ -120,8 +120,8 @@ written_and_read rule format options source old new m (Err e) shown here writabl
 -- the root of what is read is that of what was built
 pub tree_again : {X : Type 0} (has_tree : Trees → Type 0) (segments : X → List (List ℕ)) (r : Result X Error) (m : List (List ℕ)) → HasRootOf has_tree m
     → IfOk r (λ x. segments x ≡ m) → IfOk r (λ x. HasRootOf has_tree (segments x))
-tree_again has_tree segments (Err e) m stands back = tt
-tree_again has_tree segments (Ok x) m stands back = subst (HasRootOf has_tree) (sym back) stands
+tree_again has_tree segments (Err e) m is_found back = tt
+tree_again has_tree segments (Ok x) m has_root back = subst (HasRootOf has_tree) (sym back) has_root
 
 -- a message whose root is set, and that is not read back
 pub unread : {A S X : Type 0} (alloc : allocator.Ghosts A S) (has_tree : Trees → Type 0) (fails : ErrorKind → Type 0) (limit : Option ℕ) (old new : Built A) (r : Result X Error) → IsSet has_tree false new.spaces

@@ -6,16 +6,16 @@ use Rattle.capnp_frame.specs.declared.error.ErrorKind.{ErrorKind}
 use Rattle.capnp_frame.specs.declared.error.ErrorKind.TheVariants.{DeviceFailed, OutOfMemory}
 use Rattle.capnp_frame.specs.declared.serialize.segment_table.Padding.TheVariants.{Zero}
 use Rattle.capnp.specs.declared.streams.Format.{Format}
-use Rattle.capnp.specs.Prelude.{ExternalError, StandsNext, TakesForNext, EndsBy, IsStream}
+use Rattle.capnp.specs.Prelude.{ExternalError, FoundNext, TakesForNext, EndsBy, IsStream}
 
 -- What is returned of the first message of a device that gives these bytes.
 pub record ReadsFirst (format : Format) (limit : Option ℕ) (result : Result (Option (List (List ℕ))) Error) (bytes : List ℕ) : Type 0 where
   -- the bytes begin with an encoding of the message that is returned
-  pub found : IfOk result (λ found. IfSome found (λ message. (rest : List ℕ) × StandsNext Zero format limit message bytes rest))
+  pub found : IfOk result (λ found. IfSome found (λ message. (rest : List ℕ) × FoundNext Zero format limit message bytes rest))
   -- None is returned only where there are no bytes
   pub none : IfOk result (λ found. IfNone found (bytes ≡ []))
   -- where they begin with an encoding of a message within the limit, that message is returned, except for an external error
-  pub accepted : (message : List (List ℕ)) (rest : List ℕ) → StandsNext Zero format limit message bytes rest → MatchResult result
+  pub accepted : (message : List (List ℕ)) (rest : List ℕ) → FoundNext Zero format limit message bytes rest → MatchResult result
       (λ found. found ≡ Some message) (λ error. ExternalError error.kind)
   -- and where there are none None, except for the device's failure
   pub end : bytes ≡ [] → MatchResult result (λ found. found ≡ None) (λ error. error.kind ≡ DeviceFailed)

@@ -7,12 +7,12 @@ use Rattle.capnp_frame.specs.Prelude.{RulesError, no_alloc_rules, default_limit}
 use Rattle.capnp_wire.specs.Prelude.{default_root, IsCanonicalForm, Pointer, HasData, Reads}
 use Rattle.capnp_message.specs.Canonical.{HasForm, CanonicalFormError}
 use Rattle.capnp.specs.declared.streams.Format.TheVariants.{Packed}
-use Rattle.capnp.specs.Prelude.{BeginsFramed, StandsNext}
+use Rattle.capnp.specs.Prelude.{BeginsFramed, FoundNext}
 
 -- What is returned of the canonical words of the message that these bytes begin with; `words` is how they are seen.
 pub record ReturnsCanonical {T : Type 0} (bytes : List ℕ) (words : T → List ℕ) (result : Result T Error) : Type 0 where
   -- where they are returned, a message is there, and they are its canonical form
-  pub stands : IfOk result (λ form. (message : List (List ℕ)) × (rest : List ℕ) × BeginsFramed Zero default_limit message bytes rest
+  pub is_found : IfOk result (λ form. (message : List (List ℕ)) × (rest : List ℕ) × BeginsFramed Zero default_limit message bytes rest
       × IsCanonicalForm (default_root message) (words form))
   -- there is one such message
   pub form : (message : List (List ℕ)) (rest : List ℕ) → BeginsFramed Zero default_limit message bytes rest
@@ -31,5 +31,5 @@ AreFirstWords pointer pair = (words : List ℕ) × Reads pointer (λ form. HasDa
 
 -- and the pointer is the root of the packed message at the front of this text
 abbrev pub ShowsPackedStruct : List ℕ → ℕ × ℕ → Type 0
-ShowsPackedStruct text pair = (message : List (List ℕ)) × (rest : List ℕ) × StandsNext Zero Packed default_limit message text rest
+ShowsPackedStruct text pair = (message : List (List ℕ)) × (rest : List ℕ) × FoundNext Zero Packed default_limit message text rest
     × AreFirstWords (default_root message) pair

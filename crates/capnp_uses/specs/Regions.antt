@@ -3,12 +3,12 @@ use Rattle.std.specs.Prelude.{◌≡◌, ◌⊎◌, ℕ, ◌+◌, ◌≤◌, fal
 use Rattle.capnp_frame.specs.declared.error.ErrorKind.{ErrorKind}
 use Rattle.capnp_frame.specs.declared.error.ErrorKind.TheVariants.{OutOfMemory, AllocationTooLarge}
 use Rattle.capnp_wire.specs.Prelude.{Trees, HasWords}
-use Rattle.capnp_build.specs.Prelude.{Built, size_in_words, StandsAt}
+use Rattle.capnp_build.specs.Prelude.{Built, size_in_words, BlockIsAt}
 
 -- a block of this many words is just after the root's word in the one segment, and nothing else is
 -- used
-abbrev pub StandsAlone : {A : Type 0} → Built A → ℕ → Type 0
-StandsAlone message words = StandsAt message.location 0 1 words × (length message.spaces ≡ 1) × (size_in_words message.spaces ≡ 1 + words)
+abbrev pub IsOnlyBlock : {A : Type 0} → Built A → ℕ → Type 0
+IsOnlyBlock message words = BlockIsAt message.location 0 1 words × (length message.spaces ≡ 1) × (size_in_words message.spaces ≡ 1 + words)
 
 -- a region of this many words has no room for the root, or for a value after it: one more segment
 -- is asked for, unless the list of segments can't grow

@@ -10,7 +10,7 @@ use Rattle.capnp_wire.specs.Prelude.{Form, struct, Trees, none, tree, message_of
 use Rattle.capnp_build.specs.declared.allocator.Allocator.{Ghosts}
 use Rattle.capnp_build.specs.Prelude.{Space, Built, message, IsSet, FindsNoRoom, FoundNoRoom, InitWords, IsCleared, IsPut, FirstSegmentError, FailsFirstSegment, ClearedRootError, used_of}
 use Rattle.capnp.specs.declared.streams.Format.TheVariants.{Packed}
-use Rattle.capnp.specs.Prelude.{HasRootTree, StandsNext, TakesForNext, EndsBy, output_of}
+use Rattle.capnp.specs.Prelude.{HasRootTree, FoundNext, TakesForNext, EndsBy, output_of}
 
 -- an object without pointers is at the root of these segments
 abbrev pub HasPlainRoot : List (List ℕ) → Form → Type 0
@@ -88,7 +88,7 @@ pub record StaysUnread {A S : Type 0} (alloc : Ghosts A S) (has_tree : Trees →
 abbrev pub PackedStructError : List ℕ → ErrorKind → Type 0
 PackedStructError text kind = ((kind ≡ OutOfMemory) × TakesForNext Zero Packed default_limit text) ⊎ EndsBy Zero Packed default_limit (Some kind) text
     ⊎ ((text ≡ []) × (kind ≡ PrematureEndOfFile))
-    ⊎ ((segments : List (List ℕ)) × (rest : List ℕ) × StandsNext Zero Packed default_limit segments text rest
+    ⊎ ((segments : List (List ℕ)) × (rest : List ℕ) × FoundNext Zero Packed default_limit segments text rest
     × (NoWord (message_of segments) root kind ⊎ ViewError (default_root segments) StructFormError kind))
 
 -- this word in the place of the first data word of a struct, where it has one
@@ -103,4 +103,4 @@ pub record IsSetWithWord (has_tree : Trees → Type 0) (word : ℕ) (spaces : Li
   pub tree_is : has_tree (tree form children none)
   pub taken : TakesStruct form
   pub traversed : ℕ
-  pub stands : Root (message spaces) (with_first_word word form) children traversed
+  pub is_at : Root (message spaces) (with_first_word word form) children traversed

@@ -8,7 +8,7 @@ use Rattle.capnp_frame.specs.declared.io.Read.{Ghosts}
 use Rattle.capnp_frame.specs.declared.serialize.segment_table.Padding.TheVariants.{Zero}
 use Rattle.capnp_frame.specs.Prelude.{IsWithin, default_limit, TakesMemory, IsReaderKind, IfKnown, Advances, Fails, AreEncodings}
 use Rattle.capnp.specs.declared.streams.Format.{Format}
-use Rattle.capnp.specs.Prelude.{ExternalError, IsMemoryError, IsLog, grammar_of, gives_of, refuses_of, StandsNext, NextError, TakesForNext, EndsBy}
+use Rattle.capnp.specs.Prelude.{ExternalError, IsMemoryError, IsLog, grammar_of, gives_of, refuses_of, FoundNext, NextError, TakesForNext, EndsBy}
 
 -- What a call returns that reads past the next message of a stream, of zero padding, and returns
 -- whether there was one. `source` is what is seen of the source (the members of the trait Read),
@@ -18,11 +18,11 @@ pub record SkipsMessage {S : Type 0} (source : Ghosts S) (old new : S) (format :
   -- true is returned for a message within the limit whose encoding was next, and only that encoding
   -- is consumed
   pub passed : IfOk result (λ reported. IsTrue reported → (message : List (List ℕ)) × IsWithin message limit
-      × IfKnown (source.unread old) (source.unread new) (StandsNext Zero format limit message))
+      × IfKnown (source.unread old) (source.unread new) (FoundNext Zero format limit message))
   -- false is returned only where nothing is unread
   pub none : IfOk result (λ reported. IsFalse reported → IfSome (source.unread old) (λ raw. raw ≡ []))
   -- where such an encoding is next, true is returned, except for an external error
-  pub accepted : IfSome (source.unread old) (λ raw. (message : List (List ℕ)) (rest : List ℕ) → StandsNext Zero format limit message raw rest
+  pub accepted : IfSome (source.unread old) (λ raw. (message : List (List ℕ)) (rest : List ℕ) → FoundNext Zero format limit message raw rest
       → MatchResult result IsTrue (λ error. ExternalError error.kind))
   -- and where nothing is unread false, except for the device's failure
   pub end : source.unread old ≡ Some [] → MatchResult result IsFalse (λ error. error.kind ≡ DeviceFailed)
@@ -55,7 +55,7 @@ pub record ReadsTwo {X : Type 0} (format : Format) (stream : List ℕ) (segments
   -- the two that are returned begin the stream, the second one right after the first
   pub found : IfOk result (λ found. IfSome found (λ two. (rest : List ℕ) × BeginWith format (segments two.0) (segments two.1) stream rest))
   -- None is returned only where the stream is empty, or ends after the first
-  pub none : IfOk result (λ found. IfNone found ((stream ≡ []) ⊎ ((message : List (List ℕ)) × StandsNext Zero format default_limit message stream [])))
+  pub none : IfOk result (λ found. IfNone found ((stream ≡ []) ⊎ ((message : List (List ℕ)) × FoundNext Zero format default_limit message stream [])))
   -- where two messages begin the stream, they are returned, unless memory is lacking
   pub accepted : (first second : List (List ℕ)) (rest : List ℕ) → BeginWith format first second stream rest → MatchResult result
       (λ found. IsSomeAnd found (λ two. (segments two.0 ≡ first) × (segments two.1 ≡ second))) (λ error. error.kind ≡ OutOfMemory)
@@ -63,7 +63,7 @@ pub record ReadsTwo {X : Type 0} (format : Format) (stream : List ℕ) (segments
   pub empty : stream ≡ [] → IsOk result
   -- it fails as the reader of the first message does, or of the second one
   pub errors : IfErr result (λ error. NextMessageError format error.kind stream
-      ⊎ ((message : List (List ℕ)) × (rest : List ℕ) × StandsNext Zero format default_limit message stream rest × NextMessageError format error.kind rest))
+      ⊎ ((message : List (List ℕ)) × (rest : List ℕ) × FoundNext Zero format default_limit message stream rest × NextMessageError format error.kind rest))
 
 -- What is read of a log of two records, unless memory is lacking: both, and the last one ends where
 -- the log does to which they were appended.

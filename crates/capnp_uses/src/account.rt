@@ -80,14 +80,14 @@ pub struct ListReader<'a, S: ReaderSegments> {
 impl<'a, S: ReaderSegments> ListReader<'a, S> {
     /// The number of accounts.
     pub fn len(&self) -> u32
-        ensures { result ≡ length (struct_list_of S.segments self.now.accounts).rows }
+        ensures { result ≡ length (struct_list_of S.segments self.now.accounts).elements }
     {
         self.accounts.len()
     }
 
     /// The account of this index.
     pub fn get(&self, index: u32) -> Reader<'a, S>
-        requires { index < length (struct_list_of S.segments self.now.accounts).rows }
+        requires { index < length (struct_list_of S.segments self.now.accounts).elements }
         ensures { struct_of S.segments result.fields
             ≡ element_of (struct_list_of S.segments self.now.accounts) index }
     {
@@ -120,7 +120,7 @@ impl<'a, S: ReaderSegments> IndexMove for ListReader<'a, S> {
 
     ghost seen = { λ account. struct_of S.segments account.fields };
 
-    ghost size = { λ list. length (struct_list_of S.segments list.accounts).rows };
+    ghost size = { λ list. length (struct_list_of S.segments list.accounts).elements };
 
     ghost element = { λ list index. element_of (struct_list_of S.segments list.accounts) index };
 

@@ -13,7 +13,7 @@ use std::alloc::Global;
 /// Makes a text the root.
 pub fn write_text<A: Allocator>(message: &mut Builder<A>, bytes: &[u8]) -> Result<()>
     requires { length bytes.now < 2 ^ 29 }
-    ensures stands { OnOk result (HasRootForm message.new.spaces (numbers 2 (bytes.now ++ 0 ∷ []))) }
+    ensures has_root { OnOk result (HasRootForm message.new.spaces (numbers 2 (bytes.now ++ 0 ∷ []))) }
     ensures cleared { OnErr result (IsCleared A.Allocator message.old message.new) }
     ensures errors { IfErr result (λ error. ((2 ^ 29 - 2 < length bytes.now)
         × (error.kind ≡ ErrorKind.AllocationTooLarge (length bytes.now / 8 + 1)))
@@ -34,7 +34,7 @@ pub fn text_is_read_back<A: Allocator>(
     bytes: &[u8],
 ) -> Result<Vec<u8>>
     requires { length bytes.now < 2 ^ 29 }
-    ensures stands { OnOk result (HasRootForm message.new.spaces (numbers 2 (bytes.now ++ 0 ∷ []))) }
+    ensures has_root { OnOk result (HasRootForm message.new.spaces (numbers 2 (bytes.now ++ 0 ∷ []))) }
     ensures back { IfOk result (λ read. read.items ≡ bytes.now) }
     ensures errors { IfErr result (λ error. (error.kind ≡ ErrorKind.OutOfMemory)
         ⊎ ((2 ^ 29 - 2 < length bytes.now)
@@ -50,7 +50,7 @@ pub fn text_is_read_back<A: Allocator>(
 /// Makes data the root.
 pub fn write_data<A: Allocator>(message: &mut Builder<A>, bytes: &[u8]) -> Result<()>
     requires { length bytes.now < 2 ^ 29 }
-    ensures stands { OnOk result (HasRootForm message.new.spaces (numbers 2 bytes.now)) }
+    ensures has_root { OnOk result (HasRootForm message.new.spaces (numbers 2 bytes.now)) }
     ensures cleared { OnErr result (IsCleared A.Allocator message.old message.new) }
     ensures errors { IfErr result (λ error. RootRoomError A.Allocator
         (numbers 2 (replicate (length bytes.now) 0)) message.old error.kind) }
@@ -69,7 +69,7 @@ pub fn data_is_read_back<A: Allocator>(
     bytes: &[u8],
 ) -> Result<Vec<u8>>
     requires { length bytes.now < 2 ^ 29 }
-    ensures stands { OnOk result (HasRootForm message.new.spaces (numbers 2 bytes.now)) }
+    ensures has_root { OnOk result (HasRootForm message.new.spaces (numbers 2 bytes.now)) }
     ensures back { IfOk result (λ read. read.items ≡ bytes.now) }
     ensures errors { IfErr result (λ error. (error.kind ≡ ErrorKind.OutOfMemory)
         ⊎ RootRoomError A.Allocator
@@ -82,7 +82,7 @@ pub fn data_is_read_back<A: Allocator>(
 
 /// Makes a list of two words the root.
 pub fn write_numbers<A: Allocator>(message: &mut Builder<A>, first: u64, second: u64) -> Result<()>
-    ensures stands { OnOk result (HasRootForm message.new.spaces
+    ensures has_root { OnOk result (HasRootForm message.new.spaces
         (numbers 5 (first ∷ second ∷ []))) }
     ensures cleared { OnErr result (IsCleared A.Allocator message.old message.new) }
     ensures errors { IfErr result (λ error. RootRoomError A.Allocator
@@ -103,7 +103,7 @@ pub fn numbers_are_read_back<A: Allocator>(
     first: u64,
     second: u64,
 ) -> Result<Vec<u64>>
-    ensures stands { OnOk result (HasRootForm message.new.spaces
+    ensures has_root { OnOk result (HasRootForm message.new.spaces
         (numbers 5 (first ∷ second ∷ []))) }
     ensures back { IfOk result (λ read. read.items ≡ first ∷ second ∷ []) }
     ensures errors { IfErr result (λ error. (error.kind ≡ ErrorKind.OutOfMemory)
@@ -121,7 +121,7 @@ pub fn numbers_are_read_back<A: Allocator>(
 
 /// Makes a struct of two words the root.
 pub fn write_struct<A: Allocator>(message: &mut Builder<A>, first: u64, second: u64) -> Result<()>
-    ensures stands { OnOk result (HasRootForm message.new.spaces (struct (first ∷ second ∷ []))) }
+    ensures has_root { OnOk result (HasRootForm message.new.spaces (struct (first ∷ second ∷ []))) }
     ensures cleared { OnErr result (IsCleared A.Allocator message.old message.new) }
     ensures errors { IfErr result (λ error. RootRoomError A.Allocator
         (struct (0 ∷ 0 ∷ [])) message.old error.kind) }
@@ -138,7 +138,7 @@ pub fn a_struct_is_read_back<A: Allocator>(
     first: u64,
     second: u64,
 ) -> Result<(u64, u64)>
-    ensures stands { OnOk result (HasRootForm message.new.spaces (struct (first ∷ second ∷ []))) }
+    ensures has_root { OnOk result (HasRootForm message.new.spaces (struct (first ∷ second ∷ []))) }
     ensures back { IfOk result (λ read. read ≡ (first, second)) }
     ensures errors { IfErr result (λ error. RootRoomError A.Allocator
         (struct (0 ∷ 0 ∷ [])) message.old error.kind) }
@@ -150,7 +150,7 @@ pub fn a_struct_is_read_back<A: Allocator>(
 
 /// Makes the root null.
 pub fn write_null<A: Allocator>(message: &mut Builder<A>) -> Result<()>
-    ensures stands { OnOk result (HasRootForm message.new.spaces null) }
+    ensures has_root { OnOk result (HasRootForm message.new.spaces null) }
     ensures cleared { OnErr result (IsCleared A.Allocator message.old message.new) }
     ensures errors { IfErr result (λ error. RootRoomError A.Allocator
         null message.old error.kind) }
@@ -161,7 +161,7 @@ pub fn write_null<A: Allocator>(message: &mut Builder<A>) -> Result<()>
 
 /// Makes the root of a message null, and returns whether it is.
 pub fn null_is_read_back<A: Allocator>(message: &mut Builder<A>) -> Result<bool>
-    ensures stands { OnOk result (HasRootForm message.new.spaces null) }
+    ensures has_root { OnOk result (HasRootForm message.new.spaces null) }
     ensures back { IfOk result (λ is_null. is_null ≡ true) }
     ensures errors { IfErr result (λ error. RootRoomError A.Allocator
         null message.old error.kind) }

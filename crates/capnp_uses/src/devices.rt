@@ -5,7 +5,7 @@ ghost use Rattle.std.specs.Io.Cursor.{cursor_inner, cursor_position, cursor_rema
 ghost use Rattle.capnp_frame.specs.declared.error.ErrorKind.{ErrorKind};
 ghost use Rattle.capnp_frame.specs.declared.serialize.segment_table.Padding.TheVariants.{Zero};
 ghost use Rattle.capnp_frame.specs.Prelude.{IfKnown, Fails, next_in};
-ghost use Rattle.capnp.specs.Prelude.{unread_of, StandsNext};
+ghost use Rattle.capnp.specs.Prelude.{unread_of, FoundNext};
 ghost use Rattle.capnp_uses.specs.Devices.{ReadsFirst, ReadsAll};
 
 use crate::streaming::next_message;
@@ -44,7 +44,7 @@ pub fn first_of_device<R: io::Read + Drop>(
     // Just the message's encoding is consumed.
     ensures rest { IfOk result (λ done. IfOk done.read (λ found. IfSome found (λ reader.
         IfKnown (R.remaining device) (unread_of R.remaining done.rest)
-        (StandsNext Zero format options.traversal_limit_in_words reader.segments)))) }
+        (FoundNext Zero format options.traversal_limit_in_words reader.segments)))) }
     ensures options { IfOk result (λ done. IfOk done.read (λ found. IfSome found (λ reader.
         reader.options ≡ options))) }
     ensures failed { IfOk result (λ done. IfErr done.read (λ error.
@@ -72,7 +72,7 @@ pub fn first_of_cursor(
     ensures rest { IfOk result (λ done. IfOk done.read (λ found. IfSome found (λ reader.
         IfKnown (Some (drop (cursor_position cursor) (cursor_inner cursor).items))
         (unread_of (cursor_remaining (λ bytes. Some bytes.items)) done.rest)
-        (StandsNext Zero format options.traversal_limit_in_words reader.segments)))) }
+        (FoundNext Zero format options.traversal_limit_in_words reader.segments)))) }
     ensures options { IfOk result (λ done. IfOk done.read (λ found. IfSome found (λ reader.
         reader.options ≡ options))) }
     ensures failed { IfOk result (λ done. IfErr done.read (λ error.

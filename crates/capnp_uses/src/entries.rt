@@ -13,7 +13,7 @@ use capnp::{Result, struct_list, text};
 /// The amount of an entry, where there is such an entry.
 pub fn amount_of<S: ReaderSegments>(entries: &struct_list::Reader<'_, S>, index: u32) -> Option<i32>
     ensures { let list = struct_list_of S.segments entries.now in MatchOption result
-        (length list.rows ≤ index) (λ amount. (index < length list.rows)
+        (length list.elements ≤ index) (λ amount. (index < length list.elements)
         × (amount ≡ cast_signed w32 (field (element_of list index).words 32 0))) }
 {
     if index >= entries.len() {
@@ -25,7 +25,7 @@ pub fn amount_of<S: ReaderSegments>(entries: &struct_list::Reader<'_, S>, index:
 /// Whether an entry is paid: true where an older writer left the field out, since the data section
 /// has the bit XORed with the default.
 pub fn is_paid<S: ReaderSegments>(entries: &struct_list::Reader<'_, S>, index: u32) -> bool
-    requires { index < length (struct_list_of S.segments entries.now).rows }
+    requires { index < length (struct_list_of S.segments entries.now).elements }
     ensures { let entry = element_of (struct_list_of S.segments entries.now) index in
         result ≡ (bit_xor (field entry.words 1 32) 1 == 1) }
 {
@@ -37,7 +37,7 @@ pub fn note_of<'a, S: ReaderSegments>(
     entries: &struct_list::Reader<'a, S>,
     index: u32,
 ) -> Result<text::Reader<'a>>
-    requires { index < length (struct_list_of S.segments entries.now).rows }
+    requires { index < length (struct_list_of S.segments entries.now).elements }
     ensures { let entry = element_of (struct_list_of S.segments entries.now) index in
         MatchResult result (λ note. Reads (pointer_in entry 0) (λ form. IsText form note.bytes.now))
         (λ error. ViewError (pointer_in entry 0) TextFormError error.kind) }

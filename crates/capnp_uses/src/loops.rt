@@ -16,7 +16,7 @@ use capnp::{
 pub fn inwards<'a, S: ReaderSegments, E: EnumElement + Drop>(
     tags: &TextList<'a, S>,
     scans: &DataList<'a, S>,
-    rows: &ListList<'a, S, NumberList<'a, u32>>,
+    lists: &ListList<'a, S, NumberList<'a, u32>>,
     parts: &StructList<'a, S>,
     states: &EnumList<'a, E>,
     weights: &NumberList<'a, u32>,
@@ -27,8 +27,8 @@ pub fn inwards<'a, S: ReaderSegments, E: EnumElement + Drop>(
         sum = sum.saturating_add(tag?.len() as u64);
         for scan in scans.iter() {
             sum = sum.saturating_add(scan?.len() as u64);
-            for row in rows.iter() {
-                sum = sum.saturating_add(row?.len() as u64);
+            for list in lists.iter() {
+                sum = sum.saturating_add(list?.len() as u64);
                 for part in parts.iter() {
                     sum = sum.saturating_add(part.get_data_field::<u32>(0) as u64);
                     for _state in states.iter() {
@@ -51,7 +51,7 @@ pub fn inwards<'a, S: ReaderSegments, E: EnumElement + Drop>(
 pub fn outwards(
     tags: &text_list::Reader<'_, OwnedSegments>,
     scans: &data_list::Reader<'_, OwnedSegments>,
-    rows: &RowsReader<'_>,
+    lists: &ListsReader<'_>,
     parts: &struct_list::Reader<'_, OwnedSegments>,
     weights: &primitive_list::Reader<'_, u32>,
     pointers: &any_pointer_list::Reader<'_, OwnedSegments>,
@@ -63,8 +63,8 @@ pub fn outwards(
             sum = sum.saturating_add(weight as u64);
             for part in parts {
                 sum = sum.saturating_add(part.get_data_field::<u32>(0) as u64);
-                for row in rows {
-                    sum = sum.saturating_add(row?.len() as u64);
+                for list in lists {
+                    sum = sum.saturating_add(list?.len() as u64);
                     for scan in scans {
                         sum = sum.saturating_add(scan?.len() as u64);
                         for tag in tags {
@@ -79,4 +79,4 @@ pub fn outwards(
 }
 
 /// A list of lists of numbers in a message that was read.
-pub type RowsReader<'a> = list_list::Reader<'a, OwnedSegments, primitive_list::Reader<'a, u32>>;
+pub type ListsReader<'a> = list_list::Reader<'a, OwnedSegments, primitive_list::Reader<'a, u32>>;

@@ -22,7 +22,7 @@ pub fn a_struct_is_read_packed<A: Allocator>(
     first: u64,
     second: u64,
 ) -> Result<(u64, u64)>
-    ensures stands { OnOk result (HasRootForm message.new.spaces (struct (first ∷ second ∷ []))) }
+    ensures has_root { OnOk result (HasRootForm message.new.spaces (struct (first ∷ second ∷ []))) }
     ensures back { IfOk result (λ read. read ≡ (first, second)) }
     ensures errors { IfErr result (λ error. SegmentCountError (output_of message.new) error.kind
         ⊎ (error.kind ≡ ErrorKind.OutOfMemory)
@@ -58,7 +58,7 @@ pub fn read_packed_words(alloc: Global, text: &[u8]) -> Result<(u64, u64)>
         IsPackedEncodingOf message text.now → HasPlainRoot message (struct (first ∷ second ∷ [])) →
         IfOk result (λ read. read ≡ (first, second)) }
     // Else it returns words only of what is there.
-    ensures stands { IfOk result (λ read. ShowsPackedStruct text.now read) }
+    ensures is_found { IfOk result (λ read. ShowsPackedStruct text.now read) }
     // It succeeds, unless memory is lacking or the traversal limit is met.
     ensures found { (message : List (List ℕ)) (first second : ℕ) → IsWritable message →
         IsWithinSegmentLimit message → KeepsLimit (lengths message) default_limit →

@@ -4,7 +4,7 @@ ghost use Rattle.capnp_frame.specs.declared.error.ErrorKind.TheVariants.{Segment
 ghost use Rattle.capnp_wire.specs.Prelude.{HasWords, WordsError};
 ghost use Rattle.capnp_build.specs.Prelude.{IsSet};
 ghost use Rattle.capnp_message.specs.Region.{IsAvailable};
-ghost use Rattle.capnp_uses.specs.Regions.{StandsAlone, RegionRoomError};
+ghost use Rattle.capnp_uses.specs.Regions.{IsOnlyBlock, RegionRoomError};
 
 use capnp::Result;
 use capnp::laws::a_single_region_comes_home;
@@ -23,8 +23,8 @@ pub fn set_in_region<'a, T, V: SetterInput<T> + Drop>(
     ensures fits { (words : ℕ) → HasWords (V.has_tree value) false words →
         words < length region.old / 8 → IsOk result }
     ensures set { IfOk result (λ message. IsSet (V.has_tree value) false message.spaces) }
-    ensures stands { IfOk result (λ message. (words : ℕ) × HasWords (V.has_tree value) false words
-        × (words < length region.old / 8 → StandsAlone message words)) }
+    ensures only_block { IfOk result (λ message. (words : ℕ) × HasWords (V.has_tree value) false words
+        × (words < length region.old / 8 → IsOnlyBlock message words)) }
     ensures available { IfErr result (λ error. error.kind ≡ SegmentTaken →
         WordsError (V.has_tree value) (V.fails value) false error.kind) }
     // It fails as measuring the value does, or for want of room.

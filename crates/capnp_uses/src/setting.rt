@@ -38,7 +38,7 @@ pub fn set_tree_and_word<A: Allocator, S: ReaderSegments>(
         OnOk result ((traversed : ℕ)
         × Root (message built.new.spaces) (struct (slice_set words 0 word)) children traversed) }
     // Where it succeeds, the pointer leads to a struct, or to null, and then the root is null.
-    ensures stands { OnOk result (IsSetWithWord (LeadsToTree (pointer_of S.segments source.entry))
+    ensures is_set { OnOk result (IsSetWithWord (LeadsToTree (pointer_of S.segments source.entry))
         word built.new.spaces) }
     // It fails as setting the root does, and then the root is null, or where what is set is no
     // struct.

@@ -1,7 +1,7 @@
 -- Lists of structs.
 pub mod StructListLemmas
-pub mod StructRowLemmas
+pub mod ElementWriteLemmas
 pub mod StructListValueLemmas
 pub mod StructListCopyLemmas
-pub mod RowMeasureLemmas
-pub mod KeptRowLemmas
+pub mod ElementMeasureLemmas
+pub mod ElementKeptLemmas

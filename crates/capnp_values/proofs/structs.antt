@@ -1,5 +1,5 @@
--- Structs: their data words, and their rows of pointers.
+-- Structs: their data words, and their pointer fields.
 pub mod KeptLemmas
-pub mod RowLemmas
+pub mod FieldWriteLemmas
 pub mod StructLemmas
 pub mod SectionLemmas

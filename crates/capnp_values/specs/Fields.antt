@@ -1,4 +1,4 @@
--- Rows of pointer fields (src/fields.rt).
+-- Pointer fields (src/fields.rt).
 use Rattle.std.specs.Prelude.{◌≡◌, ◌⊎◌, ℕ, zero, suc, ◌+◌, ◌*◌, ◌^◌, ◌<◌, ◌≤◌, Bool, true, false, List}
 use Rattle.capnp_frame.specs.declared.error.ErrorKind.{ErrorKind}
 use Rattle.capnp_layout.specs.Tree.{is_null}
@@ -11,8 +11,8 @@ pub record IsPart (has_tree : Trees → Type 0) (form : Form) (children : Trees)
   pub rooms : AllHaveRoom (tree form children none)
   pub few : total_words (tree form children none) < 2 ^ 29
 
--- a value in front of a row
-pub record IsRow (has_tree has_trees : Trees → Type 0) (trees : Trees) : Type 0 where
+-- a value in front of others
+pub record IsValueInFront (has_tree has_trees : Trees → Type 0) (trees : Trees) : Type 0 where
   pub form : Form
   pub children : Trees
   pub rest : Trees
@@ -27,36 +27,36 @@ FieldsError has_tree fails rest_fails kind =
     WordsError has_tree fails false kind
     ⊎ ((words : ℕ) × HasWords has_tree false words × rest_fails kind)
 
--- a row of this many trees
+-- this many trees
 pub record IsSettled (size : ℕ) (trees : Trees) : Type 0 where
   pub many : count trees ≡ size
   pub rooms : AllHaveRoom trees
   pub few : total_words trees ≤ size * 2 ^ 29
 
--- the pointers that are kept of a row: in canonical form without nulls at the end
-abbrev pub kept_row : Bool → Trees → Trees
-kept_row true trees = cut_nulls (trim trees)
-kept_row false trees = trees
+-- the pointers that are kept of fields: in canonical form without nulls at the end
+abbrev pub kept_fields : Bool → Trees → Trees
+kept_fields true trees = cut_nulls (trim trees)
+kept_fields false trees = trees
 
--- A value is left out of a row that keeps n pointers after it: in canonical form a null one, where it keeps none.
+-- A value is left out where n pointers are kept after it: in canonical form a null one, where it keeps none.
 abbrev pub is_left_out : Bool → ℕ → Form → Bool
 is_left_out true zero form = is_null form
 is_left_out true (suc n) form = false
 is_left_out false n form = false
 
--- the trees of a row, and their words
+-- the trees of fields, and their words
 abbrev pub HasTotal : (Trees → Type 0) → ℕ → Type 0
 HasTotal has_trees words = (trees : Trees) × has_trees trees × (words ≡ total_words trees)
 
--- the first n pointers of a row can be written, and what they lead to from a word of a block on
-pub record CanWriteRow (has_trees : Trees → Type 0) (canonical : Bool) (n next room : ℕ) : Type 0 where
+-- the first n pointers of fields can be written, and what they lead to from a word of a block on
+pub record CanWriteFields (has_trees : Trees → Type 0) (canonical : Bool) (n next room : ℕ) : Type 0 where
   pub trees : Trees
   pub trees_are : has_trees trees
   pub some : n ≤ count trees
   pub fits : next + total_words (first n (output canonical trees)) ≤ room
 
--- the first n pointers of a row are in the slots of a block from this one on, and what they lead to
+-- the first n pointers of fields are in the slots of a block from this one on, and what they lead to
 -- is in its words from `next` on, up to the first free one
-pub record IsRowWritten (has_trees : Trees → Type 0) (canonical : Bool) (slot n next : ℕ) (old new : List ℕ) (free : ℕ) : Type 0 where
+pub record AreFieldsWritten (has_trees : Trees → Type 0) (canonical : Bool) (slot n next : ℕ) (old new : List ℕ) (free : ℕ) : Type 0 where
   pub words_are : (trees : Trees) → has_trees trees → new ≡ fill (run slot n) next (first n (output canonical trees)) old
   pub next_is : (trees : Trees) → has_trees trees → free ≡ next + total_words (first n (output canonical trees))

@@ -4,12 +4,12 @@ use Rattle.std.specs.Prelude.{◌≡◌, ◌⊎◌, ℕ, ◌+◌, ◌-◌, ◌^�
 use Rattle.capnp_frame.specs.declared.error.ErrorKind.{ErrorKind}
 use Rattle.capnp_frame.specs.declared.error.ErrorKind.TheVariants.{AllocationTooLarge}
 use Rattle.capnp_layout.specs.Prelude.{pointers, Trees, none, tree, total_words, run, output, fill}
-use Rattle.capnp_values.specs.Fields.{IsRow, FieldsError}
+use Rattle.capnp_values.specs.Fields.{IsValueInFront, FieldsError}
 
 -- values in order have these trees, each with room and of fewer than 2 ^ 29 words as it is
 abbrev pub AreItems : {V : Type 0} → (V → Trees → Type 0) → List V → Trees → Type 0
 AreItems has_tree [] trees = trees ≡ none
-AreItems has_tree (value ∷ values) trees = IsRow (has_tree value) (λ t. AreItems has_tree values t) trees
+AreItems has_tree (value ∷ values) trees = IsValueInFront (has_tree value) (λ t. AreItems has_tree values t) trees
 
 -- the first value that fails, fails with this kind
 abbrev pub ValuesError : {V : Type 0} → (V → Trees → Type 0) → (V → ErrorKind → Type 0) → List V → ErrorKind → Type 0

@@ -1,8 +1,8 @@
 -- Where a list of structs is in a block (src/tagged.rt). Encoding document, "Lists", the elements of code 7.
 use Rattle.std.specs.Prelude.{ℕ, ◌+◌, ◌*◌, ◌^◌, ◌<◌, ◌≤◌, Bool, List, length}
 use Rattle.capnp_layout.specs.Prelude.{Trees}
-use Rattle.capnp_values.specs.Fields.{CanWriteRow}
-use Rattle.capnp_values.specs.StructLists.{HasRoomForRows}
+use Rattle.capnp_values.specs.Fields.{CanWriteFields}
+use Rattle.capnp_values.specs.StructLists.{HasRoomForElements}
 
 -- a pointer and a tag can say that there are n structs of d data words and p pointers
 pub record AreDeclared (n d p : ℕ) : Type 0 where
@@ -22,10 +22,10 @@ pub record ListPlace {V : Type 0} (words : V → List ℕ) (has_trees : V → Tr
   pub declared_is : AreDeclared (length values) d p
   pub size : IsDeclared (length values) d p e m
   pub begin_within : next + 1 + length values * (e + m) ≤ room
-  pub rows : HasRoomForRows words has_trees canonical e m d p values (next + 1 + length values * (e + m)) room
+  pub elements : HasRoomForElements words has_trees canonical e m d p values (next + 1 + length values * (e + m)) room
 
 -- an element of d data words and m pointers has room in a block from this word on, and what it
 -- leads to from another one on
 pub record ElementPlace (has_trees : Trees → Type 0) (canonical : Bool) (d m at next room : ℕ) : Type 0 where
-  pub can : CanWriteRow has_trees canonical m next room
+  pub can : CanWriteFields has_trees canonical m next room
   pub before_it : at + d + m ≤ next

@@ -1,4 +1,4 @@
--- Lists of structs (src/struct_list.rt), and the elements that are in them (src/rows.rt).
+-- Lists of structs (src/struct_list.rt), and the elements that are in them (src/struct_elements.rt).
 -- Encoding document, "Lists", the elements of code 7.
 use Rattle.std.specs.Prelude.{◌≡◌, ◌⊎◌, ℕ, ◌+◌, ◌-◌, ◌*◌, ◌^◌, ◌<◌, ◌≤◌, min, Bool, true, false, List, [], ◌∷◌, length, map, take, All, Result, IfOk}
 use Rattle.capnp_frame.specs.declared.error.Error.{Error}
@@ -8,29 +8,29 @@ use Rattle.capnp_layout.specs.Prelude.{structs, Trees, none, tree, total_words, 
 use Rattle.capnp_wire.specs.declared.traits.TreeWords.{TreeWords}
 use Rattle.capnp_values.specs.Measured.{Measures}
 
--- the row of trees of one struct, in front of those of others
-pub record IsRowInFront (has_row has_rows : Trees → Type 0) (trees : Trees) : Type 0 where
-  pub row : Trees
+-- the trees of one struct's fields, in front of those of others
+pub record IsStructInFront (has_fields has_rest : Trees → Type 0) (trees : Trees) : Type 0 where
+  pub fields : Trees
   pub rest : Trees
-  pub whole : trees ≡ before row rest
-  pub row_is : has_row row
-  pub others : has_rows rest
+  pub whole : trees ≡ before fields rest
+  pub fields_is : has_fields fields
+  pub others : has_rest rest
 
--- the rows of some structs, one after the other, are these trees
-abbrev pub AreRows : {V : Type 0} → (V → Trees → Type 0) → List V → Trees → Type 0
-AreRows has_trees [] trees = trees ≡ none
-AreRows has_trees (value ∷ values) trees = IsRowInFront (has_trees value) (λ t. AreRows has_trees values t) trees
+-- the fields of some structs, one struct after the other, are these trees
+abbrev pub AreElements : {V : Type 0} → (V → Trees → Type 0) → List V → Trees → Type 0
+AreElements has_trees [] trees = trees ≡ none
+AreElements has_trees (value ∷ values) trees = IsStructInFront (has_trees value) (λ t. AreElements has_trees values t) trees
 
--- the first of the rows that fails, fails with this kind
+-- the first struct that fails, fails with this kind
 abbrev pub ElementsError : {V : Type 0} → (V → Trees → Type 0) → (V → ErrorKind → Type 0) → List V → ErrorKind → Type 0
 ElementsError has_trees fails [] kind = ⊥
 ElementsError has_trees fails (value ∷ values) kind =
-    fails value kind ⊎ ((row : Trees) × has_trees value row × ElementsError has_trees fails values kind)
+    fails value kind ⊎ ((fields : Trees) × has_trees value fields × ElementsError has_trees fails values kind)
 
 -- the list of some structs, each of d data words and p pointers
 pub record IsStructList {V : Type 0} (words : V → List ℕ) (has_trees : V → Trees → Type 0) (d p : ℕ) (values : List V) (trees : Trees) : Type 0 where
   pub children : Trees
-  pub children_is : AreRows has_trees values children
+  pub children_is : AreElements has_trees values children
   pub few_words : d < 2 ^ 16
   pub few_pointers : p < 2 ^ 16
   pub few : length values < 2 ^ 29
@@ -44,7 +44,7 @@ TooManyStructs n d p kind =
     ⊎ ((d < 2 ^ 16) × (p < 2 ^ 16) × (2 ^ 29 ≤ n) × (kind ≡ AllocationTooLarge (min n (2 ^ 32 - 1))))
     ⊎ ((d < 2 ^ 16) × (p < 2 ^ 16) × (n < 2 ^ 29) × (2 ^ 29 ≤ n * (d + p)) × (kind ≡ AllocationTooLarge (min (n * (d + p)) (2 ^ 32 - 1))))
 
--- there are too many of them, or one of their rows fails
+-- there are too many of them, or one of them fails
 abbrev pub StructListError : {V : Type 0} → (V → Trees → Type 0) → (V → ErrorKind → Type 0) → ℕ → ℕ → List V → ErrorKind → Type 0
 StructListError has_trees fails d p values kind =
     TooManyStructs (length values) d p kind
@@ -53,38 +53,38 @@ StructListError has_trees fails d p values kind =
 -- The data words and the pointers that each element keeps: in canonical form as much as the largest
 -- of them needs. And the trees that the first m of each p pointers lead to.
 abbrev pub element_data : Bool → ℕ → List (List ℕ) → ℕ
-element_data true d rows = least_data rows
-element_data false d rows = d
+element_data true d elements = least_data elements
+element_data false d elements = d
 
 abbrev pub element_pointers : Bool → ℕ → List (List ℕ) → Trees → ℕ
-element_pointers true p rows children = least_pointers p rows (trim children)
-element_pointers false p rows children = p
+element_pointers true p elements children = least_pointers p elements (trim children)
+element_pointers false p elements children = p
 
 abbrev pub shown : Bool → ℕ → ℕ → List (List ℕ) → Trees → Trees
-shown canonical m p rows children = narrowed m p rows (output canonical children)
+shown canonical m p elements children = narrowed m p elements (output canonical children)
 
--- each row has d words
+-- each element has d words of data
 abbrev pub AreEven : ℕ → List (List ℕ) → Type 0
-AreEven d rows = All (λ row. (length row ≡ d) × All (λ w. w < 2 ^ 64) row) rows
+AreEven d elements = All (λ element. (length element ≡ d) × All (λ w. w < 2 ^ 64) element) elements
 
 -- what is measured of some structs of d data words each: the words of all that they lead to, or why
 -- one of them fails
-pub record MeasuresRows {V : Type 0} (words : V → List ℕ) (has_trees : V → Trees → Type 0) (fails : V → ErrorKind → Type 0) (canonical : Bool) (d : ℕ) (values : List V) (result : Result TreeWords Error) : Type 0 where
-  pub measured : Measures (λ t. AreRows has_trees values t) (λ k. ElementsError has_trees fails values k) canonical result
+pub record MeasuresElements {V : Type 0} (words : V → List ℕ) (has_trees : V → Trees → Type 0) (fails : V → ErrorKind → Type 0) (canonical : Bool) (d : ℕ) (values : List V) (result : Result TreeWords Error) : Type 0 where
+  pub measured : Measures (λ t. AreElements has_trees values t) (λ k. ElementsError has_trees fails values k) canonical result
   pub even : IfOk result (λ _. AreEven d (map words values))
 
--- rows from this word of a block on, each in front of its p pointers, and what these lead to from
+-- elements from this word of a block on, each in front of its p pointers, and what these lead to from
 -- another word on
-abbrev pub fill_rows : ℕ → ℕ → List (List ℕ) → ℕ → Trees → List ℕ → List ℕ
-fill_rows p at [] next children block = block
-fill_rows p at (row ∷ rows) next children block =
-    fill_rows p (at + length row + p) rows (next + total_words (first p children)) (following p children) (fill (run (at + length row) p) next (first p children) (put at row block))
+abbrev pub fill_elements : ℕ → ℕ → List (List ℕ) → ℕ → Trees → List ℕ → List ℕ
+fill_elements p at [] next children block = block
+fill_elements p at (element ∷ elements) next children block =
+    fill_elements p (at + length element + p) elements (next + total_words (first p children)) (following p children) (fill (run (at + length element) p) next (first p children) (put at element block))
 
 -- d words and m pointers are kept of each of some structs, and what these lead to has room in a
 -- block from this word on
-pub record HasRoomForRows {V : Type 0} (words : V → List ℕ) (has_trees : V → Trees → Type 0) (canonical : Bool) (d m most p : ℕ) (values : List V) (next room : ℕ) : Type 0 where
+pub record HasRoomForElements {V : Type 0} (words : V → List ℕ) (has_trees : V → Trees → Type 0) (canonical : Bool) (d m most p : ℕ) (values : List V) (next room : ℕ) : Type 0 where
   pub children : Trees
-  pub children_is : AreRows has_trees values children
+  pub children_is : AreElements has_trees values children
   pub few_words : d < 2 ^ 16
   pub few_pointers : p < 2 ^ 16
   pub data_fits : d ≤ most
@@ -93,7 +93,7 @@ pub record HasRoomForRows {V : Type 0} (words : V → List ℕ) (has_trees : V �
 
 -- the elements of a list are in a block from this word on, and what their pointers lead to from
 -- another one on, up to the first free word
-pub record AreRowsWritten {V : Type 0} (words : V → List ℕ) (has_trees : V → Trees → Type 0) (canonical : Bool) (d m p : ℕ) (values : List V) (at next : ℕ) (old new : List ℕ) (free : ℕ) : Type 0 where
-  pub words_are : (children : Trees) → AreRows has_trees values children
-      → new ≡ fill_rows m at (map (take d) (map words values)) next (shown canonical m p (map words values) children) old
-  pub next_is : (children : Trees) → AreRows has_trees values children → free ≡ next + total_words (shown canonical m p (map words values) children)
+pub record AreElementsWritten {V : Type 0} (words : V → List ℕ) (has_trees : V → Trees → Type 0) (canonical : Bool) (d m p : ℕ) (values : List V) (at next : ℕ) (old new : List ℕ) (free : ℕ) : Type 0 where
+  pub words_are : (children : Trees) → AreElements has_trees values children
+      → new ≡ fill_elements m at (map (take d) (map words values)) next (shown canonical m p (map words values) children) old
+  pub next_is : (children : Trees) → AreElements has_trees values children → free ≡ next + total_words (shown canonical m p (map words values) children)

@@ -1,11 +1,11 @@
--- Structs of data words and of a row of pointer fields (src/struct_value.rt).
+-- Structs of data words and of pointer fields (src/struct_value.rt).
 -- Encoding document, "Structs".
 use Rattle.std.specs.Prelude.{◌≡◌, ◌⊎◌, ℕ, ◌^◌, ◌<◌, ◌≤◌, Bool, true, false, List, length}
 use Rattle.capnp_frame.specs.declared.error.ErrorKind.{ErrorKind}
 use Rattle.capnp_frame.specs.declared.error.ErrorKind.TheVariants.{AllocationTooLarge}
 use Rattle.capnp_layout.specs.Prelude.{struct, Trees, none, tree, cut_zeros}
 
--- data words, and a row of this many pointers
+-- data words, and this many pointers
 pub record IsStruct (words : List ℕ) (size : ℕ) (has_trees : Trees → Type 0) (trees : Trees) : Type 0 where
   pub children : Trees
   pub children_is : has_trees children
@@ -13,7 +13,7 @@ pub record IsStruct (words : List ℕ) (size : ℕ) (has_trees : Trees → Type 
   pub few_pointers : size < 2 ^ 16
   pub whole : trees ≡ tree (struct words) children none
 
--- a pointer can't say that there are this many words or pointers, or the row fails
+-- a pointer can't say that there are this many words or pointers, or the fields fail
 abbrev pub StructError : ℕ → ℕ → (ErrorKind → Type 0) → ErrorKind → Type 0
 StructError words size fails kind =
     ((2 ^ 16 ≤ words ⊎ 2 ^ 16 ≤ size) × (kind ≡ AllocationTooLarge (2 ^ 16)))

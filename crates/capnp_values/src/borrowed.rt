@@ -1,7 +1,7 @@
 //! Values that are borrowed.
 ghost use Rattle.std.specs.Prelude.{◌≡◌};
 
-mod row;
+mod sections;
 
 use capnp_frame::Result;
 use capnp_wire::traits::{Copied, SetterInput, TreeWords};

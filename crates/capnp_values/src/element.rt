@@ -1,7 +1,7 @@
 //! Structs as elements of lists.
 ghost use Rattle.std.specs.Prelude.{◌≡◌, ℕ, ◌^◌, ◌<◌, List, All, length};
 
-/// A struct that can be an element of a list: its data words, in addition to its row of
+/// A struct that can be an element of a list: its data words, in addition to its
 /// [`Fields`](crate::fields::Fields).
 pub trait Element {
     /// How many data words each has, for contracts.

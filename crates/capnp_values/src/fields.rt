@@ -1,11 +1,11 @@
-//! Rows of pointer fields: the pointer sections of structs (encoding document, "Structs").
+//! Pointer fields: the pointer sections of structs (encoding document, "Structs").
 ghost use Rattle.std.specs.Prelude.{◌≡◌, ◌+◌, ◌<◌, ◌≤◌, ◌^◌, ℕ, length, min, Ok, MatchResult};
 ghost use Rattle.std.specs.Result.{IsErrAnd};
 ghost use Rattle.capnp_frame.specs.declared.error.ErrorKind.{ErrorKind};
 ghost use Rattle.capnp_layout.specs.Prelude.{words_of, Trees, count, total_words};
 ghost use Rattle.capnp_wire.specs.Prelude.{IsFreeFrom};
 ghost use Rattle.capnp_values.specs.Measured.{Measures};
-ghost use Rattle.capnp_values.specs.Fields.{IsSettled, HasTotal, kept_row, CanWriteRow, IsRowWritten};
+ghost use Rattle.capnp_values.specs.Fields.{IsSettled, HasTotal, kept_fields, CanWriteFields, AreFieldsWritten};
 
 mod field;
 mod no_fields;
@@ -15,7 +15,7 @@ use capnp_wire::traits::TreeWords;
 pub use field::Field;
 pub use no_fields::NoFields;
 
-/// A row of pointer fields, each set to a value of its own.
+/// The pointer fields of a struct, each set to a value of its own.
 pub trait Fields {
     /// How many pointer fields there are.
     ghost size: { ℕ };
@@ -23,7 +23,7 @@ pub trait Fields {
     /// The trees of the values, in order.
     ghost has_trees: { Self → Trees → Type 0 };
 
-    /// With which errors the row fails: a value has no tree, or a tree of 2^29 words or more.
+    /// With which errors the fields fail: a value has no tree, or a tree of 2^29 words or more.
     ghost fails: { Self → ErrorKind → Type 0 };
 
     /// The number of pointer fields; 2^16, more than a struct may have, where there are more than
@@ -31,14 +31,14 @@ pub trait Fields {
     fn count() -> u32
         ensures { result ≡ min size (2 ^ 16) };
 
-    /// The number of words of all that the row's pointers lead to.
+    /// The number of words of all that the pointers lead to.
     ///
     /// Fails with a kind that `fails` names.
     fn measure(&self, canonical: bool) -> Result<TreeWords>
         requires { size < 2 ^ 16 }
         ensures { Measures (has_trees self.now) (fails self.now) canonical result };
 
-    /// The number of words of all that the row's pointers lead to, with each value as it is.
+    /// The number of words of all that the pointers lead to, with each value as it is.
     ///
     /// Fails with a kind that `fails` names.
     fn as_is(&self) -> Result<u64>
@@ -54,14 +54,14 @@ pub trait Fields {
         Ok(words.as_is)
     }
 
-    /// How many pointers the row keeps, as it is or in canonical form.
+    /// How many pointers are kept, as they are or in canonical form.
     fn kept(&self, canonical: bool) -> u32
         requires { size < 2 ^ 16 }
         ensures kept { (trees : Trees) → has_trees self.now trees →
-            result ≡ count (kept_row canonical trees) }
+            result ≡ count (kept_fields canonical trees) }
         ensures bound { result ≤ size };
 
-    /// Writes the first pointers of the row into a block, from this slot on, and what they lead to
+    /// Writes the first of the pointers into a block, from this slot on, and what they lead to
     /// into the words from `next` on, which are zero. Returns the first word after that.
     fn write(
         &self,
@@ -71,15 +71,15 @@ pub trait Fields {
         count: u32,
         next: usize,
     ) -> usize
-        requires row { CanWriteRow (has_trees self.now) canonical count next
+        requires fields { CanWriteFields (has_trees self.now) canonical count next
             (length (words_of block.old)) }
         requires free { IsFreeFrom next block.old }
         requires before { slot + count ≤ next }
-        ensures written { IsRowWritten (has_trees self.now) canonical slot count next
+        ensures written { AreFieldsWritten (has_trees self.now) canonical slot count next
             (words_of block.old) (words_of block.new) result }
         ensures free { IsFreeFrom result block.new }
         ensures len { length block.new ≡ length block.old };
 
     /// The trees have room, and each has fewer than 2^29 words.
-    ghost settled: { (row : Self) (trees : Trees) → has_trees row trees → IsSettled size trees };
+    ghost settled: { (fields : Self) (trees : Trees) → has_trees fields trees → IsSettled size trees };
 }

@@ -28,7 +28,7 @@ impl<S> LazyStructList<S> {
     }
 }
 
-// The data words of the source's structs, with the trees of their fields, row by row. It fails as a
+// The data words of the source's structs, with the trees of their fields, in order. It fails as a
 // list of these structs in memory does.
 impl<S: StructSource> SetterInput<Owned> for LazyStructList<S> {
     ghost use Rattle.capnp_layout.specs.Tree.{count};

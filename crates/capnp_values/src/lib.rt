@@ -20,7 +20,7 @@ mod measured;
 pub mod null;
 pub mod number_list;
 pub mod pointer_list;
-mod rows;
+mod struct_elements;
 mod sections;
 pub mod sources;
 pub mod struct_list;

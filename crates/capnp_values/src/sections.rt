@@ -2,7 +2,7 @@
 ghost use Rattle.std.specs.Prelude.{◌≡◌, ◌↔◌, ◌+◌, ◌*◌, ◌<◌, ◌≤◌, ◌^◌, ◌==◌, if◌then◌else◌, All, IsTrue, length, take};
 ghost use Rattle.capnp_layout.specs.Prelude.{words_of, cut_zeros, struct_pointer, minus_one, put};
 ghost use Rattle.capnp_wire.specs.Prelude.{IsFreeFrom};
-ghost use Rattle.capnp_values.specs.Fields.{IsRowWritten};
+ghost use Rattle.capnp_values.specs.Fields.{AreFieldsWritten};
 ghost use Rattle.capnp_values.specs.Structs.{kept_words};
 ghost use Rattle.capnp_values.specs.StructListPlaces.{ElementPlace};
 
@@ -95,7 +95,7 @@ pub(crate) fn write_sections<E: Fields + Element>(
     requires place { ElementPlace (E.has_trees item.now) canonical kept.data_words kept.pointers at
         next (length (words_of block.old)) }
     requires free { IsFreeFrom next block.old }
-    ensures written { IsRowWritten (E.has_trees item.now) canonical (at + kept.data_words) kept.pointers
+    ensures written { AreFieldsWritten (E.has_trees item.now) canonical (at + kept.data_words) kept.pointers
         next (put at (take kept.data_words (E.words item.now)) (words_of block.old))
         (words_of block.new) result }
     ensures free { IsFreeFrom result block.new }

@@ -26,7 +26,7 @@ impl<'a, E> StructList<'a, E> {
     }
 }
 
-// The data words of each element, with the trees of their fields, row by row. 2^16 data words or
+// The data words of each element, with the trees of their fields, in order. 2^16 data words or
 // fields and more, and 2^29 elements or words of elements and more, fail with `AllocationTooLarge`;
 // a field that fails as it is fails here, too.
 impl<'a, E: Fields + Element> SetterInput<Owned> for StructList<'a, E> {

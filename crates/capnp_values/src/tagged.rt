@@ -3,12 +3,12 @@ ghost use Rattle.std.specs.Prelude.{◌≡◌, ◌+◌, ◌-◌, ◌*◌, ◌^�
 ghost use Rattle.capnp_layout.specs.Prelude.{words_of, Trees, total_words, body, output, list_pointer, struct_pointer, put};
 ghost use Rattle.capnp_wire.specs.Prelude.{IsCopied, HasRoomAt, IsFreeFrom};
 ghost use Rattle.capnp_values.specs.Measured.{Measures};
-ghost use Rattle.capnp_values.specs.StructLists.{AreRowsWritten, IsStructList, StructListError, TooManyStructs};
+ghost use Rattle.capnp_values.specs.StructLists.{AreElementsWritten, IsStructList, StructListError, TooManyStructs};
 ghost use Rattle.capnp_values.specs.StructListPlaces.{AreDeclared, IsDeclared, ListPlace};
 
 use crate::element::Element;
 use crate::fields::Fields;
-use crate::rows::{kept_by_each, measure_rows, write_rows};
+use crate::struct_elements::{kept_by_each, measure_elements, write_elements};
 use crate::sections::KeptWords;
 use crate::sources::StructSource;
 use capnp_frame::{Error, ErrorKind, Result};
@@ -27,7 +27,7 @@ pub(crate) fn measure_list<S: StructSource>(items: &S, canonical: bool) -> Resul
     let data_words = S::Value::data_words();
     let pointers = S::Value::count();
     elements_fit(count, data_words, pointers)?;
-    let children = measure_rows(items, canonical)?;
+    let children = measure_elements(items, canonical)?;
     let kept = kept_by_each(items, canonical);
     Ok(with_tag(count, data_words, pointers, kept, children))
 }
@@ -115,7 +115,7 @@ fn write_tagged<S: StructSource>(
         next (length (words_of block.old)) }
     requires free { IsFreeFrom next block.old }
     requires following { following ≤ next }
-    ensures rows { AreRowsWritten (S.words items.now) (S.has_trees items.now) canonical
+    ensures elements { AreElementsWritten (S.words items.now) (S.has_trees items.now) canonical
         kept.data_words kept.pointers S.Value.size (S.items items.now) (next + 1)
         (next + 1 + length (S.items items.now) * (kept.data_words + kept.pointers))
         (put next (struct_pointer (length (S.items items.now)) kept.data_words kept.pointers ∷ [])
@@ -130,6 +130,6 @@ fn write_tagged<S: StructSource>(
     put_word(block, next, tag);
     Copied {
         pointer: list_word((next - following) as u64, STRUCT_LIST, words as u64),
-        next: write_rows(items, canonical, kept, block, next + 1),
+        next: write_elements(items, canonical, kept, block, next + 1),
     }
 }

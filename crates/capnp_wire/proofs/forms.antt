@@ -3,7 +3,7 @@ pub mod CanonLemmas
 pub mod PreorderLemmas
 pub mod ExactnessLemmas
 pub mod FullLemmas
-pub mod FullRowLemmas
+pub mod TrimmedStructListLemmas
 pub mod TruncatedLemmas
 pub mod CanonicalLemmas
-pub mod CanonicalRows
+pub mod CanonicalExamples

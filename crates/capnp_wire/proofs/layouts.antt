@@ -5,10 +5,10 @@ pub mod BlockLemmas
 pub mod CopyLemmas
 pub mod FillLemmas
 pub mod FreeLemmas
-pub mod BlockRowLemmas
+pub mod BlockElementLemmas
 pub mod OpenLemmas
 pub mod OpenedLemmas
-pub mod RowCopyLemmas
+pub mod ElementCopyLemmas
 pub mod CopiedLemmas
 pub mod NumberCopyLemmas
 pub mod ExactLemmas

@@ -1,3 +1,3 @@
 -- Trees of objects, trimmed and narrowed.
-pub mod StandLemmas
-pub mod StoodLemmas
+pub mod TreeCountLemmas
+pub mod TreeSizeLemmas

@@ -3,7 +3,7 @@ pub mod ViewLemmas
 pub mod FormLemmas
 pub mod ListViewLemmas
 pub mod ObjectViewLemmas
-pub mod UpgradedRowLemmas
+pub mod UpgradedStructLemmas
 pub mod UpgradedNumberLemmas
 pub mod UpgradedPointerLemmas
 pub mod ValueLemmas

@@ -1,7 +1,7 @@
 -- Objects that are copied, as they are or in canonical form (src/layout/copy.rt, and pending.rt,
--- copy_rows.rt and copy_cursor.rt beside it).
+-- copy_pointers.rt and copy_cursor.rt beside it).
 use Rattle.std.specs.Prelude.{◌≡◌, ◌≢◌, ℕ, ◌+◌, ◌-◌, ◌/◌, ◌<◌, ◌≤◌, ◌^◌, Bool, List, [], ◌∷◌, length, Some, slice_get}
-use Rattle.capnp_layout.specs.Prelude.{words_of, words_from, code_of, numbers, Trees, depth, total_words, elements as numerals, rows_from, own, body, pointer_to, AllHaveRoom, output, struct_pointer, IsObject, room_of, words_in, put, put_rows, fill, places, run, segment_of, row_size, kept_in, slots_of, places_in, slots_in, end_of, Takes, At, IsNarrower}
+use Rattle.capnp_layout.specs.Prelude.{words_of, words_from, code_of, numbers, Trees, depth, total_words, elements as numerals, elements_from, own, body, pointer_to, AllHaveRoom, output, struct_pointer, IsObject, room_of, words_in, put, put_data_sections, fill, places, run, segment_of, section_sizes, kept_in, slots_of, places_in, slots_in, end_of, Takes, At, IsNarrower}
 use Rattle.capnp_layout.specs.declared.place.Place.{Place}
 use Rattle.capnp_wire.specs.declared.layout.copy.Copied.{Copied}
 use Rattle.capnp_wire.specs.declared.layout.copy_cursor.CopyCursor.{CopyCursor}
@@ -17,7 +17,7 @@ use Rattle.capnp_layout.specs.declared.object.Body.TheVariants.{Struct, Numbers,
 pub record CanCopy (m : List (List ℕ)) (at : List Place) (nesting : ℕ) (canonical : Bool) (next room : ℕ) : Type 0 where
   pub trees : Trees
   pub traversed : ℕ
-  pub stand : At m at trees traversed
+  pub are_at : At m at trees traversed
   pub shallow : depth trees ≤ nesting
   pub rooms : AllHaveRoom trees
   pub fits : next + total_words (output canonical trees) ≤ room
@@ -28,8 +28,8 @@ abbrev pub put_own : List ℕ → ℕ → Body → Body → ℕ → List ℕ →
 put_own words start (Struct from) (Struct size) next block = put next (words_from words start size.data_words) block
 put_own words start (Numbers size n) copied next block = put next (own (numbers (code_of size) (numerals words start (code_of size) n)) []) block
 put_own words start (Structs from following) (Structs elements words_after) next block =
-    put_rows (next + 1) elements.size.pointers
-    (rows_from words (start + 1) elements.size.data_words (from.size.data_words + from.size.pointers - elements.size.data_words) elements.count)
+    put_data_sections (next + 1) elements.size.pointers
+    (elements_from words (start + 1) elements.size.data_words (from.size.data_words + from.size.pointers - elements.size.data_words) elements.count)
     (put next (struct_pointer elements.count elements.size.data_words elements.size.pointers ∷ []) block)
 put_own words start from copied next block = block
 
@@ -56,19 +56,19 @@ pub record CopiesAll (m : List (List ℕ)) (at : List Place) (canonical : Bool) 
   pub next_is : (trees : Trees) (traversed : ℕ) → At m at trees traversed → free ≡ next + total_words (output canonical trees)
 
 -- what pointers of a segment lead to can be copied from a word on, after the slots of their copies
-pub record CanCopyRows (m : List (List ℕ)) (words : List ℕ) (rows : CopyCursor) (nesting : ℕ) (canonical : Bool) (next room : ℕ) : Type 0 where
-  pub there : CanCopy m (places_in rows.from) nesting canonical next room
-  pub content : places_in rows.from ≢ [] → slice_get m (segment_of rows.from) ≡ Some words
-  pub as_many : length (places_in rows.from) ≡ length (places_in rows.to)
-  pub before : end_of rows.to ≤ next
+pub record CanCopyByCursor (m : List (List ℕ)) (words : List ℕ) (cursor : CopyCursor) (nesting : ℕ) (canonical : Bool) (next room : ℕ) : Type 0 where
+  pub there : CanCopy m (places_in cursor.from) nesting canonical next room
+  pub content : places_in cursor.from ≢ [] → slice_get m (segment_of cursor.from) ≡ Some words
+  pub as_many : length (places_in cursor.from) ≡ length (places_in cursor.to)
+  pub before : end_of cursor.to ≤ next
 
--- The rows pair pointers at some places of a segment with some slots, which end before a word: what
--- the pointers lead to can be copied by the rows, and then is copied.
-pub record ArePaired (rows : CopyCursor) (at : List Place) (segment : ℕ) (slots : List ℕ) (end : ℕ) : Type 0 where
+-- The cursor pairs pointers at some places of a segment with some slots, which end before a word:
+-- what the pointers lead to can be copied by it, and then is copied.
+pub record ArePaired (cursor : CopyCursor) (at : List Place) (segment : ℕ) (slots : List ℕ) (end : ℕ) : Type 0 where
   pub can : (m : List (List ℕ)) (words : List ℕ) (nesting : ℕ) (canonical : Bool) (next room : ℕ) → CanCopy m at nesting canonical next room
-      → (at ≢ [] → slice_get m segment ≡ Some words) → end ≤ next → CanCopyRows m words rows nesting canonical next room
+      → (at ≢ [] → slice_get m segment ≡ Some words) → end ≤ next → CanCopyByCursor m words cursor nesting canonical next room
   pub copied : (m : List (List ℕ)) (canonical : Bool) (next : ℕ) (old new : List ℕ) (free : ℕ)
-      → CopiesAll m (places_in rows.from) canonical (slots_in rows.to) next old new free → CopiesAll m at canonical slots next old new free
+      → CopiesAll m (places_in cursor.from) canonical (slots_in cursor.to) next old new free → CopiesAll m at canonical slots next old new free
 
 -- the first of the pointers that are left is taken, with its slot
 pub record TakesPair (old new : CopyCursor) (place : Place) (slot : ℕ) : Type 0 where
@@ -98,7 +98,7 @@ pub record Begins (m : List (List ℕ)) (place : Place) (at : List Place) (slots
 
 -- The copy of an object is in progress, and its pointers are left.
 pub record BeginsObject (m : List (List ℕ)) (place : Place) (nesting : ℕ) (canonical : Bool) (gap next : ℕ) (old mid : List ℕ) (begun : PendingCopy) : Type 0 where
-  pub begins : Begins m place (kept_in begun.object.start begun.object.body (row_size begun.body).pointers) (slots_of next begun.body) nesting canonical gap next
+  pub begins : Begins m place (kept_in begun.object.start begun.object.body (section_sizes begun.body).pointers) (slots_of next begun.body) nesting canonical gap next
       (next + words_in begun.body) old mid begun.pointer
   pub content : slice_get m begun.object.start.segment ≡ Some (words_of begun.object.segment.now)
   pub narrower : IsNarrower begun.object.body begun.body

@@ -3,7 +3,7 @@ use Rattle.std.specs.Prelude.{◌≡◌, ℕ, ◌-◌, ◌^◌, ◌<◌, ◌≤�
 use Rattle.capnp_frame.specs.declared.error.ErrorKind.{ErrorKind}
 use Rattle.capnp_frame.specs.declared.error.ErrorKind.TheVariants.{AllocationTooLarge}
 use Rattle.capnp_frame.specs.declared.message.segments.ReaderSegments.{Ghosts}
-use Rattle.capnp_layout.specs.Prelude.{width, words_for, Form, numbers, structs, Trees, none, tree, depth, places, row_places, rows_from, At, Within, WalkError}
+use Rattle.capnp_layout.specs.Prelude.{width, words_for, Form, numbers, structs, Trees, none, tree, depth, places, pointer_places, elements_from, At, Within, WalkError}
 use Rattle.capnp_wire.specs.ListViews.{PointerList, StructList, struct_list_of}
 use Rattle.capnp_layout.specs.declared.place.Place.{Place}
 use Rattle.capnp_layout.specs.declared.pointer.Elements.{Elements}
@@ -14,7 +14,7 @@ use Rattle.capnp_wire.specs.declared.struct_list.reader.Reader.{Reader as Struct
 pub record IsListTree (form : Form) (list : PointerList) (trees : Trees) : Type 0 where
   pub children : Trees
   pub traversed : ℕ
-  pub stand : At list.message list.children children traversed
+  pub are_at : At list.message list.children children traversed
   pub shallow : depth children ≤ list.nesting
   pub within : Within list.limit traversed
   pub whole : trees ≡ tree form children none
@@ -31,13 +31,13 @@ pointers_along m first n nesting limit =
 -- consecutive structs, and the pointers of them all
 abbrev pub structs_along : List ℕ → Place → Elements → Form
 structs_along words first elements =
-    let size = elements.size in structs size.data_words size.pointers (rows_from words first.word size.data_words size.pointers elements.count)
+    let size = elements.size in structs size.data_words size.pointers (elements_from words first.word size.data_words size.pointers elements.count)
 
 abbrev pub pointers_of_structs : List (List ℕ) → Place → Elements → ℕ → Option ℕ → PointerList
 pointers_of_structs m first elements nesting limit =
     let size = elements.size in record {
       message = m;
-      children = row_places first.segment first.word size.data_words size.pointers elements.count;
+      children = pointer_places first.segment first.word size.data_words size.pointers elements.count;
       nesting = nesting;
       limit = limit;
     }
@@ -50,7 +50,7 @@ pointers_in list = record { message = list.message; children = list.children; ne
 -- data each has
 abbrev pub structs_of : {S : Type 0} {ghosts : Ghosts S} → (S → List (List ℕ)) → StructListReader S ghosts → Form
 structs_of segments reader =
-    let list = struct_list_of segments reader in structs reader.elements.size.data_words list.pointer_words list.rows
+    let list = struct_list_of segments reader in structs reader.elements.size.data_words list.pointer_words list.elements
 
 -- the tree of a list of numbers of this code, and the error of more numbers than a list may have
 abbrev pub IsNumbersTree : ℕ → List ℕ → Trees → Type 0

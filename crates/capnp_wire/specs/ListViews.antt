@@ -4,7 +4,7 @@ use Rattle.std.specs.Prelude.{◌≡◌, ℕ, ◌+◌, ◌-◌, ◌*◌, ⊤, Li
 use Rattle.capnp_frame.specs.declared.error.ErrorKind.{ErrorKind}
 use Rattle.capnp_frame.specs.declared.error.ErrorKind.TheVariants.{WrongPointerKind}
 use Rattle.capnp_frame.specs.declared.message.segments.ReaderSegments.{Ghosts}
-use Rattle.capnp_layout.specs.Prelude.{words_of, Form, null, pointers, structs, message_of, places, row_places, rows_from, Within}
+use Rattle.capnp_layout.specs.Prelude.{words_of, Form, null, pointers, structs, message_of, places, pointer_places, elements_from, Within}
 use Rattle.capnp_wire.specs.Readers.{limit_of}
 use Rattle.capnp_wire.specs.Views.{Pointer, Struct, Shows}
 use Rattle.capnp_layout.specs.declared.place.Place.{Place}
@@ -18,22 +18,22 @@ use Rattle.capnp_wire.specs.declared.any_pointer_list.reader.Reader.{Reader as P
 -- follow one another from these on, and the limit of words that are read.
 pub record StructList : Type 0 where
   pub message : List (List ℕ)
-  pub rows : List (List ℕ)
+  pub elements : List (List ℕ)
   pub pointer_words : ℕ
   pub children : List Place
   pub nesting : ℕ
   pub limit : Option ℕ
 
 -- no elements for null, those of a list of structs
-abbrev pub HasRows : Form → ℕ → List (List ℕ) → Type 0
-HasRows null p rows = rows ≡ []
-HasRows (structs d q there) p rows = (p ≡ q) × (rows ≡ there)
-HasRows _ p rows = ⊥
+abbrev pub HasElements : Form → ℕ → List (List ℕ) → Type 0
+HasElements null p elements = elements ≡ []
+HasElements (structs d q there) p elements = (p ≡ q) × (elements ≡ there)
+HasElements _ p elements = ⊥
 
 -- a list of structs: the elements that are there, with one less of nesting depth left
 pub record IsStructList (pointer : Pointer) (list : StructList) : Type 0 where
   pub same_message : list.message ≡ pointer.message
-  pub shown : Shows pointer (λ shape. HasRows shape.form list.pointer_words list.rows × (list.children ≡ shape.children)
+  pub shown : Shows pointer (λ shape. HasElements shape.form list.pointer_words list.elements × (list.children ≡ shape.children)
       × Within pointer.limit shape.traversed)
   pub nesting_below : list.nesting ≡ pointer.nesting - 1
   pub same_limit : list.limit ≡ pointer.limit
@@ -42,7 +42,7 @@ pub record IsStructList (pointer : Pointer) (list : StructList) : Type 0 where
 abbrev pub element_of : StructList → ℕ → Struct
 element_of list index = record {
   message = list.message;
-  words = slice_index_or list.rows index [];
+  words = slice_index_or list.elements index [];
   children = take list.pointer_words (drop (index * list.pointer_words) list.children);
   nesting = list.nesting;
   limit = list.limit;
@@ -59,7 +59,7 @@ pub record PointerList : Type 0 where
 -- the forms that views of lists of structs, and of pointers, accept
 abbrev pub TakesStructs : Form → Type 0
 TakesStructs null = ⊤
-TakesStructs (structs d p rows) = ⊤
+TakesStructs (structs d p elements) = ⊤
 TakesStructs _ = ⊥
 
 abbrev pub TakesPointers : Form → Type 0
@@ -90,9 +90,9 @@ abbrev pub struct_list_of : {S : Type 0} {ghosts : Ghosts S} → (S → List (Li
 struct_list_of segments reader =
     let size = reader.elements.size in record {
       message = message_of (segments reader.segments.now);
-      rows = rows_from (words_of reader.segment.now) reader.first.word size.data_words size.pointers reader.elements.count;
+      elements = elements_from (words_of reader.segment.now) reader.first.word size.data_words size.pointers reader.elements.count;
       pointer_words = size.pointers;
-      children = row_places reader.first.segment reader.first.word size.data_words size.pointers reader.elements.count;
+      children = pointer_places reader.first.segment reader.first.word size.data_words size.pointers reader.elements.count;
       nesting = reader.nesting;
       limit = limit_of reader.limiter;
     }
@@ -101,7 +101,7 @@ struct_list_of segments reader =
 abbrev pub no_structs : Pointer → StructList
 no_structs pointer = record {
   message = pointer.message;
-  rows = [];
+  elements = [];
   pointer_words = 0;
   children = [];
   nesting = pointer.nesting - 1;
@@ -113,9 +113,9 @@ structs_in pointer object skipped elements =
     let size = elements.size in
     let first = object.start.word + skipped in record {
       message = pointer.message;
-      rows = rows_from (words_of object.segment.now) first size.data_words size.pointers elements.count;
+      elements = elements_from (words_of object.segment.now) first size.data_words size.pointers elements.count;
       pointer_words = size.pointers;
-      children = row_places object.start.segment first size.data_words size.pointers elements.count;
+      children = pointer_places object.start.segment first size.data_words size.pointers elements.count;
       nesting = pointer.nesting - 1;
       limit = pointer.limit;
     }

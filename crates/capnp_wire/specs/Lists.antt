@@ -18,7 +18,7 @@ elements_left size element elements =
 
 -- the elements of a list of structs, from the first to the last
 abbrev pub all_structs : StructList → List Struct
-all_structs list = map (element_of list) (range_with_len 0 (length list.rows))
+all_structs list = map (element_of list) (range_with_len 0 (length list.elements))
 
 -- the element at an index is found, where a list of this size has one there
 abbrev pub FindsElement : {A : Type 0} → ℕ → ℕ → (A → Type 0) → Option A → Type 0

@@ -18,7 +18,7 @@ abbrev pub ShowsForm : {S : Type 0} {ghosts : Ghosts S} → (S → List (List �
 ShowsForm segments Null form = form ≡ null
 ShowsForm segments (Struct view) form = form ≡ struct (struct_of segments view).words
 ShowsForm segments (Structs view) form =
-    let list = struct_list_of segments view in (d : ℕ) × (form ≡ structs d list.pointer_words list.rows)
+    let list = struct_list_of segments view in (d : ℕ) × (form ≡ structs d list.pointer_words list.elements)
 ShowsForm segments (Pointers view) form = form ≡ pointers
 ShowsForm segments (Numbers list) form = form ≡ numbers (code_of list.size) (sized_numbers_of list)
 

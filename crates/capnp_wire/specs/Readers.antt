@@ -57,7 +57,7 @@ struct_of segments reader = record {
 -- an object that the pointer leads to, whose words are within the traversal limit
 pub record IsEntered (pointer : Pointer) (object : ReadObject) : Type 0 where
   pub place : Place
-  pub stands : pointer.place ≡ Some place
+  pub is_at : pointer.place ≡ Some place
   pub object_is : IsObject pointer.message place object
   pub nesting : 0 < pointer.nesting
   pub within : Within pointer.limit object.traversed

@@ -28,7 +28,7 @@ abbrev pub IsNext : ℕ → ℕ → ℕ → Form → ℕ → Type 0
 IsNext pointer word next null n = Unit {0}
 IsNext pointer word next (struct words) n =
     (length words + n ≡ 0 → offset pointer ≡ minus_one) × (0 < length words + n → LeadsTo pointer word next)
-IsNext pointer word next (structs d p rows) n = LeadsTo pointer word next × (list_count pointer ≡ length rows * (d + p))
+IsNext pointer word next (structs d p elements) n = LeadsTo pointer word next × (list_count pointer ≡ length elements * (d + p))
 IsNext pointer word next form n = LeadsTo pointer word next
 
 -- the same for an object that is read: its pointer leads to the next free word
@@ -53,7 +53,7 @@ links_at segment (place ∷ places) = slice_index_or segment place.word 0 ∷ li
 
 -- elements have no words of data, or the last word of data of one of them is not zero
 abbrev pub NeedData : ℕ → List (List ℕ) → Type 0
-NeedData d rows = (d ≡ 0) ⊎ ((i : ℕ) × (row : List ℕ) × (slice_get rows i ≡ Some row) × EndsFull row)
+NeedData d elements = (d ≡ 0) ⊎ ((i : ℕ) × (element : List ℕ) × (slice_get elements i ≡ Some element) × EndsFull element)
 
 -- n elements have no pointers, or the last pointer of one of them is not null
 abbrev pub NeedPointers : ℕ → ℕ → List ℕ → Type 0
@@ -62,7 +62,7 @@ NeedPointers p n links = (p ≡ 0) ⊎ ((i : ℕ) × (i < n) × (slice_index_or 
 -- the sizes have no trailing zero words, where these are the object's pointer words
 abbrev pub IsTruncated : Form → List ℕ → Type 0
 IsTruncated (struct words) links = EndsFull words × EndsFull links
-IsTruncated (structs d p rows) links = NeedData d rows × NeedPointers p (length rows) links
+IsTruncated (structs d p elements) links = NeedData d elements × NeedPointers p (length elements) links
 IsTruncated form links = Unit {0}
 
 -- The object to which the pointer at a place leads is as the canonical form has it, where this is
@@ -78,7 +78,7 @@ pub record IsLaidOut (segment : List ℕ) (place : Place) (next : ℕ) (shape : 
 -- canonical form has them, from the next free word up to the one after them.
 pub record Passes (segment : List ℕ) (places : List Place) (nesting traversed next after : ℕ) : Type 0 where
   pub trees : Trees
-  pub stand : At (segment ∷ []) places trees traversed
+  pub are_at : At (segment ∷ []) places trees traversed
   pub shallow : depth trees ≤ nesting
   pub in_preorder : IsInPreorder segment places next trees
   pub trimmed : Trimmed trees

@@ -25,7 +25,7 @@ CountsMore kept kept_then more = (words : ℕ) → Counts kept words → Counts 
 -- canonical form
 pub record TreesWithRoom (m : List (List ℕ)) (at : List Place) (nesting traversed : ℕ) (canonical : Bool) (words : ℕ) : Type 0 where
   pub trees : Trees
-  pub stand : At m at trees traversed
+  pub are_at : At m at trees traversed
   pub shallow : depth trees ≤ nesting
   pub rooms : AllHaveRoom trees
   pub words_are : total_words (output canonical trees) ≡ words
@@ -35,7 +35,7 @@ pub record TreesWithRoom (m : List (List ℕ)) (at : List Place) (nesting traver
 pub record WalkedAll (m : List (List ℕ)) (canonical : Bool) (at : List Place) (nesting : ℕ) (limit left words_before words_now : Option ℕ) : Type 0 where
   pub traversed : ℕ
   pub words : ℕ
-  pub stand : TreesWithRoom m at nesting traversed canonical words
+  pub are_at : TreesWithRoom m at nesting traversed canonical words
   pub within : Within limit traversed
   pub left_is : left ≡ less limit traversed
   pub counted : CountsMore words_before words_now words

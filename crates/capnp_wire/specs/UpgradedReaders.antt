@@ -1,18 +1,18 @@
 -- What contracts see of readers of upgraded lists (src/upgraded).
 use Rattle.std.specs.Prelude.{ℕ, zero, suc, ◌+◌, ◌-◌, List, [], ◌∷◌, map}
 use Rattle.capnp_frame.specs.declared.message.segments.ReaderSegments.{Ghosts as SegmentGhosts}
-use Rattle.capnp_layout.specs.Prelude.{words_of, code_of, message_of, elements, rows_from}
+use Rattle.capnp_layout.specs.Prelude.{words_of, code_of, message_of, elements, elements_from}
 use Rattle.capnp_wire.specs.Readers.{limit_of}
 use Rattle.capnp_wire.specs.Views.{Pointer}
 use Rattle.capnp_wire.specs.ListViews.{StructList, PointerList, struct_list_of}
 use Rattle.capnp_wire.specs.NumberViews.{numbers_of}
-use Rattle.capnp_wire.specs.UpgradedViews.{number_row, first_fields}
+use Rattle.capnp_wire.specs.UpgradedViews.{number_struct, first_fields}
 use Rattle.capnp_layout.specs.declared.place.Place.{Place}
 use Rattle.capnp_wire.specs.declared.primitive_element.PrimitiveElement.{Ghosts as ElementGhosts}
 use Rattle.capnp_wire.specs.declared.primitive_list.reader.Reader.{Reader as NumbersReader}
-use Rattle.capnp_wire.specs.declared.upgraded.number_rows.NumberRows.{NumberRows}
-use Rattle.capnp_wire.specs.declared.upgraded.struct_list.Rows.{Rows}
-use Rattle.capnp_wire.specs.declared.upgraded.struct_list.Rows.TheVariants.{InPlace as StructsInPlace, Numbers as NumbersAsStructs}
+use Rattle.capnp_wire.specs.declared.upgraded.number_structs.NumberStructs.{NumberStructs}
+use Rattle.capnp_wire.specs.declared.upgraded.struct_list.StructElements.{StructElements}
+use Rattle.capnp_wire.specs.declared.upgraded.struct_list.StructElements.TheVariants.{InPlace as StructsInPlace, Numbers as NumbersAsStructs}
 use Rattle.capnp_wire.specs.declared.upgraded.struct_list.StructList.{StructList as StructListReader}
 use Rattle.capnp_wire.specs.declared.upgraded.number_list.FirstFields.{FirstFields}
 use Rattle.capnp_wire.specs.declared.upgraded.number_list.Numbers.{Numbers}
@@ -21,27 +21,27 @@ use Rattle.capnp_wire.specs.declared.upgraded.number_list.NumberList.{NumberList
 use Rattle.capnp_wire.specs.declared.upgraded.pointer_list.PointerList.{PointerList as PointerListReader}
 
 -- numbers as structs, each of one data word
-abbrev pub number_rows_of : {S : Type 0} {ghosts : SegmentGhosts S} → (S → List (List ℕ)) → NumberRows S ghosts → StructList
-number_rows_of segments rows = record {
-  message = message_of (segments rows.segments.now);
-  rows = map (number_row (code_of rows.size)) (elements (words_of rows.bytes.now) 0 (code_of rows.size) rows.count);
+abbrev pub number_structs_of : {S : Type 0} {ghosts : SegmentGhosts S} → (S → List (List ℕ)) → NumberStructs S ghosts → StructList
+number_structs_of segments numbers = record {
+  message = message_of (segments numbers.segments.now);
+  elements = map (number_struct (code_of numbers.size)) (elements (words_of numbers.bytes.now) 0 (code_of numbers.size) numbers.count);
   pointer_words = 0;
   children = [];
-  nesting = rows.nesting;
-  limit = limit_of rows.limiter;
+  nesting = numbers.nesting;
+  limit = limit_of numbers.limiter;
 }
 
-abbrev pub rows_of : {S : Type 0} {ghosts : SegmentGhosts S} → (S → List (List ℕ)) → Rows S ghosts → StructList
-rows_of segments (StructsInPlace list) = struct_list_of segments list
-rows_of segments (NumbersAsStructs rows) = number_rows_of segments rows
+abbrev pub struct_elements_of : {S : Type 0} {ghosts : SegmentGhosts S} → (S → List (List ℕ)) → StructElements S ghosts → StructList
+struct_elements_of segments (StructsInPlace list) = struct_list_of segments list
+struct_elements_of segments (NumbersAsStructs numbers) = number_structs_of segments numbers
 
 abbrev pub upgraded_structs_of : {S : Type 0} {ghosts : SegmentGhosts S} → (S → List (List ℕ)) → StructListReader S ghosts → StructList
-upgraded_structs_of segments list = rows_of segments list.rows
+upgraded_structs_of segments list = struct_elements_of segments list.elements
 
 -- the first fields of consecutive structs
 abbrev pub fields_of : {T : Type 0} {ghosts : ElementGhosts T} → ℕ → FirstFields T ghosts → List ℕ
 fields_of code list =
-    first_fields code (rows_from (words_of list.segment.now) list.first list.size.data_words list.size.pointers list.count)
+    first_fields code (elements_from (words_of list.segment.now) list.first list.size.data_words list.size.pointers list.count)
 
 abbrev pub values_of : {T : Type 0} {ghosts : ElementGhosts T} → ℕ → Numbers (NumbersReader T ghosts) (FirstFields T ghosts) → List ℕ
 values_of code (NumbersInPlace list) = numbers_of code list

@@ -16,9 +16,9 @@ use Rattle.capnp_wire.specs.declared.upgraded.number_list.Numbers.{Numbers}
 use Rattle.capnp_wire.specs.declared.upgraded.number_list.Numbers.TheVariants.{InPlace as NumbersInPlace, OfStructs}
 use Rattle.capnp_wire.specs.declared.upgraded.number_list.NumberList.{NumberList as NumberListReader}
 use Rattle.capnp_wire.specs.declared.upgraded.pointer_list.PointerList.{PointerList as PointerListReader}
-use Rattle.capnp_wire.specs.declared.upgraded.number_rows.NumberRows.{NumberRows}
-use Rattle.capnp_wire.specs.declared.upgraded.struct_list.Rows.{Rows}
-use Rattle.capnp_wire.specs.declared.upgraded.struct_list.Rows.TheVariants.{InPlace as StructsInPlace, Numbers as NumbersAsStructs}
+use Rattle.capnp_wire.specs.declared.upgraded.number_structs.NumberStructs.{NumberStructs}
+use Rattle.capnp_wire.specs.declared.upgraded.struct_list.StructElements.{StructElements}
+use Rattle.capnp_wire.specs.declared.upgraded.struct_list.StructElements.TheVariants.{InPlace as StructsInPlace, Numbers as NumbersAsStructs}
 use Rattle.capnp_wire.specs.declared.upgraded.struct_list.StructList.{StructList as StructListReader}
 
 -- Numbers: the tree of a list of them, whose error is that of too many. First fields of structs are
@@ -38,24 +38,24 @@ abbrev pub NumberListValueError : {T : Type 0} {ghosts : ElementGhosts T} → �
 NumberListValueError code list kind = NumbersValueError code list.numbers kind
 
 -- the numbers that are read as structs
-abbrev pub numbers_in_rows : {S : Type 0} {ghosts : SegmentGhosts S} → NumberRows S ghosts → List ℕ
-numbers_in_rows rows = elements (words_of rows.bytes.now) 0 (code_of rows.size) rows.count
+abbrev pub numbers_in_structs : {S : Type 0} {ghosts : SegmentGhosts S} → NumberStructs S ghosts → List ℕ
+numbers_in_structs numbers = elements (words_of numbers.bytes.now) 0 (code_of numbers.size) numbers.count
 
 -- Structs: the tree of a list of them, with all below them. A list of numbers that is read as one
 -- of structs stays the list of numbers that it is.
-abbrev pub IsRowsValue : {S : Type 0} {ghosts : SegmentGhosts S} → (S → List (List ℕ)) → Rows S ghosts → Trees → Type 0
-IsRowsValue segments (StructsInPlace list) trees = IsListTree (structs_of segments list) (pointers_in (struct_list_of segments list)) trees
-IsRowsValue segments (NumbersAsStructs rows) trees = IsNumbersTree (code_of rows.size) (numbers_in_rows rows) trees
+abbrev pub IsElementsValue : {S : Type 0} {ghosts : SegmentGhosts S} → (S → List (List ℕ)) → StructElements S ghosts → Trees → Type 0
+IsElementsValue segments (StructsInPlace list) trees = IsListTree (structs_of segments list) (pointers_in (struct_list_of segments list)) trees
+IsElementsValue segments (NumbersAsStructs numbers) trees = IsNumbersTree (code_of numbers.size) (numbers_in_structs numbers) trees
 
-abbrev pub ElementsValueError : {S : Type 0} {ghosts : SegmentGhosts S} → (S → List (List ℕ)) → Rows S ghosts → ErrorKind → Type 0
+abbrev pub ElementsValueError : {S : Type 0} {ghosts : SegmentGhosts S} → (S → List (List ℕ)) → StructElements S ghosts → ErrorKind → Type 0
 ElementsValueError segments (StructsInPlace list) kind = WalkErrorInList (pointers_in (struct_list_of segments list)) kind
-ElementsValueError segments (NumbersAsStructs rows) kind = TooManyNumbers (code_of rows.size) (numbers_in_rows rows) kind
+ElementsValueError segments (NumbersAsStructs numbers) kind = TooManyNumbers (code_of numbers.size) (numbers_in_structs numbers) kind
 
 abbrev pub IsStructListValue : {S : Type 0} {ghosts : SegmentGhosts S} → (S → List (List ℕ)) → StructListReader S ghosts → Trees → Type 0
-IsStructListValue segments list trees = IsRowsValue segments list.rows trees
+IsStructListValue segments list trees = IsElementsValue segments list.elements trees
 
 abbrev pub StructListValueError : {S : Type 0} {ghosts : SegmentGhosts S} → (S → List (List ℕ)) → StructListReader S ghosts → ErrorKind → Type 0
-StructListValueError segments list kind = ElementsValueError segments list.rows kind
+StructListValueError segments list kind = ElementsValueError segments list.elements kind
 
 -- pointers that follow one another: those of a list of pointers, or of structs of one pointer each
 abbrev pub IsConsecutive : {S : Type 0} → PointerListReader S → Type 0
@@ -79,9 +79,9 @@ one_of_numbers code (OfStructs list) trees is = absurd is
 pub one_number_list : {T : Type 0} {ghosts : ElementGhosts T} (code : ℕ) (list : NumberListReader T ghosts) (trees : Trees) → IsNumberListValue code list trees → count trees ≡ 1
 one_number_list code list trees is = one_of_numbers code list.numbers trees is
 
-one_of_rows : {S : Type 0} {ghosts : SegmentGhosts S} (segments : S → List (List ℕ)) (rows : Rows S ghosts) (trees : Trees) → IsRowsValue segments rows trees → count trees ≡ 1
-one_of_rows segments (StructsInPlace list) trees is = ap count is.whole
-one_of_rows segments (NumbersAsStructs rows) trees is = ap count is.1
+one_of_elements : {S : Type 0} {ghosts : SegmentGhosts S} (segments : S → List (List ℕ)) (elements : StructElements S ghosts) (trees : Trees) → IsElementsValue segments elements trees → count trees ≡ 1
+one_of_elements segments (StructsInPlace list) trees is = ap count is.whole
+one_of_elements segments (NumbersAsStructs numbers) trees is = ap count is.1
 
 pub one_struct_list : {S : Type 0} {ghosts : SegmentGhosts S} (segments : S → List (List ℕ)) (list : StructListReader S ghosts) (trees : Trees) → IsStructListValue segments list trees → count trees ≡ 1
-one_struct_list segments list trees is = one_of_rows segments list.rows trees is
+one_struct_list segments list trees is = one_of_elements segments list.elements trees is

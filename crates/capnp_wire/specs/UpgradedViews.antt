@@ -13,35 +13,35 @@ use Rattle.capnp_layout.specs.declared.pointer.Elements.{Elements}
 
 -- the data words of a struct that was a number: the number's word alone, or none where an element
 -- has no bits
-abbrev pub number_row : ℕ → ℕ → List ℕ
-number_row zero value = []
-number_row (suc code) value = value ∷ []
+abbrev pub number_struct : ℕ → ℕ → List ℕ
+number_struct zero value = []
+number_struct (suc code) value = value ∷ []
 
 -- Structs: the data words of each, and how many pointers each has. None for null; those of a list
 -- of structs; numbers, each in the low bits of one data word; pointers, each as the one pointer of
 -- a struct.
-abbrev pub ReadsAsRows : Form → ℕ → ℕ → List (List ℕ) → Type 0
-ReadsAsRows null n p rows = rows ≡ []
-ReadsAsRows (structs d q there) n p rows = (p ≡ q) × (rows ≡ there)
-ReadsAsRows (numbers code values) n p rows = (code ≢ 1) × (p ≡ 0) × (rows ≡ map (number_row code) values)
-ReadsAsRows pointers n p rows = (p ≡ 1) × (rows ≡ replicate n [])
-ReadsAsRows _ n p rows = ⊥
+abbrev pub ReadsAsStructs : Form → ℕ → ℕ → List (List ℕ) → Type 0
+ReadsAsStructs null n p elements = elements ≡ []
+ReadsAsStructs (structs d q there) n p elements = (p ≡ q) × (elements ≡ there)
+ReadsAsStructs (numbers code values) n p elements = (code ≢ 1) × (p ≡ 0) × (elements ≡ map (number_struct code) values)
+ReadsAsStructs pointers n p elements = (p ≡ 1) × (elements ≡ replicate n [])
+ReadsAsStructs _ n p elements = ⊥
 
 -- the forms that are read as structs, and the errors of the others: structs and bits
-abbrev pub TakesRows : Form → Type 0
-TakesRows null = ⊤
-TakesRows (structs d p rows) = ⊤
-TakesRows (numbers code values) = code ≢ 1
-TakesRows pointers = ⊤
-TakesRows _ = ⊥
+abbrev pub TakesAsStructs : Form → Type 0
+TakesAsStructs null = ⊤
+TakesAsStructs (structs d p elements) = ⊤
+TakesAsStructs (numbers code values) = code ≢ 1
+TakesAsStructs pointers = ⊤
+TakesAsStructs _ = ⊥
 
 abbrev pub ElementsFormError : Form → ErrorKind → Type 0
-ElementsFormError form kind = (TakesRows form → ⊥) × (kind ≡ WrongPointerKind)
+ElementsFormError form kind = (TakesAsStructs form → ⊥) × (kind ≡ WrongPointerKind)
 
 -- a list read as one of structs: the elements that are there, with one less of nesting depth left
 pub record IsUpgradedStructs (pointer : Pointer) (list : StructList) : Type 0 where
   pub same_message : list.message ≡ pointer.message
-  pub shown : Shows pointer (λ shape. ReadsAsRows shape.form (length shape.children) list.pointer_words list.rows
+  pub shown : Shows pointer (λ shape. ReadsAsStructs shape.form (length shape.children) list.pointer_words list.elements
       × (list.children ≡ shape.children) × Within pointer.limit shape.traversed)
   pub nesting_below : list.nesting ≡ pointer.nesting - 1
   pub same_limit : list.limit ≡ pointer.limit
@@ -58,19 +58,19 @@ pub record IsFirstField (code d : ℕ) : Type 0 where
 
 -- the low bits of the first data word of each struct
 abbrev pub first_fields : ℕ → List (List ℕ) → List ℕ
-first_fields code rows = map (λ row. slice_index row 0 % 2 ^ width code) rows
+first_fields code elements = map (λ element. slice_index element 0 % 2 ^ width code) elements
 
 -- Numbers of a code: none for null, those of a list of this code, the first fields of structs.
 abbrev pub ReadsAsNumbers : ℕ → Form → List ℕ → Type 0
 ReadsAsNumbers wanted null values = values ≡ []
 ReadsAsNumbers wanted (numbers code there) values = (code ≡ wanted) × (values ≡ there)
-ReadsAsNumbers wanted (structs d p rows) values = IsFirstField wanted d × (values ≡ first_fields wanted rows)
+ReadsAsNumbers wanted (structs d p elements) values = IsFirstField wanted d × (values ≡ first_fields wanted elements)
 ReadsAsNumbers wanted _ values = ⊥
 
 abbrev pub TakesFields : ℕ → Form → Type 0
 TakesFields wanted null = ⊤
 TakesFields wanted (numbers code values) = code ≡ wanted
-TakesFields wanted (structs d p rows) = IsFirstField wanted d
+TakesFields wanted (structs d p elements) = IsFirstField wanted d
 TakesFields wanted _ = ⊥
 
 abbrev pub FieldsFormError : ℕ → Form → ErrorKind → Type 0
@@ -85,13 +85,13 @@ first_pointers p (suc n) children = take 1 children ++ first_pointers p n (drop 
 abbrev pub ReadsAsPointers : Form → List Place → List Place → Type 0
 ReadsAsPointers null children places = places ≡ []
 ReadsAsPointers pointers children places = places ≡ children
-ReadsAsPointers (structs d p rows) children places = (0 < p) × (places ≡ first_pointers p (length rows) children)
+ReadsAsPointers (structs d p elements) children places = (0 < p) × (places ≡ first_pointers p (length elements) children)
 ReadsAsPointers _ children places = ⊥
 
 abbrev pub TakesFirstPointers : Form → Type 0
 TakesFirstPointers null = ⊤
 TakesFirstPointers pointers = ⊤
-TakesFirstPointers (structs d p rows) = 0 < p
+TakesFirstPointers (structs d p elements) = 0 < p
 TakesFirstPointers _ = ⊥
 
 abbrev pub FirstPointersFormError : Form → ErrorKind → Type 0

@@ -15,7 +15,7 @@ use Rattle.capnp_layout.specs.declared.pointer.StructSize.{StructSize}
 -- the tree at a place, within the nesting depth left and a limit
 pub record TreeAt (m : List (List ℕ)) (place : Place) (nesting : ℕ) (limit : Option ℕ) (trees : Trees) : Type 0 where
   pub traversed : ℕ
-  pub stand : At m (place ∷ []) trees traversed
+  pub are_at : At m (place ∷ []) trees traversed
   pub shallow : depth trees ≤ nesting
   pub within : Within limit traversed
 
@@ -91,7 +91,7 @@ WalkErrorFrom pointer kind = (place : Place) × (pointer.place ≡ Some place)
 pub record IsTreeOf (fields : Struct) (trees : Trees) : Type 0 where
   pub children : Trees
   pub traversed : ℕ
-  pub stand : At fields.message fields.children children traversed
+  pub are_at : At fields.message fields.children children traversed
   pub shallow : depth children ≤ fields.nesting
   pub within : Within fields.limit traversed
   pub whole : trees ≡ tree (struct fields.words) children none
@@ -147,7 +147,7 @@ one_there m place trees traversed (at object inner nowhere) = refl
 one_at : (o : Option Place) (m : List (List ℕ)) (nesting : ℕ) (limit : Option ℕ) (trees : Trees) → MatchOption o (trees ≡ tree null none none) (λ place. TreeAt m place nesting limit trees)
     → count trees ≡ 1
 one_at None m nesting limit trees is = ap count is
-one_at (Some place) m nesting limit trees is = one_there m place trees is.traversed is.stand
+one_at (Some place) m nesting limit trees is = one_there m place trees is.traversed is.are_at
 
 pub one_value : (pointer : Pointer) (trees : Trees) → LeadsToTree pointer trees → count trees ≡ 1
 one_value pointer trees is = one_at pointer.place pointer.message pointer.nesting pointer.limit trees is

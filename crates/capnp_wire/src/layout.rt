@@ -4,7 +4,7 @@ pub(crate) mod canonical;
 pub(crate) mod canonical_rules;
 pub(crate) mod copy;
 pub(crate) mod copy_cursor;
-pub(crate) mod copy_rows;
+pub(crate) mod copy_pointers;
 pub(crate) mod data_words;
 pub(crate) mod list_value;
 pub(crate) mod pending;

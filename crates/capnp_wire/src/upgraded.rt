@@ -10,7 +10,7 @@
 mod enum_list;
 mod list_list;
 mod number_list;
-mod number_rows;
+mod number_structs;
 mod pointer_list;
 mod struct_list;
 mod values;

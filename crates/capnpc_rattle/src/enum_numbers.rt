@@ -1,7 +1,7 @@
 //! The numbers of enumerants.
 use crate::builder_templates::ENUM_NUMBER;
 use crate::code::{Code, Holes};
-use crate::enums::rows_of;
+use crate::enums::lines_of;
 use std::alloc::{AllocError, Global};
 
 /// Adds the number of an enumerant.
@@ -20,14 +20,14 @@ pub fn push_to_number(
 
 // The cases of a clause that says which number each variant has.
 fn number_cases(alloc: Global, type_name: &str, names: &[String]) -> Result<String, AllocError> {
-    let row = "  | @type@.@variant@ ↦ result ≡ @count@";
+    let line = "  | @type@.@variant@ ↦ result ≡ @count@";
     let last = "  | @type@.NotInSchema unknown ↦ result ≡ unknown";
-    rows_of(alloc, type_name, names, row, last)
+    lines_of(alloc, type_name, names, line, last)
 }
 
 // The arms that return the number of a variant.
 fn number_arms(alloc: Global, type_name: &str, names: &[String]) -> Result<String, AllocError> {
-    let row = "@type@::@variant@ => @count@,";
+    let line = "@type@::@variant@ => @count@,";
     let last = "@type@::NotInSchema(unknown) => unknown,";
-    rows_of(alloc, type_name, names, row, last)
+    lines_of(alloc, type_name, names, line, last)
 }

@@ -17,7 +17,7 @@ pub fn cases_of(
     id: u64,
     type_name: &str,
 ) -> Result<String, AllocError> {
-    rows_of(
+    lines_of(
         alloc,
         type_name,
         enumerants_of(request, id),
@@ -26,33 +26,33 @@ pub fn cases_of(
     )
 }
 
-/// A row for each enumerant, and then the last one, with no end of a line after it. In their
+/// A line for each enumerant, and then the last one, with no end of a line after it. In their
 /// templates `@type@` stands for the enum, `@variant@` for the variant, and `@count@` for its
 /// number, or for how many there are.
-pub fn rows_of(
+pub fn lines_of(
     alloc: Global,
     type_name: &str,
     names: &[String],
-    row: &str,
+    line: &str,
     last: &str,
 ) -> Result<String, AllocError> {
-    let mut rows = Code::new(alloc, 0);
+    let mut code = Code::new(alloc, 0);
     let mut count: usize = 0;
     for name in names {
-        let holes = row_holes(alloc, type_name, count);
-        rows.add(
-            row,
+        let holes = line_holes(alloc, type_name, count);
+        code.add(
+            line,
             &holes.holding("variant", variant(alloc, name.as_str())),
         )?;
         count = count.saturating_add(1);
     }
-    rows.add(last, &row_holes(alloc, type_name, count))?;
-    let _ = rows.text.pop();
-    Ok(rows.text)
+    code.add(last, &line_holes(alloc, type_name, count))?;
+    let _ = code.text.pop();
+    Ok(code.text)
 }
 
-// What a row of an enum has, with the number of the row or of all of them.
-fn row_holes(alloc: Global, type_name: &str, count: usize) -> Holes {
+// What a line of an enum has, with the number of the line or of all of them.
+fn line_holes(alloc: Global, type_name: &str, count: usize) -> Holes {
     Holes::new(alloc)
         .with("type", type_name)
         .holding("count", format!(in alloc; "{count}"))
@@ -204,7 +204,7 @@ pub fn push_enum(
         .holding("cases", cases_of(alloc, request, node.id, type_name))
         .holding("arms", variant_arms(alloc, type_name, names));
     code.add(ENUM_END, &holes)?;
-    code.add(ENUM_ELEMENT, &row_holes(alloc, type_name, names.len()))?;
+    code.add(ENUM_ELEMENT, &line_holes(alloc, type_name, names.len()))?;
     if request.wanted.builders {
         push_to_number(alloc, code, type_name, names)?;
     }
@@ -232,7 +232,7 @@ fn push_variants(
 
 // The arms that return a variant by its number.
 fn variant_arms(alloc: Global, type_name: &str, names: &[String]) -> Result<String, AllocError> {
-    let row = "@count@ => @type@::@variant@,";
+    let line = "@count@ => @type@::@variant@,";
     let last = "unknown => @type@::NotInSchema(unknown),";
-    rows_of(alloc, type_name, names, row, last)
+    lines_of(alloc, type_name, names, line, last)
 }

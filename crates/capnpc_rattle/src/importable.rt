@@ -91,7 +91,7 @@ pub const DEFINITIONS: &[(&str, &[&str])] = &[
             "IsUpgradedStructs",
             "IsUpgradedPointers",
             "ReadsAsNumbers",
-            "TakesRows",
+            "TakesAsStructs",
             "TakesFields",
             "TakesFirstPointers",
             "ElementsFormError",

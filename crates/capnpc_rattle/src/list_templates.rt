@@ -12,14 +12,14 @@ pub struct ListReader<'a, S: ReaderSegments> {
 impl<'a, S: ReaderSegments> ListReader<'a, S> {
     /// The number of elements.
     pub fn len(&self) -> u32
-        ensures { result ≡ length (upgraded_structs_of S.segments self.now.elements).rows }
+        ensures { result ≡ length (upgraded_structs_of S.segments self.now.elements).elements }
     {
         self.elements.len()
     }
 
     /// The element of this index.
     pub fn get(&self, index: u32) -> Reader<'a, S>
-        requires { index < length (upgraded_structs_of S.segments self.now.elements).rows }
+        requires { index < length (upgraded_structs_of S.segments self.now.elements).elements }
         ensures { struct_of S.segments result.fields
             ≡ element_of (upgraded_structs_of S.segments self.now.elements) index }
     {
@@ -31,7 +31,7 @@ impl<'a, S: ReaderSegments> ListReader<'a, S> {
     /// The element of this index, or `None` where there are no more elements than it.
     pub fn try_get(&self, index: u32) -> Option<Reader<'a, S>>
         ensures { let list = upgraded_structs_of S.segments self.now.elements in
-            FindsElement (length list.rows) index
+            FindsElement (length list.elements) index
             (λ item. struct_of S.segments item.fields ≡ element_of list index) result }
     {
         self.try_index_move(index)
@@ -52,7 +52,7 @@ impl<'a, S: ReaderSegments> IndexMove for ListReader<'a, S> {
 
     ghost seen = { λ item. struct_of S.segments item.fields };
 
-    ghost size = { λ list. length (upgraded_structs_of S.segments list.elements).rows };
+    ghost size = { λ list. length (upgraded_structs_of S.segments list.elements).elements };
 
     ghost element = { λ list index.
         element_of (upgraded_structs_of S.segments list.elements) index };
@@ -82,7 +82,7 @@ impl<'a, S: ReaderSegments> FromPointerReader<'a, S> for ListReader<'a, S> {
     ghost shows = { λ pointer view.
         IsUpgradedStructs pointer (upgraded_structs_of S.segments view.elements) };
 
-    ghost accepts = { λ pointer. Accepts pointer TakesRows };
+    ghost accepts = { λ pointer. Accepts pointer TakesAsStructs };
 
     ghost fails = { λ pointer kind. ViewError pointer ElementsFormError kind };
 
@@ -91,7 +91,7 @@ impl<'a, S: ReaderSegments> FromPointerReader<'a, S> for ListReader<'a, S> {
     fn get_from_pointer(reader: any_pointer::Reader<'a, S>) -> Result<Self>
         ensures { let pointer = pointer_of S.segments reader.entry in IsViewOf pointer
             (λ view. IsUpgradedStructs pointer (upgraded_structs_of S.segments view.elements))
-            (Accepts pointer TakesRows) (ViewError pointer ElementsFormError)
+            (Accepts pointer TakesAsStructs) (ViewError pointer ElementsFormError)
             (FormError pointer ElementsFormError) result }
     {
         match upgraded::StructList::get_from_pointer(reader) {

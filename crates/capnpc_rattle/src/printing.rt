@@ -49,20 +49,20 @@ fn push_methods(
     Ok(())
 }
 
-// The rows of the structs.
+// The lines of the structs.
 fn structs_of(alloc: Global, request: &Request, table: &TypeTable) -> Result<String, AllocError> {
-    let mut rows = Code::new(alloc, 0);
+    let mut code = Code::new(alloc, 0);
     for id in table.structs.as_slice() {
-        push_struct(alloc, &mut rows, request, table, *id)?;
+        push_struct(alloc, &mut code, request, table, *id)?;
     }
-    let _ = rows.text.pop();
-    Ok(rows.text)
+    let _ = code.text.pop();
+    Ok(code.text)
 }
 
-// Adds the rows of a struct.
+// Adds the lines of a struct.
 fn push_struct(
     alloc: Global,
-    rows: &mut Code,
+    code: &mut Code,
     request: &Request,
     table: &TypeTable,
     id: u64,
@@ -81,13 +81,13 @@ fn push_struct(
         .with("name", node.name.as_str())
         .holding("discriminant", optional(alloc, body.discriminant))
         .with("fields", fields.text.trim_end());
-    rows.add(STRUCT, &holes)
+    code.add(STRUCT, &holes)
 }
 
-// Adds the row of a field, which is shown by this name.
+// Adds the line of a field, which is shown by this name.
 fn push_field(
     alloc: Global,
-    rows: &mut Code,
+    code: &mut Code,
     table: &TypeTable,
     field: &Field,
     name: &str,
@@ -111,7 +111,7 @@ fn push_field(
         .with("base", base.as_str())
         .holding("offset", format!(in alloc; "{offset}"))
         .holding("default", default_of(alloc, &field.slot));
-    rows.add(FIELD, &holes)
+    code.add(FIELD, &holes)
 }
 
 // A number that may be missing.
@@ -178,15 +178,15 @@ fn data_default(alloc: Global, bytes: &[u8]) -> Result<String, AllocError> {
     Ok(text)
 }
 
-// The rows of the enums.
+// The lines of the enums.
 fn enums_of(alloc: Global, request: &Request, table: &TypeTable) -> Result<String, AllocError> {
-    let mut rows = Code::new(alloc, 0);
+    let mut code = Code::new(alloc, 0);
     for id in table.enums.as_slice() {
         let holes = Holes::new(alloc).holding("names", names_of(alloc, shown_names(request, *id)));
-        rows.add(ENUM, &holes)?;
+        code.add(ENUM, &holes)?;
     }
-    let _ = rows.text.pop();
-    Ok(rows.text)
+    let _ = code.text.pop();
+    Ok(code.text)
 }
 
 // The names by which the enumerants of a node are shown.

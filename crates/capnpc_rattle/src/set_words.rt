@@ -1,7 +1,7 @@
 //! What clauses say of the data words in which a field is set.
 use crate::builder_templates::{ENUM_CLAUSE, OLD_WORDS, WORDS_CLAUSE, WORDS_STAY};
 use crate::code::{Holes, fill, fill_with};
-use crate::enums::{enum_name, enumerants_of, rows_of};
+use crate::enums::{enum_name, enumerants_of, lines_of};
 use crate::getters::Site;
 use crate::numbers::{NumberKind, Stored};
 use crate::schema::Base;
@@ -70,10 +70,10 @@ fn enum_cases(
     stored: &Stored,
 ) -> Result<String, AllocError> {
     let name = enum_name(alloc, site, id)?;
-    let row = enum_case(alloc, stored, "@variant@", "@count@")?;
+    let line = enum_case(alloc, stored, "@variant@", "@count@")?;
     let last = enum_case(alloc, stored, "NotInSchema unknown", "unknown")?;
     let names = enumerants_of(site.request, id);
-    rows_of(alloc, name.as_str(), names, row.as_str(), last.as_str())
+    lines_of(alloc, name.as_str(), names, line.as_str(), last.as_str())
 }
 
 // The case of a variant: that the field has the bits of a value, where `words` has the numbers of

@@ -178,7 +178,7 @@ fn list(
                 alloc,
                 name.as_str(),
                 "IsUpgradedStructs pointer (upgraded_structs_of @segments_of@ view.elements)",
-                "TakesRows",
+                "TakesAsStructs",
                 "ElementsFormError",
             )
         }

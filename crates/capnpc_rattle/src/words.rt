@@ -80,22 +80,22 @@ pub fn push_words(
     let holes = Holes::new(alloc)
         .with("name", name)
         .holding("size", format!(in alloc; "{}", words.len()))
-        .holding("rows", rows_of(alloc, words));
+        .holding("lines", lines_of(alloc, words));
     code.add(WORDS, &holes)
 }
 
-// The bytes of words as code has them, a row for each word.
-fn rows_of(alloc: Global, bytes: &[u8]) -> Result<String, AllocError> {
-    let mut rows = String::new(alloc);
+// The bytes of words as code has them, a line for each word.
+fn lines_of(alloc: Global, bytes: &[u8]) -> Result<String, AllocError> {
+    let mut lines = String::new(alloc);
     for word in bytes.chunks(8) {
-        if !rows.is_empty() {
-            rows.push('\n')?;
+        if !lines.is_empty() {
+            lines.push('\n')?;
         }
         let mut before = "";
         for byte in word {
-            write!(rows, "{before}{byte},")?;
+            write!(lines, "{before}{byte},")?;
             before = " ";
         }
     }
-    Ok(rows)
+    Ok(lines)
 }

@@ -3,7 +3,7 @@ ghost use Rattle.std.specs.Prelude.{◌≡◌, ◌<◌, ◌++◌, ◌∷◌, [],
 ghost use Rattle.std.specs.List.{AllByRecursion};
 ghost use Rattle.capnp_frame.specs.declared.error.ErrorKind.{ErrorKind};
 ghost use Rattle.capnp.specs.Headline.{by_format, reader_of, required, ReadsMessage};
-ghost use Rattle.capnp.specs.Streams.{StandsNext, EndsBy};
+ghost use Rattle.capnp.specs.Streams.{FoundNext, EndsBy};
 ghost use Rattle.capnp.specs.Reading.{IsCutKind, TellsCut, TakesForListed, ReadsEach};
 
 use crate::streams::{Format, read_next};
@@ -149,7 +149,7 @@ fn add_next(
     messages: &mut Vec<Reader<OwnedSegments>>,
 ) -> Result<bool>
     ensures added { IfOk result (λ more. IsTrue more → (message : List (List ℕ))
-        × StandsNext padding format options.traversal_limit_in_words message rest.old.now rest.new.now
+        × FoundNext padding format options.traversal_limit_in_words message rest.old.now rest.new.now
         × (map (λ reader. reader.segments) messages.new.items
         ≡ map (λ reader. reader.segments) messages.old.items ++ message ∷ [])) }
     ensures ended { IfOk result (λ more. IsFalse more →

@@ -31,7 +31,7 @@ struct Fields {
 
 /// What is still to come of a struct or a list.
 #[derive(Drop)]
-enum Row<'a, S: ReaderSegments> {
+enum Pending<'a, S: ReaderSegments> {
     Fields(Fields),
     Structs(Elements<StructList<'a, S>>),
     Pointers(Elements<PointerList<'a, S>>),
@@ -45,7 +45,7 @@ pub struct Walk<'r, 'a, S: ReaderSegments> {
     root: &'r StructReader<'a, S>,
     // The structs below the root that the walk is in, the innermost last.
     structs: Vec<StructReader<'a, S>>,
-    rows: Vec<Row<'a, S>>,
+    pending: Vec<Pending<'a, S>>,
 }
 
 impl<'r, 'a, S: ReaderSegments> Walk<'r, 'a, S> {
@@ -56,7 +56,7 @@ impl<'r, 'a, S: ReaderSegments> Walk<'r, 'a, S> {
             schema,
             root,
             structs: Vec::new(alloc),
-            rows: Vec::new(alloc),
+            pending: Vec::new(alloc),
         }
     }
 
@@ -71,13 +71,13 @@ impl<'r, 'a, S: ReaderSegments> Walk<'r, 'a, S> {
     ///
     /// Fails only where memory is lacking.
     pub fn go_on(&mut self, text: &mut String) -> Result<bool, AllocError> {
-        let Some(row) = self.rows.pop() else {
+        let Some(pending) = self.pending.pop() else {
             return Ok(false);
         };
-        match row {
-            Row::Fields(row) => self.push_next_field(text, row)?,
-            Row::Structs(row) => self.push_next_struct(text, row)?,
-            Row::Pointers(row) => self.push_next_pointer(text, row)?,
+        match pending {
+            Pending::Fields(fields) => self.push_next_field(text, fields)?,
+            Pending::Structs(elements) => self.push_next_struct(text, elements)?,
+            Pending::Pointers(elements) => self.push_next_pointer(text, elements)?,
         }
         Ok(true)
     }
@@ -95,7 +95,7 @@ impl<'r, 'a, S: ReaderSegments> Walk<'r, 'a, S> {
         is_group: bool,
         depth: u32,
     ) -> Result<(), AllocError> {
-        self.rows.push(Row::Fields(Fields {
+        self.pending.push(Pending::Fields(Fields {
             of,
             next: 0,
             is_first: true,
@@ -106,30 +106,30 @@ impl<'r, 'a, S: ReaderSegments> Walk<'r, 'a, S> {
     }
 
     // Adds the next field that is shown, or the end of a struct.
-    fn push_next_field(&mut self, text: &mut String, row: Fields) -> Result<(), AllocError> {
-        let Some(field) = self.schema.field(row.of, row.next) else {
-            if !row.is_group {
+    fn push_next_field(&mut self, text: &mut String, fields: Fields) -> Result<(), AllocError> {
+        let Some(field) = self.schema.field(fields.of, fields.next) else {
+            if !fields.is_group {
                 let _ = self.structs.pop();
             }
             return text.push(')');
         };
-        let is_shown = is_shown(self.current(), self.schema.discriminant(row.of), &field);
-        self.rows.push(Row::Fields(Fields {
-            of: row.of,
-            next: row.next.saturating_add(1),
-            is_first: row.is_first && !is_shown,
-            is_group: row.is_group,
-            depth: row.depth,
+        let is_shown = is_shown(self.current(), self.schema.discriminant(fields.of), &field);
+        self.pending.push(Pending::Fields(Fields {
+            of: fields.of,
+            next: fields.next.saturating_add(1),
+            is_first: fields.is_first && !is_shown,
+            is_group: fields.is_group,
+            depth: fields.depth,
         }))?;
         if !is_shown {
             return Ok(());
         }
-        if !row.is_first {
+        if !fields.is_first {
             text.push_str(", ")?;
         }
         text.push_str(field.name)?;
         text.push_str(" = ")?;
-        self.push_field(text, &field, row.depth)
+        self.push_field(text, &field, fields.depth)
     }
 
     // Adds the value of a field of the current struct.

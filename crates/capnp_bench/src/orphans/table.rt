@@ -1,39 +1,39 @@
-//! A table: one message, a list of structs of a number, a flag and a text, which rows share.
+//! A table: one message, a list of structs of a number, a flag and a text, which elements share.
 use crate::orphans::{Job, Output};
 use crate::random::Random;
 use capnp::{Result, any_struct, text};
 use capnp_orphans::{Orphanage, StructDraft};
 use std::alloc::Global;
 
-type Row = StructDraft<any_struct::Owned, 2, 1>;
+type Element = StructDraft<any_struct::Owned, 2, 1>;
 
 pub fn build(alloc: Global, job: Job, output: &mut Output) -> Result<()> {
     let mut objects = Orphanage::new(alloc)?;
-    let mut rows: Vec<Row> = Vec::new(alloc);
+    let mut elements: Vec<Element> = Vec::new(alloc);
     for _ in 0..job.times {
         objects.clear();
-        rows.clear();
-        table(&mut objects, &mut rows, job)?;
+        elements.clear();
+        table(&mut objects, &mut elements, job)?;
     }
     output.add(objects.bytes())
 }
 
-fn table(objects: &mut Orphanage, rows: &mut Vec<Row>, job: Job) -> Result<()> {
+fn table(objects: &mut Orphanage, elements: &mut Vec<Element>, job: Job) -> Result<()> {
     let mut random = Random::new(job.seed);
     let shared = objects.text("a text that rows share")?;
     for id in 0..job.count {
-        let mut row = Row::new();
-        row.set_data_field(0, random.next());
-        row.set_data_field(64, id % 3 == 0);
-        row.set_data_field(3, id);
+        let mut element = Element::new();
+        element.set_data_field(0, random.next());
+        element.set_data_field(64, id % 3 == 0);
+        element.set_data_field(3, id);
         if id % 2 == 0 {
-            row.adopt::<text::Owned>(0, shared);
+            element.adopt::<text::Owned>(0, shared);
         } else {
-            row.adopt(0, objects.text("its own")?);
+            element.adopt(0, objects.text("its own")?);
         }
-        rows.push(row)?;
+        elements.push(element)?;
     }
-    let list = objects.struct_list(rows)?;
+    let list = objects.struct_list(elements)?;
     objects.set_root(list);
     Ok(())
 }

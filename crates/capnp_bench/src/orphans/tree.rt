@@ -1,4 +1,4 @@
-//! A binary tree of as many nodes as are asked for, up to a full row of leaves.
+//! A binary tree of as many nodes as are asked for, up to a full layer of leaves.
 use crate::orphans::{Job, Output};
 use crate::random::Random;
 use capnp::{Result, any_struct};

@@ -8,7 +8,7 @@ use Rattle.capnp_layout.proofs.objects.ObjectLemmas.{one_tree}
 use Rattle.capnp_layout.specs.Prelude.{number_of, words_of, words_from, Form, null, struct, numbers, pointers, structs, Trees, none, tree, total_words, word_at, At, root, pointer, minus_one, far_pointer, body, Laid, HasRoom}
 use Rattle.capnp_layout.specs.declared.place.Place.{Place}
 use Rattle.capnp_layout.proofs.words.WordLemmas.{length-words_of}
-use Rattle.capnp_layout.proofs.words.MessageLemmas.{segment_stands}
+use Rattle.capnp_layout.proofs.words.MessageLemmas.{segment_is_there}
 use Rattle.capnp_layout.proofs.trees.PlacedLemmas.{local_tree, far_tree, some_form}
 use Rattle.capnp_build.specs.Prelude.{Space, written, used_of, space_at, message, IsLaid}
 use Rattle.capnp_build.specs.declared.arena.location.RootLocation.{RootLocation}
@@ -29,7 +29,7 @@ pointer_small (struct words) n offset room low =
     omega (arith, o, room.0, room.1)
 pointer_small (numbers c values) n offset room low = omega (arith, room.0, room.1, low)
 pointer_small pointers n offset room low = omega (arith, room, low)
-pointer_small (structs d p rows) n offset room low = omega (arith, room.3, low)
+pointer_small (structs d p elements) n offset room low = omega (arith, room.3, low)
 
 -- a block after other bytes, of which some are written over, is the body of trees
 pub laid_after : (at start n : ℕ) (u block w : List ℕ) (trees : Trees) → length u ≡ 8 * start → at + length w ≤ 8 * start → length block ≡ 8 * n → n ≡ total_words trees → words_of block ≡ body trees
@@ -51,7 +51,7 @@ word_of : (m : List (List ℕ)) (place : Place) (words : List ℕ) (x : ℕ) →
 word_of m place words x there is = sym (ap (option_and_then (λ (l : List ℕ). slice_get l place.word)) there) ∙ is
 
 content : (spaces : List Space) (i : ℕ) → i < length spaces → slice_get (message spaces) i ≡ Some (words_of (space_at spaces i).used)
-content spaces i within = segment_stands (map used_of spaces) i (space_at spaces i).used (used_at spaces i within)
+content spaces i within = segment_is_there (map used_of spaces) i (space_at spaces i).used (used_at spaces i within)
 
 -- the tree is at the root, as readers define it
 rooted : (spaces : List Space) (k start n tag : ℕ) (form : Form) (children : Trees) → (let location : RootLocation = record { segment = k; start = start; words = n; pointer_word = tag } in IsLaid spaces location form children)

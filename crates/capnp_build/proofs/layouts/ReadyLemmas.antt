@@ -54,7 +54,7 @@ ready has_tree c word n block one w holds =
 pub value_set : (has_tree : Trees → Type 0) (c : Bool) (spaces last : List Space) (location : RootLocation) (v : HasValue has_tree c spaces location) → IsLaid last location v.form v.children → IsSet has_tree c last
 value_set has_tree c spaces last location v laid =
     let t = laid_root last location v.form v.children laid in
-    record { trees = v.trees; tree_is = v.tree_is; traversed = t.0; stands = subst (λ (x : Trees). At (message last) (root ∷ []) x t.0) (sym v.same) t.1 }
+    record { trees = v.trees; tree_is = v.tree_is; traversed = t.0; is_at = subst (λ (x : Trees). At (message last) (root ∷ []) x t.0) (sym v.same) t.1 }
 
 first_and_rest : (words b : List ℕ) (x n : ℕ) → slice_get words 0 ≡ Some x → length words ≡ 1 + n → words_from words 1 n ≡ b → words ≡ x ∷ b
 first_and_rest [] b x n there long rest = absurd (omega (arith, long))

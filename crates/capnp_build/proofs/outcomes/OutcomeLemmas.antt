@@ -87,9 +87,9 @@ pub still_granted : {A S : Type 0} (alloc : allocator.Ghosts A S) (old cleared :
 still_granted alloc old cleared spaces clear same = λ empty most grants. ap (λ (n : ℕ). n / 8) same ∙ (clear.granted empty most grants).1
 
 -- a block that is placed once the root is cleared
-pub is_put : {A S : Type 0} (alloc : allocator.Ghosts A S) (stands : List Space → Type 0) (measured : ℕ → Type 0) (old cleared new : Built A) (words : ℕ) {done over : Unit {0}}
-    → ClearsRoot alloc old cleared (Ok done) → measured words → PutsBlock alloc stands words cleared new (Ok over) → IsPut alloc measured old new
-is_put alloc stands measured old cleared new words clear has told = record {
+pub is_put : {A S : Type 0} (alloc : allocator.Ghosts A S) (root_is : List Space → Type 0) (measured : ℕ → Type 0) (old cleared new : Built A) (words : ℕ) {done over : Unit {0}}
+    → ClearsRoot alloc old cleared (Ok done) → measured words → PutsBlock alloc root_is words cleared new (Ok over) → IsPut alloc measured old new
+is_put alloc root_is measured old cleared new words clear has told = record {
   cleared = cleared;
   words = words;
   is_cleared = cleared_root alloc old cleared clear;

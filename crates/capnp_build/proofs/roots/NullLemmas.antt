@@ -30,7 +30,7 @@ lands_there (s ∷ spaces) place landing l = omega arith
 
 object_there : (spaces : List Space) (place : Place) (shape : Shape) → PointsTo (message spaces) place shape → 0 < length spaces
 object_there [] place shape (is_null e) = absurd (no_word place 0 e)
-object_there [] place shape (is_object {landing = l} lands content begins stand) = lands_there [] place l lands
+object_there [] place shape (is_object {landing = l} lands content begins is_at) = lands_there [] place l lands
 object_there (s ∷ spaces) place shape o = omega arith
 
 pub root_there : (spaces : List Space) (places : List Place) (trees : Trees) (traversed : ℕ) → places ≡ root ∷ [] → At (message spaces) places trees traversed → 0 < length spaces
@@ -42,16 +42,16 @@ some_word : (xs : List ℕ) (x : ℕ) → slice_get xs 0 ≡ Some x → 0 < leng
 some_word [] x e = cc
 some_word (y ∷ xs) x e = omega arith
 
-pub root_stands : (spaces : List Space) (x : ℕ) → word_at (message spaces) root ≡ Some x → (0 < length spaces) × (8 ≤ length (space_at spaces 0).used)
-root_stands [] x e = cc
-root_stands (s ∷ spaces) x e =
+pub root_is_there : (spaces : List Space) (x : ℕ) → word_at (message spaces) root ≡ Some x → (0 < length spaces) × (8 ≤ length (space_at spaces 0).used)
+root_is_there [] x e = cc
+root_is_there (s ∷ spaces) x e =
     let some : 0 < length (words_of s.used) = some_word (words_of s.used) x e in
     (omega arith, omega (arith, some, length-words_of s.used))
 
 pub root_room : (spaces : List Space) → 0 < length spaces → HasNullRoot spaces → 8 ≤ length (space_at spaces 0).used
 root_room spaces there r = elim r [
   | inl empty ↦ (let l : length spaces ≡ 0 = ap length empty in absurd (omega (arith, l, there)))
-  | inr word ↦ (root_stands spaces 0 word).1
+  | inr word ↦ (root_is_there spaces 0 word).1
 ]
 
 -- the root's word made zero
@@ -74,7 +74,7 @@ pub old_cleared : (spaces : List Space) (i from : ℕ) (zs : List ℕ) (x : ℕ)
     word_at (message (slice_set wiped 0 (with_bytes (space_at wiped 0) 0 (replicate 8 0)))) root ≡ Some 0)
 old_cleared spaces i from zs x word room =
     let s : Space = with_bytes (space_at spaces i) from zs in
-    let root_at = root_stands spaces x word in
+    let root_at = root_is_there spaces x word in
     let long : length s.used ≡ length (space_at spaces i).used = written_length from (space_at spaces i).used zs room in
     let count : length (slice_set spaces i s) ≡ length spaces = length-set spaces i s in
     let first : length (space_at (slice_set spaces i s) 0).used ≡ length (space_at spaces 0).used = set_room spaces i 0 s long in
@@ -85,7 +85,7 @@ pub old_size : (spaces : List Space) (i from : ℕ) (zs : List ℕ) (x : ℕ) �
     size_in_words (slice_set wiped 0 (with_bytes (space_at wiped 0) 0 (replicate 8 0))) ≡ max 1 (size_in_words spaces))
 old_size spaces i from zs x word room =
     let s : Space = with_bytes (space_at spaces i) from zs in
-    let root_at = root_stands spaces x word in
+    let root_at = root_is_there spaces x word in
     let long : length s.used ≡ length (space_at spaces i).used = written_length from (space_at spaces i).used zs room in
     let first : length (space_at (slice_set spaces i s) 0).used ≡ length (space_at spaces 0).used = set_room spaces i 0 s long in
     let eight : length {A = ℕ} (replicate 8 0) ≡ 8 = refl in

@@ -78,7 +78,7 @@ holds_form spaces location (numbers c values) children r low = (
   λ e. words_read spaces location values (code_is spaces location c 5 values children e r),
 )
 holds_form spaces location pointers children r low = tt
-holds_form spaces location (structs d p rows) children r low = tt
+holds_form spaces location (structs d p elements) children r low = tt
 
 -- a number of a list of words is another one
 pub number_laid : (spaces last : List Space) (location : RootLocation) (values : List ℕ) (i x : ℕ) (w : List ℕ) → IsLaid spaces location (numbers 5 values) none → i < length values → x < 2 ^ 64
@@ -125,7 +125,7 @@ field_read null bytes words i holds has within = let l : length words ≡ 0 = ap
 field_read (struct fields) bytes words i holds has within = word_read bytes words i (subst (λ (l : List ℕ). words_of (take (8 * length l) bytes) ≡ l) (sym has) holds) within
 field_read (numbers c values) bytes words i holds has within = absurd has
 field_read pointers bytes words i holds has within = absurd has
-field_read (structs d p rows) bytes words i holds has within = absurd has
+field_read (structs d p elements) bytes words i holds has within = absurd has
 
 pub number_read : (form : Form) (bytes words : List ℕ) (i : ℕ) → HoldsForm bytes form → IsWords form words → i < length words → slice_index_or (words_of bytes) i 0 ≡ slice_index_or words i 0
 number_read null bytes words i holds has within = let l : length words ≡ 0 = ap length has in absurd (omega (arith, l, within))
@@ -133,7 +133,7 @@ number_read (struct fields) bytes words i holds has within = absurd has
 number_read (numbers c values) bytes words i holds has within =
     word_read bytes words i (subst (λ (l : List ℕ). words_of (take (8 * length l) bytes) ≡ l) (sym has.1) (holds.1 has.0)) within
 number_read pointers bytes words i holds has within = absurd has
-number_read (structs d p rows) bytes words i holds has within = absurd has
+number_read (structs d p elements) bytes words i holds has within = absurd has
 
 -- the kind that is shown is that of the object there
 pub shown_there : (spaces : List Space) (location : RootLocation) (shown : RootKind) (form : Form) (children : Trees) → IsLaid spaces location form children → ShowsRoot shown form → IsRootKind shown spaces

@@ -6,7 +6,7 @@ use Rattle.capnp_build.specs.Prelude.{Space, with_bytes, BuilderState, space_at,
 use Rattle.capnp_build.specs.declared.allocator.Allocator.{Ghosts}
 use Rattle.capnp_build.specs.declared.arena.location.RootLocation.{RootLocation}
 use Rattle.capnp_build.proofs.states.BuilderStateLemmas.{edit_keeps}
-use Rattle.capnp_build.proofs.roots.NullLemmas.{old_cleared, old_size, first_cleared, first_size, root_stands, root_room}
+use Rattle.capnp_build.proofs.roots.NullLemmas.{old_cleared, old_size, first_cleared, first_size, root_is_there, root_room}
 use Rattle.capnp_build.proofs.states.KeptLemmas.{kept_past, kept_outside}
 use Rattle.capnp_build.proofs.states.SpaceLemmas.{one_zeroed, two_zeroed, wiped}
 
@@ -38,7 +38,7 @@ body_wiped {A = A} alloc old between new location k built long d e =
     let zeros : List ℕ = replicate k 0 in
     let word : ℕ = root_word location.segment location.start built.0 built.1 in
     let fits : 8 * location.start + length zeros ≤ length (space_at spaces location.segment).used = omega (arith, laid.body_is.room, long, length-replicate {A = ℕ} k 0) in
-    let first = root_stands spaces word laid.root_is in
+    let first = root_is_there spaces word laid.root_is in
     let between_is : between.spaces ≡ slice_set spaces location.segment (with_bytes (space_at spaces location.segment) (8 * location.start) zeros) = ap (λ (h : BuilderState A). h.spaces) d in
     let new_is : new.spaces ≡ slice_set between.spaces 0 (with_bytes (space_at between.spaces 0) 0 (replicate 8 0)) = ap (λ (h : BuilderState A). h.spaces) e in
     let zero_root = λ (l : List Space). slice_set l 0 (with_bytes (space_at l 0) 0 (replicate 8 0)) in

@@ -7,7 +7,7 @@ use Rattle.std.specs.Int.{from_le_bytes, to_le_bytes}
 use Rattle.std.specs.Simd.{first_chunks}
 use Rattle.capnp_layout.specs.Prelude.{number_of, words_of, word_at, root}
 use Rattle.capnp_layout.specs.declared.place.Place.{Place}
-use Rattle.capnp_layout.proofs.words.MessageLemmas.{word_stands}
+use Rattle.capnp_layout.proofs.words.MessageLemmas.{word_is_there}
 use Rattle.capnp_layout.proofs.words.WordLemmas.{number_of_eight}
 use Rattle.capnp_build.specs.Prelude.{Space, written, with_bytes, used_of, space_at, message}
 use Rattle.capnp_build.proofs.words.UsedLemmas.{written_length, written_used}
@@ -32,7 +32,7 @@ used_at (s ∷ spaces) (suc i) within = used_at spaces i (omega (arith, within))
 pub word_there : (spaces : List Space) (place : Place) → place.segment < length spaces → 8 * place.word + 8 ≤ length (space_at spaces place.segment).used
     → word_at (message spaces) place ≡ Some (number_of 256 (take 8 (drop (8 * place.word) (space_at spaces place.segment).used)))
 word_there spaces place within room =
-    word_stands (map used_of spaces) place (space_at spaces place.segment).used _ (used_at spaces place.segment within) (word_of_bytes (space_at spaces place.segment).used place.word room)
+    word_is_there (map used_of spaces) place (space_at spaces place.segment).used _ (used_at spaces place.segment within) (word_of_bytes (space_at spaces place.segment).used place.word room)
 
 pub set_here : (spaces : List Space) (i : ℕ) (s : Space) → i < length spaces → space_at (slice_set spaces i s) i ≡ s
 set_here [] i s within = absurd (omega (arith, within))

@@ -42,7 +42,7 @@ unwritten old = record { location = refl; count = refl; size = refl; outside = �
 
 -- a data word of the struct at the root
 pub field_known : (spaces : List Space) (location : RootLocation) (index : ℕ) (f : HasField spaces index) → IsBuilt spaces (Some location) → IsLaid spaces location (struct f.words) f.children
-field_known spaces location index f p = laid_as spaces location p.0 (struct f.words) p.1 f.children f.traversed p.2 f.stands
+field_known spaces location index f p = laid_as spaces location p.0 (struct f.words) p.1 f.children f.traversed p.2 f.is_at
 
 pub field_room : (spaces : List Space) (location : RootLocation) (index n : ℕ) (f : HasField spaces index) → IsBuilt spaces (Some location) → n ≡ 8
     → 8 * (location.start + index) + n ≤ length (space_at spaces location.segment).used
@@ -56,8 +56,8 @@ pub field_set : (spaces last : List Space) (location : RootLocation) (index x : 
     → last ≡ slice_set spaces location.segment (with_bytes (space_at spaces location.segment) (8 * (location.start + index)) w) → IsFieldSet spaces last index x
 field_set spaces last location index x w f p small is eight e words children traversed there =
     let r = laid_as spaces location p.0 (struct words) p.1 children traversed p.2 there in
-    let s = laid_as spaces location p.0 (struct f.words) p.1 f.children f.traversed p.2 f.stands in
-    let long : length words ≡ length f.words = same_fields spaces words f.words children f.children traversed f.traversed there f.stands in
+    let s = laid_as spaces location p.0 (struct f.words) p.1 f.children f.traversed p.2 f.is_at in
+    let long : length words ≡ length f.words = same_fields spaces words f.words children f.children traversed f.traversed there f.is_at in
     laid_root last location (struct (slice_set words index x)) children (field_laid spaces last location words children index x w r (omega (arith, long, f.within)) small is eight e)
 
 pub no_struct : (words : List ℕ) → struct words ≡ null → ⊥
@@ -65,7 +65,7 @@ no_struct words e = cc
 
 -- a number of the list of words at the root
 pub number_known : (spaces : List Space) (location : RootLocation) (index : ℕ) (f : HasNumber spaces index) → IsBuilt spaces (Some location) → IsLaid spaces location (numbers 5 f.values) none
-number_known spaces location index f p = laid_as spaces location p.0 (numbers 5 f.values) p.1 none f.traversed p.2 f.stands
+number_known spaces location index f p = laid_as spaces location p.0 (numbers 5 f.values) p.1 none f.traversed p.2 f.is_at
 
 pub number_room : (spaces : List Space) (location : RootLocation) (index n : ℕ) (f : HasNumber spaces index) → IsBuilt spaces (Some location) → n ≡ 8
     → 8 * location.start + 8 * index + n ≤ length (space_at spaces location.segment).used
@@ -79,7 +79,7 @@ pub number_set : (spaces last : List Space) (location : RootLocation) (index x :
     → last ≡ slice_set spaces location.segment (with_bytes (space_at spaces location.segment) (8 * location.start + 8 * index) w) → IsNumberSet spaces last index x
 number_set spaces last location index x w f p small is eight e values traversed there =
     let r = laid_as spaces location p.0 (numbers 5 values) p.1 none traversed p.2 there in
-    let long : length values ≡ length f.values = same_numbers spaces 5 values f.values traversed f.traversed there f.stands in
+    let long : length values ≡ length f.values = same_numbers spaces 5 values f.values traversed f.traversed there f.is_at in
     laid_root last location (numbers 5 (slice_set values index x)) none (number_laid spaces last location values index x w r (omega (arith, long, f.within)) small is eight e)
 
 pub no_list : (values : List ℕ) → numbers 5 values ≡ null → ⊥
@@ -87,7 +87,7 @@ no_list values e = cc
 
 -- bytes of the list of bytes at the root
 pub bytes_known : (spaces : List Space) (location : RootLocation) (index n : ℕ) (f : HasBytes spaces index n) → IsBuilt spaces (Some location) → IsLaid spaces location (numbers 2 f.values) none
-bytes_known spaces location index n f p = laid_as spaces location p.0 (numbers 2 f.values) p.1 none f.traversed p.2 f.stands
+bytes_known spaces location index n f p = laid_as spaces location p.0 (numbers 2 f.values) p.1 none f.traversed p.2 f.is_at
 
 pub bytes_room : (spaces : List Space) (location : RootLocation) (index n : ℕ) (f : HasBytes spaces index n) → IsBuilt spaces (Some location)
     → 8 * location.start + index + n ≤ length (space_at spaces location.segment).used
@@ -111,5 +111,5 @@ pub bytes_set : (spaces last : List Space) (location : RootLocation) (index : �
     → last ≡ slice_set spaces location.segment (with_bytes (space_at spaces location.segment) (8 * location.start + index) w) → IsBytesSet spaces last index w
 bytes_set spaces last location index w f p low small e values traversed there =
     let r = laid_as spaces location p.0 (numbers 2 values) p.1 none traversed p.2 there in
-    let long : length values ≡ length f.values = same_numbers spaces 2 values f.values traversed f.traversed there f.stands in
+    let long : length values ≡ length f.values = same_numbers spaces 2 values f.values traversed f.traversed there f.is_at in
     laid_root last location (numbers 2 (written values index w)) none (bytes_laid spaces last location values index w r low small (omega (arith, long, f.within)) e)

@@ -119,7 +119,7 @@ impl<A: Allocator> BuilderArena<A> {
     /// The kind of the object at the root.
     pub fn root_kind(&self) -> RootKind
         ensures form { ForRoot self.now.spaces (ShowsRoot result) }
-        ensures stands { IsRootKind result self.now.spaces }
+        ensures is_kind { IsRootKind result self.now.spaces }
     {
         match self.location {
             None => RootKind::Null,
@@ -172,7 +172,7 @@ impl<A: Allocator> BuilderArena<A> {
     }
 
     /// A fact for callers: there is a tree at the root.
-    pub fn root_stands(&self)
+    pub fn root_is_there(&self)
         ensures { 0 < length self.now.spaces → (form : Form) × (children : Trees) × (traversed : ℕ)
             × At (message self.now.spaces) (root ∷ []) (tree form children none) traversed }
     {

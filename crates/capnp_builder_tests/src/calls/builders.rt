@@ -109,7 +109,7 @@ fn no_room_in_a_single_segment(rt: HostRuntime) {
     let mut region = [7; 16];
     let mut message = Builder::new(rt.alloc(), SingleSegmentAllocator::new(&mut region));
     let failed = allocation_error(set_text(&mut message, "Hello, World!"));
-    expect(&rt, "as it stands", failed, (15, 3));
+    expect(&rt, "untrimmed", failed, (15, 3));
     assert!(rt; is_null_word(&message));
     let failed = allocation_error(set_canonical_text(&mut message, "Hello, World!"));
     expect(&rt, "canonical", failed, (25, 0));

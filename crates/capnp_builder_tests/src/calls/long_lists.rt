@@ -39,7 +39,7 @@ fn has_segment(message: &Builder<HeapAllocator>, wanted: &[u8]) -> bool {
 // A root that is set to a value is this segment, as it is and in canonical form.
 fn expect_set<T, V: SetterInput<T>>(
     rt: &(impl Abort + AllocGlobal),
-    row: &str,
+    case: &str,
     value: &V,
     segment: &[u8],
 ) -> Result<()> {
@@ -48,25 +48,25 @@ fn expect_set<T, V: SetterInput<T>>(
     let mut form = large_message(rt.alloc());
     form.set_root_canonical::<T, Borrowed<'_, V>>(Borrowed::new(value))?;
     let found = [has_segment(&message, segment), has_segment(&form, segment)];
-    expect(rt, row, found, [true, true]);
+    expect(rt, case, found, [true, true]);
     Ok(())
 }
 
 // A root that is set to what is read as the root of other segments.
 fn expect_read<'a, S: ReaderSegments, T, V: FromPointerReader<'a, S> + SetterInput<T> + Drop>(
     rt: &(impl Abort + AllocGlobal),
-    row: &str,
+    case: &str,
     arena: &'a ReaderArena<S>,
     segment: &[u8],
 ) -> Result<()> {
     let list: V = root_as(arena)?;
-    expect_set::<T, V>(rt, row, &list, segment)
+    expect_set::<T, V>(rt, case, &list, segment)
 }
 
-// Numbers that stand in a row, and the list of them that is read of the segment.
+// Numbers one after the other, and the list of them that is read of the segment.
 fn expect_numbers<N: PrimitiveElement + Numbered + Copy>(
     rt: &(impl Abort + AllocGlobal),
-    row: &str,
+    case: &str,
     segment: &[u8],
 ) -> Result<()> {
     let mut all: Vec<N> = Vec::new(rt.alloc());
@@ -74,12 +74,12 @@ fn expect_numbers<N: PrimitiveElement + Numbered + Copy>(
         all.push(N::at(index))?;
     }
     let list = NumberList::new(&all);
-    expect_set::<capnp_wire::primitive_list::Owned<N>, NumberList<'_, N>>(rt, row, &list, segment)?;
+    expect_set::<capnp_wire::primitive_list::Owned<N>, NumberList<'_, N>>(rt, case, &list, segment)?;
     let segments = [segment];
     let arena = plain_arena(&segments);
     let read: capnp_wire::primitive_list::Reader<'_, N> = root_as(&arena)?;
     expect_set::<capnp_wire::primitive_list::Owned<N>, capnp_wire::primitive_list::Reader<'_, N>>(
-        rt, row, &read, segment,
+        rt, case, &read, segment,
     )
 }
 
@@ -150,7 +150,7 @@ type Named<'a> = StructValue<1, Field<text::Owned, &'a str, NoFields>>;
 type ReadStructs<'a> = struct_list::Reader<'a, SegmentArray<'a>>;
 
 // Structs of a number and a text, and what such structs are made of.
-fn rows_of<'a>(alloc: Global, names: &[&'a str]) -> Result<(Vec<Named<'a>>, Vec<PhoneEntry<'a>>)> {
+fn elements_of<'a>(alloc: Global, names: &[&'a str]) -> Result<(Vec<Named<'a>>, Vec<PhoneEntry<'a>>)> {
     let mut values = Vec::new(alloc);
     let mut entries = Vec::new(alloc);
     for (index, name) in (0..MANY).zip(names) {
@@ -168,7 +168,7 @@ fn rows_of<'a>(alloc: Global, names: &[&'a str]) -> Result<(Vec<Named<'a>>, Vec<
 fn long_lists_of_structs(rt: HostRuntime) -> Result<()> {
     let bytes = all_digits(rt.alloc())?;
     let names = names_in(rt.alloc(), &bytes)?;
-    let (values, entries) = rows_of(rt.alloc(), &names)?;
+    let (values, entries) = elements_of(rt.alloc(), &names)?;
     let segment = list_of_structs(rt.alloc(), Texts::After, MANY)?;
     let list = StructList::new(&values);
     expect_set::<struct_list::Owned, StructList<'_, Named<'_>>>(&rt, "structs", &list, &segment)?;

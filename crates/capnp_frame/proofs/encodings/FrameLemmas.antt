@@ -2,7 +2,7 @@
 use Rattle.std.proofs.Common.{◌≡◌, ℕ, ◌+◌, ◌-◌, ◌*◌, ◌/◌, List, [], ◌∷◌, ◌++◌, length, take, drop, replicate, refl, sym, ap, ◌∙◌, subst, arith, ◌↔◌, append_assoc, length-append}
 use Rattle.std.proofs.lemmas.List.{take-append-drop, length-take-le, length-drop, length-replicate}
 use Rattle.std.specs.List.{concat, flat_map, AllByRecursion}
-use Rattle.capnp_frame.specs.Prelude.{IsWholeWords, word_count, lengths, size_in_words, field, padding_len, zero_padded_table, HasTable, IsTable, IsFrame, frame_bytes, Splits, MessageStands}
+use Rattle.capnp_frame.specs.Prelude.{IsWholeWords, word_count, lengths, size_in_words, field, padding_len, zero_padded_table, HasTable, IsTable, IsFrame, frame_bytes, Splits, MessageFound}
 use Rattle.capnp_frame.specs.declared.serialize.segment_table.Padding.{Padding}
 use Rattle.capnp_frame.specs.declared.serialize.segment_table.Padding.TheVariants.{Any, Zero}
 use Rattle.capnp_frame.proofs.tables.TableLemmas.{length-fields, any_table, zero_table, zeros_kept}
@@ -21,8 +21,8 @@ length-segments (s ∷ ss) whole =
     let total : size_in_words (s ∷ ss) ≡ word_count s + size_in_words ss = sum_by-cons (λ x. x) (word_count s) (lengths ss) in
     omega (arith, length-append s (concat ss), length-segments ss whole.1)
 
-pub MessageStands-from_frame : {rule : Padding} (text rest : List ℕ) (segments : List (List ℕ)) → IsFrame rule text segments → MessageStands rule Splits segments (text ++ rest) rest
-MessageStands-from_frame {rule} text rest segments frame =
+pub MessageFound-from_frame : {rule : Padding} (text rest : List ℕ) (segments : List (List ℕ)) → IsFrame rule text segments → MessageFound rule Splits segments (text ++ rest) rest
+MessageFound-from_frame {rule} text rest segments frame =
     let head = frame.table in
     let long = length-table head (lengths segments) frame.lengths_declared in
     let whole : take 8 head ++ drop 8 head ≡ head = take-append-drop 8 head in
@@ -45,7 +45,7 @@ MessageStands-from_frame {rule} text rest segments frame =
       whole = frame.whole;
     }
 
-pub frame_from_requests : {rule : Padding} (raw rest : List ℕ) (segments : List (List ℕ)) → MessageStands rule Splits segments raw rest → (text : List ℕ) × IsFrame rule text segments × (raw ≡ text ++ rest)
+pub frame_from_requests : {rule : Padding} (raw rest : List ℕ) (segments : List (List ℕ)) → MessageFound rule Splits segments raw rest → (text : List ℕ) × IsFrame rule text segments × (raw ≡ text ++ rest)
 frame_from_requests raw rest segments sent =
     let head = sent.table.first ++ sent.table.others in (
       head ++ concat segments,
@@ -73,10 +73,10 @@ frame_bytes_are rule segments can whole = record {
   spelled = refl;
 }
 
-pub plain_requests : (rule : Padding) (segments : List (List ℕ)) (raw rest : List ℕ) → MessageStands rule Splits segments raw rest ↔ ((text : List ℕ) × IsFrame rule text segments × (raw ≡ text ++ rest))
+pub plain_requests : (rule : Padding) (segments : List (List ℕ)) (raw rest : List ℕ) → MessageFound rule Splits segments raw rest ↔ ((text : List ℕ) × IsFrame rule text segments × (raw ≡ text ++ rest))
 plain_requests rule segments raw rest = (
   frame_from_requests raw rest segments,
-  λ (text, frame, e). subst (λ l. MessageStands rule Splits segments l rest) (sym e) (MessageStands-from_frame text rest segments frame),
+  λ (text, frame, e). subst (λ l. MessageFound rule Splits segments l rest) (sym e) (MessageFound-from_frame text rest segments frame),
 )
 
 -- a table of zero padding, as one of any padding

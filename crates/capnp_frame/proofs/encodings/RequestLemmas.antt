@@ -4,13 +4,13 @@ use Rattle.std.proofs.lemmas.List.{length-take-le, length-drop}
 use Rattle.std.specs.Prelude.{sum}
 use Rattle.std.specs.List.{concat, AllByRecursion}
 use Rattle.std.proofs.lemmas.List.Sums.{sum_by-cons}
-use Rattle.capnp_frame.specs.Prelude.{IsWholeWords, word_count, lengths, size_in_words, AreWithin, IsWithin, cut, Giving, IfKnown, TableStands, MessageStands, overwritten, same_front, zero_padded_table}
+use Rattle.capnp_frame.specs.Prelude.{IsWholeWords, word_count, lengths, size_in_words, AreWithin, IsWithin, cut, Giving, IfKnown, TableFound, MessageFound, overwritten, same_front, zero_padded_table}
 use Rattle.capnp_frame.specs.declared.serialize.segment_table.Padding.{Padding}
 use Rattle.std.proofs.lemmas.Option.{none-some, same_Some}
 use Rattle.capnp_frame.proofs.tables.Ranges.{concat-cut}
 use Rattle.capnp_frame.proofs.sources.SourceLemmas.{IfKnown-join}
 use Rattle.capnp_frame.specs.declared.serialize.segment_table.Padding.TheVariants.{Any, Zero}
-use Rattle.capnp_frame.proofs.tables.TableLemmas.{any_table, zero_table, TableStands-once}
+use Rattle.capnp_frame.proofs.tables.TableLemmas.{any_table, zero_table, TableFound-once}
 use Rattle.capnp_frame.proofs.encodings.FrameLemmas.{zero_table_is}
 
 -- the parts have the lengths that cut them, and are whole words
@@ -24,16 +24,16 @@ lengths-cut (n ∷ ns) bytes all =
     (ap (λ k. k ∷ lengths (cut ns (drop (8 * n) bytes))) here ∙ ap (λ l. n ∷ l) inner.0, (omega arith, inner.1))
 
 -- what is read after its table is the message
-pub MessageStands-cut : (rule : Padding) (gives : Giving) (ns bytes : List ℕ) (old mid new : Option (List ℕ))
-    → length bytes ≡ 8 * sum ns → IfKnown old mid (TableStands rule gives ns)
+pub MessageFound-cut : (rule : Padding) (gives : Giving) (ns bytes : List ℕ) (old mid new : Option (List ℕ))
+    → length bytes ≡ 8 * sum ns → IfKnown old mid (TableFound rule gives ns)
     → IfKnown mid new (λ raw rest. gives raw (length bytes) bytes rest)
-    → IfKnown old new (MessageStands rule gives (cut ns bytes))
-MessageStands-cut rule gives ns bytes old mid new long table given =
+    → IfKnown old new (MessageFound rule gives (cut ns bytes))
+MessageFound-cut rule gives ns bytes old mid new long table given =
     let lens = lengths-cut ns bytes long in
     let all : length bytes ≡ 8 * size_in_words (cut ns bytes) = long ∙ ap (λ l. 8 * sum l) (sym lens.0) in
     IfKnown-join old mid new (λ raw left rest table given. record {
       between = left;
-      table = subst (λ l. TableStands rule gives l raw left) (sym lens.0) table;
+      table = subst (λ l. TableFound rule gives l raw left) (sym lens.0) table;
       given = subst (λ l. gives left (8 * size_in_words (cut ns bytes)) l rest) (sym (concat-cut ns bytes long)) (subst (λ k. gives left k bytes rest) all given);
       whole = lens.1;
     }) table given
@@ -55,13 +55,13 @@ parts_once (x ∷ xs) (y ∷ ys) p q lens e =
     ap (λ l. l ∷ xs) parts.0 ∙ ap (λ l. y ∷ l) (parts_once xs ys p.1 q.1 others parts.1)
 
 -- at most one message is at a front
-pub MessageStands-once : {rule other : Padding} (gives : Giving) (raw rest left : List ℕ) (segments others : List (List ℕ))
+pub MessageFound-once : {rule other : Padding} (gives : Giving) (raw rest left : List ℕ) (segments others : List (List ℕ))
     → ((raw : List ℕ) (n : ℕ) (bytes rest others left : List ℕ) → gives raw n bytes rest → gives raw n others left
     → (bytes ≡ others) × (rest ≡ left)) → ((raw : List ℕ) (n : ℕ) (bytes rest : List ℕ) → gives raw n bytes rest
-    → length bytes ≡ n) → MessageStands rule gives segments raw rest → MessageStands other gives others raw left
+    → length bytes ≡ n) → MessageFound rule gives segments raw rest → MessageFound other gives others raw left
     → (segments ≡ others) × (rest ≡ left)
-MessageStands-once gives raw rest left segments others unique all p q =
-    let table = TableStands-once gives raw (lengths segments) p.between (lengths others) q.between unique all p.table q.table in
+MessageFound-once gives raw rest left segments others unique all p q =
+    let table = TableFound-once gives raw (lengths segments) p.between (lengths others) q.between unique all p.table q.table in
     let same : 8 * size_in_words segments ≡ 8 * size_in_words others = ap (λ l. 8 * sum l) table.0 in
     let rests = unique q.between (8 * size_in_words others) (concat segments) rest (concat others) left
     (subst (λ k. gives q.between k (concat segments) rest) same
@@ -77,7 +77,7 @@ word_not_empty gives (Some raw) (Some left) word empty given e =
     absurd (omega arith)
 
 pub table_not_empty : (rule : Padding) (gives : Giving) (old mid : Option (List ℕ)) (ns : List ℕ)
-    → ((k : ℕ) (bytes rest : List ℕ) → gives [] k bytes rest → k ≡ 0) → IfKnown old mid (TableStands rule gives ns)
+    → ((k : ℕ) (bytes rest : List ℕ) → gives [] k bytes rest → k ≡ 0) → IfKnown old mid (TableFound rule gives ns)
     → old ≡ Some [] → ⊥
 table_not_empty rule gives None mid ns empty table e = absurd (none-some [] e)
 table_not_empty rule gives (Some raw) None ns empty table e = absurd table
@@ -94,43 +94,43 @@ overwritten_parts ns items segments len w long same parts =
     ap (λ k. cut ns (take k (w ++ drop (length w) items))) same ∙ ap (λ l. cut ns (overwritten l w)) (sym bytes) ∙ ap (λ l. cut l (overwritten (concat segments) w)) (sym lens)
 
 -- the requests of one source give a message where those of another do
-pub MessageStands-map : {rule : Padding} {gives others : Giving}
+pub MessageFound-map : {rule : Padding} {gives others : Giving}
     (given : (raw : List ℕ) (n : ℕ) (bytes rest : List ℕ) → gives raw n bytes rest → others raw n bytes rest)
-    (segments : List (List ℕ)) (raw rest : List ℕ) → MessageStands rule gives segments raw rest
-    → MessageStands rule others segments raw rest
-MessageStands-map given segments raw rest stands = record {
-  between = stands.between;
+    (segments : List (List ℕ)) (raw rest : List ℕ) → MessageFound rule gives segments raw rest
+    → MessageFound rule others segments raw rest
+MessageFound-map given segments raw rest is_found = record {
+  between = is_found.between;
   table = record {
-    first = stands.table.first;
-    others = stands.table.others;
-    between = stands.table.between;
-    first_given = given _ _ _ _ stands.table.first_given;
-    others_given = given _ _ _ _ stands.table.others_given;
-    table = stands.table.table;
+    first = is_found.table.first;
+    others = is_found.table.others;
+    between = is_found.table.between;
+    first_given = given _ _ _ _ is_found.table.first_given;
+    others_given = given _ _ _ _ is_found.table.others_given;
+    table = is_found.table.table;
   };
-  given = given _ _ _ _ stands.given;
-  whole = stands.whole;
+  given = given _ _ _ _ is_found.given;
+  whole = is_found.whole;
 }
 
 -- a message whose table has zero padding, as one of any padding
-pub zero_message_is : (gives : Giving) (m : List (List ℕ)) (raw rest : List ℕ) → MessageStands Zero gives m raw rest
-    ↔ ((any : MessageStands Any gives m raw rest) × (any.table.first ++ any.table.others ≡ zero_padded_table (lengths m)))
+pub zero_message_is : (gives : Giving) (m : List (List ℕ)) (raw rest : List ℕ) → MessageFound Zero gives m raw rest
+    ↔ ((any : MessageFound Any gives m raw rest) × (any.table.first ++ any.table.others ≡ zero_padded_table (lengths m)))
 zero_message_is gives m raw rest = (
-  λ stands. (
+  λ is_found. (
     record {
-      between = stands.between;
+      between = is_found.between;
       table = record {
-        first = stands.table.first;
-        others = stands.table.others;
-        between = stands.table.between;
-        first_given = stands.table.first_given;
-        others_given = stands.table.others_given;
-        table = any_table (stands.table.first ++ stands.table.others) (lengths m) stands.table.table;
+        first = is_found.table.first;
+        others = is_found.table.others;
+        between = is_found.table.between;
+        first_given = is_found.table.first_given;
+        others_given = is_found.table.others_given;
+        table = any_table (is_found.table.first ++ is_found.table.others) (lengths m) is_found.table.table;
       };
-      given = stands.given;
-      whole = stands.whole;
+      given = is_found.given;
+      whole = is_found.whole;
     },
-    zero_table (stands.table.first ++ stands.table.others) (lengths m) stands.table.table,
+    zero_table (is_found.table.first ++ is_found.table.others) (lengths m) is_found.table.table,
   ),
   λ (any, is). record {
     between = any.between;

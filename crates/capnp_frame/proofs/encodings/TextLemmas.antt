@@ -4,9 +4,9 @@ use Rattle.std.specs.List.{concat}
 use Rattle.capnp_frame.specs.declared.error.ErrorKind.{ErrorKind}
 use Rattle.capnp_frame.specs.declared.serialize.segment_table.Padding.{Padding}
 use Rattle.capnp_frame.specs.declared.serialize.segment_table.Padding.TheVariants.{Any}
-use Rattle.capnp_frame.specs.Prelude.{Giving, Refusing, IsSource, MessageStands, AppendsSame, AppendsAll, Grammar, BeginsWith, AreEncodings, EndsEncodings, IsFrame, same_front, splitting}
+use Rattle.capnp_frame.specs.Prelude.{Giving, Refusing, IsSource, MessageFound, AppendsSame, AppendsAll, Grammar, BeginsWith, AreEncodings, EndsEncodings, IsFrame, same_front, splitting}
 use Rattle.capnp_frame.proofs.encodings.FrameLemmas.{plain_requests, any_frame}
-use Rattle.capnp_frame.proofs.encodings.RequestLemmas.{MessageStands-once}
+use Rattle.capnp_frame.proofs.encodings.RequestLemmas.{MessageFound-once}
 use Rattle.capnp_frame.proofs.errors.StreamErrorLemmas.{given_some, StreamError-apart, StreamError-once, StreamError-some}
 
 -- How the encodings of a grammar and the requests of a source go together: at most one message
@@ -52,25 +52,25 @@ AreEncodings-push IsText limit (n ∷ ns) m raw between rest texts begins = (tex
 
 -- the encodings of a grammar are what three requests of a source take
 abbrev pub AreRequested : Grammar → Padding → Giving → Type 0
-AreRequested IsText rule gives = (segments : List (List ℕ)) (raw rest : List ℕ) → MessageStands rule gives segments raw rest ↔ ((text : List ℕ) × IsText text segments × (raw ≡ text ++ rest))
+AreRequested IsText rule gives = (segments : List (List ℕ)) (raw rest : List ℕ) → MessageFound rule gives segments raw rest ↔ ((text : List ℕ) × IsText text segments × (raw ≡ text ++ rest))
 
 requested : {IsText : Grammar} {gives : Giving} {limit : Option ℕ} (rule : Padding) (texts : AreRequested IsText rule gives)
-    (m : List (List ℕ)) (raw rest : List ℕ) → BeginsWith IsText limit m raw rest → MessageStands rule gives m raw rest
+    (m : List (List ℕ)) (raw rest : List ℕ) → BeginsWith IsText limit m raw rest → MessageFound rule gives m raw rest
 requested rule texts m raw rest begins = (texts m raw rest).1 (begins.text, begins.is_text, begins.spelled)
 
 nothing_at_end : {IsText : Grammar} {gives : Giving} {refuses : Refusing} (rule : Padding) (laws : IsSource gives refuses)
     (texts : AreRequested IsText rule gives) (limit : Option ℕ) (ending : Option ErrorKind) (m : List (List ℕ))
     (raw rest : List ℕ) → EndsEncodings rule gives refuses limit ending raw → BeginsWith IsText limit m raw rest → ⊥
 nothing_at_end rule laws texts limit None m raw rest ends begins =
-    let stands = requested rule texts m raw rest begins in
-    given_some laws raw 8 stands.table.first stands.table.between stands.table.first_given (lit< tt) ends
+    let is_found = requested rule texts m raw rest begins in
+    given_some laws raw 8 is_found.table.first is_found.table.between is_found.table.first_given (lit< tt) ends
 nothing_at_end rule laws texts limit (Some kind) m raw rest ends begins =
     StreamError-apart rule laws limit None kind raw ends.0 rest m (requested rule texts m raw rest begins) begins.within (λ x. x) ends.1
 
 pub parts_streams : {IsText : Grammar} {gives : Giving} {refuses : Refusing} (rule : Padding) (laws : IsSource gives refuses)
     (texts : AreRequested IsText rule gives) (limit : Option ℕ) → PartsStreams IsText rule gives refuses limit
 parts_streams {gives = gives} rule laws texts limit = record {
-  begins_once = λ m n raw rest left p q. MessageStands-once gives raw rest left m n laws.unique laws.gives_all (requested rule texts m raw rest p) (requested rule texts n raw left q);
+  begins_once = λ m n raw rest left p q. MessageFound-once gives raw rest left m n laws.unique laws.gives_all (requested rule texts m raw rest p) (requested rule texts n raw left q);
   ends_apart = nothing_at_end rule laws texts limit;
 }
 
@@ -80,7 +80,7 @@ pub texts_part : {IsText : Grammar} {gives : Giving} {refuses : Refusing} (rule 
     → IsText text segments → IsText other others → text ++ rest ≡ other ++ left → (text ≡ other) × (segments ≡ others)
     × (rest ≡ left)
 texts_part {gives = gives} rule laws texts text other rest left segments others is also e =
-    let same = MessageStands-once gives (text ++ rest) rest left segments others laws.unique laws.gives_all
+    let same = MessageFound-once gives (text ++ rest) rest left segments others laws.unique laws.gives_all
     ((texts segments (text ++ rest) rest).1 (text, is, refl))
     ((texts others (text ++ rest) left).1 (other, also, e)) in
     let long : length text ≡ length other = omega (arith, ap length e, ap length same.1, length-append text rest, length-append other left) in

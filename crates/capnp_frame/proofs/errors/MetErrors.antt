@@ -5,7 +5,7 @@ use Rattle.capnp_frame.specs.declared.error.ErrorKind.{ErrorKind}
 use Rattle.capnp_frame.specs.declared.error.ErrorKind.TheVariants.{BufferNotLargeEnough, MessageTooLarge, NonZeroPadding, DeviceFailed}
 use Rattle.capnp_frame.specs.declared.serialize.segment_table.Padding.{Padding}
 use Rattle.capnp_frame.specs.declared.serialize.segment_table.Padding.TheVariants.{Any, Zero}
-use Rattle.capnp_frame.specs.Prelude.{table_size, KeepsPadding, IsTable, declared_lengths, declared_padding, DeclaresTable, KeepsLimit, AreWithin, Giving, Refusing, IsSource, IfKnown, IsTail, RequestError, TableStands, Tells, DeclaresAccepted, Outgrows, TakesForLengths, IsTooLarge, IsTooShort, IsTableKind, IsReaderKind, IsProvidedReaderKind, LimitError, TableError, StreamError, TableRestError, CompleteTableError}
+use Rattle.capnp_frame.specs.Prelude.{table_size, KeepsPadding, IsTable, declared_lengths, declared_padding, DeclaresTable, KeepsLimit, AreWithin, Giving, Refusing, IsSource, IfKnown, IsTail, RequestError, TableFound, Tells, DeclaresAccepted, Outgrows, TakesForLengths, IsTooLarge, IsTooShort, IsTableKind, IsReaderKind, IsProvidedReaderKind, LimitError, TableError, StreamError, TableRestError, CompleteTableError}
 use Rattle.capnp_frame.proofs.sources.SourceLemmas.{IfKnown-join, IfKnown-weaker, IfKnown-error}
 use Rattle.capnp_frame.proofs.tables.LimitLemmas.{StartError-from}
 use Rattle.capnp_frame.proofs.tables.TableReading.{whole_table, rejected_table}
@@ -134,7 +134,7 @@ table_met rule F gives refuses limit room kind old new (inr p) = inr
 -- a caller-provided buffer has no room for the segments
 pub body_met : {gives : Giving} {refuses : Refusing} (rule : Padding) (laws : IsSource gives refuses) (limit room : Option ℕ)
     (old mid : Option (List ℕ)) (ns : List ℕ) → (IsTooShort room (table_size (length ns)) → ⊥)
-    → IsTooShort room (table_size (length ns) + 8 * sum ns) → IfKnown old mid (TableStands rule gives ns)
+    → IsTooShort room (table_size (length ns) + 8 * sum ns) → IfKnown old mid (TableFound rule gives ns)
     → AreWithin ns limit → IfKnown old mid (StreamError rule gives refuses limit room BufferNotLargeEnough)
 body_met rule laws limit room old mid ns fits too_short sent accepts = IfKnown-weaker old mid
     (λ raw left here. StartError-from rule laws limit room BufferNotLargeEnough _ raw left ns left fits here accepts
@@ -142,7 +142,7 @@ body_met rule laws limit room old mid ns fits too_short sent accepts = IfKnown-w
 
 pub segments_met : {gives : Giving} {refuses : Refusing} (rule : Padding) (laws : IsSource gives refuses) (F : Type 0)
     (limit room : Option ℕ) (kind : ErrorKind) (old mid new : Option (List ℕ)) (ns : List ℕ) (len : ℕ)
-    → (IsTooShort room (table_size (length ns) + 8 * sum ns) → ⊥) → IfKnown old mid (TableStands rule gives ns)
+    → (IsTooShort room (table_size (length ns) + 8 * sum ns) → ⊥) → IfKnown old mid (TableFound rule gives ns)
     → AreWithin ns limit → IfKnown mid new IsTail → len ≡ 8 * sum ns → F ⊎ RequestError refuses len mid kind → F
     ⊎ IfKnown old new (StreamError rule gives refuses limit room kind)
 segments_met rule laws F limit room kind old mid new ns len fits sent accepts tail long (inl p) = inl p

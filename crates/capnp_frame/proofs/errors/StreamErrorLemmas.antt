@@ -4,7 +4,7 @@ use Rattle.std.specs.Prelude.{sum}
 use Rattle.std.specs.List.{concat}
 use Rattle.capnp_frame.specs.declared.error.ErrorKind.{ErrorKind}
 use Rattle.capnp_frame.specs.declared.error.ErrorKind.TheVariants.{BufferNotLargeEnough, InvalidNumberOfSegments, MessageTooLarge, NonZeroPadding}
-use Rattle.capnp_frame.specs.Prelude.{lengths, size_in_words, table_size, IsTable, KeepsLimit, AreWithin, IsWithin, Giving, Refusing, IsSource, TableStands, MessageStands, Unless, Asks, Tells, IsOutOfRange, IsTooLarge, IsTooShort, FailsLeaving, RejectsPadding, LimitError, RestError, CountError, StartError, StreamError}
+use Rattle.capnp_frame.specs.Prelude.{lengths, size_in_words, table_size, IsTable, KeepsLimit, AreWithin, IsWithin, Giving, Refusing, IsSource, TableFound, MessageFound, Unless, Asks, Tells, IsOutOfRange, IsTooLarge, IsTooShort, FailsLeaving, RejectsPadding, LimitError, RestError, CountError, StartError, StreamError}
 use Rattle.capnp_frame.specs.declared.serialize.segment_table.Padding.{Padding}
 use Rattle.capnp_frame.proofs.tables.TableLemmas.{IsTable-once, field-once, count_declared}
 
@@ -108,7 +108,7 @@ small_room (Some len) m n less fits too_short = fits (omega arith)
 
 pub StartError-after : {gives : Giving} {refuses : Refusing} (rule : Padding) (laws : IsSource gives refuses) (P : Type 0)
     (limit room : Option ℕ) (kind : ErrorKind) (A : List ℕ → List ℕ → Type 0) (raw left ns following : List ℕ)
-    → TableStands rule gives ns raw following → AreWithin ns limit → (IsTooShort room (table_size (length ns)) → ⊥)
+    → TableFound rule gives ns raw following → AreWithin ns limit → (IsTooShort room (table_size (length ns)) → ⊥)
     → (A ns following → P) → StartError rule gives refuses limit room kind A raw left → P
 StartError-after {gives} {refuses} rule laws P limit room kind A raw left ns following sent accepts fits after =
     Unless-after (small_room room 8 (table_size (length ns)) (omega arith) fits)
@@ -144,7 +144,7 @@ StreamError-some rule gives refuses limit room kind raw left errors fits none = 
 
 -- where an accepted message is, no line holds
 pub StreamError-apart : {gives : Giving} {refuses : Refusing} (rule : Padding) (laws : IsSource gives refuses) (limit room : Option ℕ)
-    (kind : ErrorKind) (raw left rest : List ℕ) (segments : List (List ℕ)) → MessageStands rule gives segments raw rest
+    (kind : ErrorKind) (raw left rest : List ℕ) (segments : List (List ℕ)) → MessageFound rule gives segments raw rest
     → IsWithin segments limit → (IsTooShort room (table_size (length (lengths segments)) + 8 * size_in_words segments)
     → ⊥) → StreamError rule gives refuses limit room kind raw left → ⊥
 StreamError-apart rule laws limit room kind raw left rest segments sent within fits =

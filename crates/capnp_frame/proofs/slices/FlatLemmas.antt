@@ -8,7 +8,7 @@ use Rattle.capnp_frame.specs.declared.error.ErrorKind.{ErrorKind}
 use Rattle.capnp_frame.specs.declared.error.ErrorKind.TheVariants.{BufferNotLargeEnough, InvalidNumberOfSegments, MessageEndsPrematurely, MessageTooLarge, NonZeroPadding}
 use Rattle.capnp_frame.specs.declared.serialize.segment_table.Padding.{Padding}
 use Rattle.capnp_frame.specs.declared.serialize.segment_table.Padding.TheVariants.{Any}
-use Rattle.capnp_frame.specs.Prelude.{field, table_size, KeepsPadding, IsTable, KeepsLimit, IsWithin, Splits, RunsShort, TableStands, Unless, Tells, TakesForLengths, FailsLeaving, IsTooShort, LimitError, RestError, IsOutOfRange, IsTooLarge, RejectsPadding, TableError, HasFrame, number, declared_lengths, declared_padding, FlatForm, by_words, by_fields, cut_kind, count_end, count_of, AcceptsSeveral, lengths_end, CutsSegments, LengthsError, FlatCountError, FlatError}
+use Rattle.capnp_frame.specs.Prelude.{field, table_size, KeepsPadding, IsTable, KeepsLimit, IsWithin, Splits, RunsShort, TableFound, Unless, Tells, TakesForLengths, FailsLeaving, IsTooShort, LimitError, RestError, IsOutOfRange, IsTooLarge, RejectsPadding, TableError, HasFrame, number, declared_lengths, declared_padding, FlatForm, by_words, by_fields, cut_kind, count_end, count_of, AcceptsSeveral, lengths_end, CutsSegments, LengthsError, FlatCountError, FlatError}
 use Rattle.capnp_frame.proofs.tables.TableLemmas.{count_declared}
 use Rattle.capnp_frame.proofs.encodings.FrameLemmas.{length-table}
 use Rattle.capnp_frame.proofs.tables.DeclaredTables.{number-field, table_is, Declared, declared_from_table}
@@ -122,12 +122,12 @@ FlatError-apart form rule limit kind bytes segments rest begins within =
 
 -- the stream reader's table over a slice
 
-pub declared_by_requests : (rule : Padding) (bytes ns rest : List ℕ) → TableStands rule Splits ns bytes rest → length ns < 512 → Declared rule bytes ns × (length bytes ≡ table_size (length ns) + length rest)
-declared_by_requests rule bytes ns rest stands few =
-    let table = stands.first ++ stands.others in
-    let bytes_are : bytes ≡ table ++ rest = stands.first_given.0 ∙ ap (λ l. stands.first ++ l) stands.others_given.0 ∙ sym (append_assoc stands.first stands.others rest) in
-    let long = length-table table ns stands.table in
-    (subst (λ l. Declared rule l ns) (sym bytes_are) (declared_from_table table rest ns stands.table few), ap length bytes_are ∙ length-append table rest ∙ omega arith)
+pub declared_by_requests : (rule : Padding) (bytes ns rest : List ℕ) → TableFound rule Splits ns bytes rest → length ns < 512 → Declared rule bytes ns × (length bytes ≡ table_size (length ns) + length rest)
+declared_by_requests rule bytes ns rest is_found few =
+    let table = is_found.first ++ is_found.others in
+    let bytes_are : bytes ≡ table ++ rest = is_found.first_given.0 ∙ ap (λ l. is_found.first ++ l) is_found.others_given.0 ∙ sym (append_assoc is_found.first is_found.others rest) in
+    let long = length-table table ns is_found.table in
+    (subst (λ l. Declared rule l ns) (sym bytes_are) (declared_from_table table rest ns is_found.table few), ap length bytes_are ∙ length-append table rest ∙ omega arith)
 
 -- the table at the front keeps the rule where its padding there does
 front_table : (rule : Padding) (bytes table rest ns : List ℕ) → bytes ≡ table ++ rest → IsTable Any table ns → Declared Any bytes ns
@@ -154,10 +154,10 @@ first_tells empty bytes word left count (split, long) (last, fits, read, is) =
     (ap length split ∙ length-append word left ∙ ap (λ k. k + length left) long, ap (λ k. (k + 1) % 2 ^ 32) (number-field last bytes fits front) ∙ sym is)
 
 pub several_accepted : (empty : ErrorKind) (bytes left : List ℕ) → TakesForLengths 1 Splits bytes left → AcceptsSeveral (by_words empty) bytes
-several_accepted empty bytes left (stands, more) =
-    let declared = first_tells empty bytes stands.word left stands.count stands.given stands.declared in
+several_accepted empty bytes left (is_found, more) =
+    let declared = first_tells empty bytes is_found.word left is_found.count is_found.given is_found.declared in
     let long = declared.0 in
-    (omega arith, subst (λ k. IsOutOfRange k → ⊥) (sym declared.1) stands.accepted, subst (λ k. 1 < k) (sym declared.1) more)
+    (omega arith, subst (λ k. IsOutOfRange k → ⊥) (sym declared.1) is_found.accepted, subst (λ k. 1 < k) (sym declared.1) more)
 
 pub words_error : (empty : ErrorKind) (rule : Padding) (limit : Option ℕ) (kind : ErrorKind) (bytes left : List ℕ)
     → TableError rule Splits RunsShort limit None kind bytes left → FlatError (by_words empty) rule limit kind bytes
@@ -200,7 +200,7 @@ words_error empty rule limit kind bytes left (inr (room, (some, inr (word, betwe
         let few = below_range count range in
         let many = count_declared word others ns tells.0 table given.1 tells.2 tells.1 in
         let exact : count ≡ length ns = counts tells.0 count (length ns) tells.3 many table.can.count few (above_range count range) in
-        let stands : TableStands Any Splits ns bytes following = record {
+        let is_found : TableFound Any Splits ns bytes following = record {
           first = word;
           others = others;
           between = between;
@@ -209,7 +209,7 @@ words_error empty rule limit kind bytes left (inr (room, (some, inr (word, betwe
               (λ k. Splits between (8 * (k / 2)) others following) exact split;
           table = table;
         } in
-        let declared = declared_by_requests Any bytes ns following stands (omega arith) in
+        let declared = declared_by_requests Any bytes ns following is_found (omega arith) in
         let lens : declared_lengths count bytes ≡ ns = ap (λ k. declared_lengths k bytes) exact ∙ declared.0.lengths in
         let room = declared.1 in
         let bytes_are : bytes ≡ (word ++ others) ++ following = given.0 ∙ ap (λ l. word ++ l) split.0 ∙ sym (append_assoc word others following) in

@@ -6,13 +6,13 @@ use Rattle.capnp_frame.specs.declared.error.Error.{Error}
 use Rattle.capnp_frame.specs.declared.error.ErrorKind.{ErrorKind}
 use Rattle.capnp_frame.specs.declared.error.ErrorKind.TheVariants.{OutOfMemory}
 use Rattle.capnp_frame.specs.declared.serialize.segment_table.Padding.{Padding}
-use Rattle.capnp_frame.specs.Prelude.{table_size, KeepsPadding, KeepsLimit, number, declared_lengths, declared_padding, declared_segments, HoldsMessage, FlatForm, by_words, by_fields, count_of, AcceptsSeveral, FlatError, FlatRules, StandsBy, RulesError, Leaves, OrOutOfMemory, AcceptsFlat, ReadsFlat}
+use Rattle.capnp_frame.specs.Prelude.{table_size, KeepsPadding, KeepsLimit, number, declared_lengths, declared_padding, declared_segments, HoldsMessage, FlatForm, by_words, by_fields, count_of, AcceptsSeveral, FlatError, FlatRules, FoundBy, RulesError, Leaves, OrOutOfMemory, AcceptsFlat, ReadsFlat}
 use Rattle.capnp_frame.proofs.encodings.FrontMessages.{found_from_held, within_declared}
 use Rattle.capnp_frame.proofs.slices.FlatLemmas.{FlatError-once, frame_counted, FlatError-apart}
 
 -- no line holds where a message is
-stands_apart : (rules : FlatRules) (kind : ErrorKind) (bytes rest : List ℕ) (message : List (List ℕ)) → StandsBy rules message bytes rest → RulesError rules kind bytes → ⊥
-stands_apart rules kind bytes rest message begins =
+found_apart : (rules : FlatRules) (kind : ErrorKind) (bytes rest : List ℕ) (message : List (List ℕ)) → FoundBy rules message bytes rest → RulesError rules kind bytes → ⊥
+found_apart rules kind bytes rest message begins =
     FlatError-apart rules.form rules.padding rules.limit kind bytes message rest (begins.text, begins.is_text, begins.spelled) begins.within
 
 -- where a call fails, it fails by its rules
@@ -42,7 +42,7 @@ reads_none {X} rules bytes left segments error (Err own) is stays errors =
       found = tt;
       accepted = λ message rest begins. memory_alone X rules.form rules.padding rules.limit bytes message error errors
           (frame_counted rules.form rules.padding rules.limit bytes message rest (begins.text, begins.is_text, begins.spelled) begins.within)
-          (stands_apart rules error.kind bytes rest message begins);
+          (found_apart rules error.kind bytes rest message begins);
       unchanged = stays;
       errors = errors;
       exact = λ kind line. first_line rules.form rules.padding rules.limit bytes error.kind kind errors line;
@@ -54,9 +54,9 @@ accepts : {X : Type 0} (form : FlatForm) (message : List (List ℕ)) (x : X) →
 accepts (by_words empty) message x = tt
 accepts by_fields message x = refl
 
-leaves : (left : Option (List ℕ)) (stands : List ℕ → Type 0) (rest : List ℕ) → IfSome left (λ left. left ≡ rest) → stands rest → Leaves left stands
-leaves None stands rest is begins = (rest, begins)
-leaves (Some left) stands rest is begins = subst stands (sym is) begins
+leaves : (left : Option (List ℕ)) (is_found : List ℕ → Type 0) (rest : List ℕ) → IfSome left (λ left. left ≡ rest) → is_found rest → Leaves left is_found
+leaves None is_found rest is begins = (rest, begins)
+leaves (Some left) is_found rest is begins = subst is_found (sym is) begins
 
 pub reads_held : {X : Type 0} (rules : FlatRules) (bytes : List ℕ) (left : Option (List ℕ)) (segments : X → List (List ℕ)) (x : X)
     (count : ℕ) → HoldsMessage bytes count → segments x ≡ declared_segments count bytes
@@ -66,18 +66,18 @@ pub reads_held : {X : Type 0} (rules : FlatRules) (bytes : List ℕ) (left : Opt
 reads_held rules bytes left segments x count holds are keeps kept is =
     let rest = drop (table_size count + 8 * sum (declared_lengths count bytes)) bytes in
     let frame = (found_from_held rules.padding bytes count holds kept).begins in
-    let begins : StandsBy rules (segments x) bytes rest = subst (λ l. StandsBy rules l bytes rest) (sym are) (record {
+    let begins : FoundBy rules (segments x) bytes rest = subst (λ l. FoundBy rules l bytes rest) (sym are) (record {
       text = frame.0;
       is_text = frame.1;
       within = within_declared bytes count rules.limit holds keeps;
       spelled = frame.2;
     }) in
     record {
-      found = leaves left (StandsBy rules (segments x) bytes) rest is begins;
+      found = leaves left (FoundBy rules (segments x) bytes) rest is begins;
       accepted = λ message after others. accepts rules.form message x;
       unchanged = tt;
       errors = tt;
-      exact = λ kind line. stands_apart rules kind bytes rest (segments x) begins line;
+      exact = λ kind line. found_apart rules kind bytes rest (segments x) begins line;
     }
 
 -- what is returned, with the segments seen in another way
@@ -86,7 +86,7 @@ pub reads_shown : {X Y : Type 0} (rules : FlatRules) (bytes : List ℕ) (left : 
     (others : Y → List (List ℕ)) (x : X) (y : Y) → others y ≡ segments x → ReadsFlat rules bytes left segments (Ok x)
     → ReadsFlat rules bytes left others (Ok y)
 reads_shown rules bytes left segments others x y same reported = record {
-  found = subst (λ l. Leaves left (StandsBy rules l bytes)) (sym same) reported.found;
+  found = subst (λ l. Leaves left (FoundBy rules l bytes)) (sym same) reported.found;
   accepted = λ message rest begins. accepts rules.form message y;
   unchanged = tt;
   errors = tt;

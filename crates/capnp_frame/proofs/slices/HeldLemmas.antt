@@ -6,7 +6,7 @@ use Rattle.std.specs.Prelude.{sum, Bool, false, IsTrue}
 use Rattle.capnp_frame.specs.declared.error.ErrorKind.{ErrorKind}
 use Rattle.capnp_frame.specs.declared.error.ErrorKind.TheVariants.{DeviceFailed, OutOfMemory, MessageEndsPrematurely}
 use Rattle.capnp_frame.specs.declared.serialize.segment_table_info.NoAllocSegmentTableInfo.{NoAllocSegmentTableInfo}
-use Rattle.capnp_frame.specs.Prelude.{size_in_words, table_size, KeepsPadding, cut, KeepsLimit, AreWithin, IsWithin, Splits, RunsShort, IfKnown, Fails, TableStands, TakesForLengths, TableError, HasFrame, IsDescribed, HaveSameNumbers, number, declared_lengths, declared_padding, declared_segments, HoldsMessage, by_words, by_fields, AcceptsSeveral, FlatError}
+use Rattle.capnp_frame.specs.Prelude.{size_in_words, table_size, KeepsPadding, cut, KeepsLimit, AreWithin, IsWithin, Splits, RunsShort, IfKnown, Fails, TableFound, TakesForLengths, TableError, HasFrame, IsDescribed, HaveSameNumbers, number, declared_lengths, declared_padding, declared_segments, HoldsMessage, by_words, by_fields, AcceptsSeveral, FlatError}
 use Rattle.capnp_frame.specs.declared.serialize.segment_table.Padding.{Padding}
 use Rattle.capnp_frame.specs.declared.serialize.segment_table.Padding.TheVariants.{Any}
 use Rattle.capnp_frame.proofs.sources.AskLemmas.{never_fails}
@@ -52,20 +52,20 @@ slice_error empty rule limit kind bytes left failed (inl device) = absurd (never
 slice_error empty rule limit kind bytes left failed (inr (inl memory)) = inl (memory.0, several_accepted empty bytes left memory.1)
 slice_error empty rule limit kind bytes left failed (inr (inr met)) = inr (words_error empty rule limit kind bytes left met)
 
-pub slice_holds : (rule : Padding) (bytes ns left : List ℕ) (limit : Option ℕ) (total : ℕ) → TableStands rule Splits ns bytes left
+pub slice_holds : (rule : Padding) (bytes ns left : List ℕ) (limit : Option ℕ) (total : ℕ) → TableFound rule Splits ns bytes left
     → AreWithin ns limit → total ≡ sum ns → 8 * total ≤ length left → HoldsMessage bytes (length ns)
     × (declared_lengths (length ns) bytes ≡ ns) × KeepsPadding rule (declared_padding (length ns) bytes)
-slice_holds rule bytes ns left limit total stands within is room =
-    let declared = declared_by_requests rule bytes ns left stands within.few in
+slice_holds rule bytes ns left limit total is_found within is room =
+    let declared = declared_by_requests rule bytes ns left is_found within.few in
     let long = declared.1 in
     let sums : sum (declared_lengths (length ns) bytes) ≡ sum ns = ap sum declared.0.lengths in
     (record { table = declared.0.tells; room = omega arith }, declared.0.lengths, declared.0.padding)
 
 pub slice_cut : (empty : ErrorKind) (rule : Padding) (bytes ns left : List ℕ) (limit : Option ℕ) (total : ℕ)
-    → TableStands rule Splits ns bytes left → AreWithin ns limit → total ≡ sum ns → length left < 8 * total
+    → TableFound rule Splits ns bytes left → AreWithin ns limit → total ≡ sum ns → length left < 8 * total
     → FlatError (by_words empty) rule limit (MessageEndsPrematurely total (length left / 8)) bytes
-slice_cut empty rule bytes ns left limit total stands within is short =
-    let declared = declared_by_requests rule bytes ns left stands within.few in
+slice_cut empty rule bytes ns left limit total is_found within is short =
+    let declared = declared_by_requests rule bytes ns left is_found within.few in
     let count = length ns in
     let long = declared.1 in
     let some = within.some in

@@ -7,11 +7,11 @@ use Rattle.std.proofs.Common.{◌⊎◌, inl, inr, Result, Ok, Err, IfErr}
 use Rattle.capnp_frame.specs.declared.error.Error.{Error}
 use Rattle.capnp_frame.specs.declared.error.ErrorKind.{ErrorKind}
 use Rattle.capnp_frame.specs.declared.error.ErrorKind.TheVariants.{DeviceFailed, BufferNotLargeEnough}
-use Rattle.capnp_frame.specs.Prelude.{lengths, size_in_words, table_size, IsTable, cut, KeepsLimit, AreWithin, IsWithin, Giving, Refusing, IsSource, IfKnown, IsTail, RequestError, Advances, Fails, StreamError, IsProvidedReaderKind, framed_rules, ReadsStreamInto, MessageStands, FindsTable, FindsMessage, declared_lengths, declared_segments, DeclaresTable, HoldsMessage}
+use Rattle.capnp_frame.specs.Prelude.{lengths, size_in_words, table_size, IsTable, cut, KeepsLimit, AreWithin, IsWithin, Giving, Refusing, IsSource, IfKnown, IsTail, RequestError, Advances, Fails, StreamError, IsProvidedReaderKind, framed_rules, ReadsStreamInto, MessageFound, FindsTable, FindsMessage, declared_lengths, declared_segments, DeclaresTable, HoldsMessage}
 use Rattle.capnp_frame.specs.declared.serialize.segment_table.Padding.{Padding}
 use Rattle.capnp_frame.specs.declared.serialize.segment_table.Padding.TheVariants.{Any}
 use Rattle.capnp_frame.specs.declared.io.Read.{Ghosts}
-use Rattle.capnp_frame.proofs.encodings.RequestLemmas.{MessageStands-cut}
+use Rattle.capnp_frame.proofs.encodings.RequestLemmas.{MessageFound-cut}
 use Rattle.capnp_frame.proofs.slices.HeldLemmas.{within_held, begins_held}
 use Rattle.capnp_frame.proofs.errors.MetErrors.{body_met, segments_met}
 use Rattle.capnp_frame.proofs.tables.DeclaredTables.{table_is, Declared, declared_from_table, length-declared}
@@ -66,8 +66,8 @@ body_read rule gives limit before body count total size len old mid new read siz
     let sums = read.total_is in
     let filled = body_put before body count size len read.tells size_is (omega arith) long room in
     record {
-      found = subst (λ l. IfKnown old new (MessageStands rule gives l)) (sym filled.segments_are)
-          (MessageStands-cut rule gives (declared_lengths count before) body old mid new (omega arith) read.found given);
+      found = subst (λ l. IfKnown old new (MessageFound rule gives l)) (sym filled.segments_are)
+          (MessageFound-cut rule gives (declared_lengths count before) body old mid new (omega arith) read.found given);
       holds = filled.holds;
       total_is = ap (λ k. 8 * k) (sums ∙ ap sum (sym filled.lengths_are));
       within = subst (λ l. KeepsLimit l limit) (sym filled.lengths_are) read.within;
@@ -118,7 +118,7 @@ table_put before table count size tells long =
 pub provided_accepted : {gives : Giving} {refuses : Refusing} (rule : Padding) (laws : IsSource gives refuses) {X : Type 0}
     (limit : Option ℕ) (len : ℕ) (old new : Option (List ℕ)) (r : Result X Error)
     → IfErr r (λ e. (e.kind ≡ DeviceFailed) ⊎ IfKnown old new (StreamError rule gives refuses limit (Some len) e.kind))
-    → IfSome old (λ raw. (segments : List (List ℕ)) (rest : List ℕ) → MessageStands rule gives segments raw rest
+    → IfSome old (λ raw. (segments : List (List ℕ)) (rest : List ℕ) → MessageFound rule gives segments raw rest
     → IsWithin segments limit → table_size (length segments) + 8 * size_in_words segments ≤ len
     → IfErr r (λ e. e.kind ≡ DeviceFailed))
 provided_accepted rule laws limit len None new r errors = tt
@@ -142,7 +142,7 @@ provided_once rule laws limit len own (Some raw) (Some left) (inr p) = λ kind r
 pub provided_apart : {gives : Giving} {refuses : Refusing} (rule : Padding) (laws : IsSource gives refuses) (limit : Option ℕ)
     (buffer : List ℕ) (count len : ℕ) (segments : List (List ℕ)) (old new : Option (List ℕ))
     → HoldsMessage buffer count → segments ≡ declared_segments count buffer → length buffer ≡ len
-    → IfKnown old new (MessageStands rule gives segments) → IsWithin segments limit
+    → IfKnown old new (MessageFound rule gives segments) → IsWithin segments limit
     → IfSome old (λ raw. (kind : ErrorKind) (left : List ℕ)
     → StreamError rule gives refuses limit (Some len) kind raw left → ⊥)
 provided_apart rule laws limit buffer count len segments None new holds are long found within = tt
@@ -159,11 +159,11 @@ pub reads_into : {S : Type 0} (rule : Padding) (source : Ghosts S) (laws : IsSou
     (limit : Option ℕ) (room : ℕ) (buffer : List ℕ) (count : ℕ) (segments : List (List ℕ))
     → HoldsMessage buffer count → segments ≡ declared_segments count buffer → length buffer ≡ room
     → KeepsLimit (declared_lengths count buffer) limit
-    → IfKnown (source.unread old) (source.unread new) (MessageStands rule source.gives (declared_segments count buffer))
+    → IfKnown (source.unread old) (source.unread new) (MessageFound rule source.gives (declared_segments count buffer))
     → (room < 8 → ⊥) → Advances source.unread source.failures source.same old new
     → ReadsStreamInto source old new (framed_rules rule source.gives source.refuses) limit room (Ok (Some segments))
-reads_into rule source laws old new limit room buffer count segments holds are long keeps stands enough advances =
-    let found = subst (λ m. IfKnown (source.unread old) (source.unread new) (MessageStands rule source.gives m)) (sym are) stands in
+reads_into rule source laws old new limit room buffer count segments holds are long keeps is_found enough advances =
+    let found = subst (λ m. IfKnown (source.unread old) (source.unread new) (MessageFound rule source.gives m)) (sym are) is_found in
     let within = within_held buffer count segments limit holds are keeps in
     record {
       found = found;

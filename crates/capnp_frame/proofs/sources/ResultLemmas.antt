@@ -4,7 +4,7 @@ use Rattle.std.specs.Prelude.{IfOk, IfNone}
 use Rattle.std.specs.List.{AllByRecursion}
 use Rattle.std.specs.Result.{IsErrAnd}
 use Rattle.capnp_frame.specs.declared.io.Read.{Ghosts}
-use Rattle.capnp_frame.specs.Prelude.{IsWholeWords, StreamRules, framed_rules, ReadsStream, AsksNext, IsWithin, Giving, Refusing, IsSource, IfKnown, MessageStands, StreamError}
+use Rattle.capnp_frame.specs.Prelude.{IsWholeWords, StreamRules, framed_rules, ReadsStream, AsksNext, IsWithin, Giving, Refusing, IsSource, IfKnown, MessageFound, StreamError}
 use Rattle.capnp_frame.specs.declared.error.Error.{Error}
 use Rattle.capnp_frame.specs.declared.error.ErrorKind.{ErrorKind}
 use Rattle.capnp_frame.specs.declared.error.ErrorKind.TheVariants.{DeviceFailed, OutOfMemory}
@@ -16,7 +16,7 @@ pub accepted : (rule : Padding) (M : Type 0) {gives : Giving} {refuses : Refusin
     (limit : Option ℕ) (old new : Option (List ℕ)) (r : Result X Error)
     → IfErr r (λ e. (e.kind ≡ DeviceFailed) ⊎ ((e.kind ≡ OutOfMemory) × M)
     ⊎ IfKnown old new (StreamError rule gives refuses limit None e.kind))
-    → IfSome old (λ raw. (segments : List (List ℕ)) (rest : List ℕ) → MessageStands rule gives segments raw rest
+    → IfSome old (λ raw. (segments : List (List ℕ)) (rest : List ℕ) → MessageFound rule gives segments raw rest
     → IsWithin segments limit → IfErr r (λ e. (e.kind ≡ DeviceFailed) ⊎ (e.kind ≡ OutOfMemory)))
 accepted rule M laws limit None new r errors = tt
 accepted rule M laws limit (Some raw) new (Ok x) errors = λ segments rest sent within. tt
@@ -28,7 +28,7 @@ accepted rule M laws limit (Some raw) (Some left) (Err e) (inr (inr p)) = λ seg
 -- each line is returned where it is the first that holds
 pub exact : (rule : Padding) (M : Type 0) {gives : Giving} {refuses : Refusing} (laws : IsSource gives refuses) (limit : Option ℕ)
     (old new : Option (List ℕ)) (r : Result (Option (List (List ℕ))) Error)
-    → IfOk r (λ found. IfSome found (λ segments. IfKnown old new (MessageStands rule gives segments)))
+    → IfOk r (λ found. IfSome found (λ segments. IfKnown old new (MessageFound rule gives segments)))
     → IfOk r (λ found. IfSome found (λ segments. IsWithin segments limit))
     → IfOk r (λ found. IfNone found (IfSome old (λ raw. raw ≡ [])))
     → IfErr r (λ e. (e.kind ≡ DeviceFailed) ⊎ ((e.kind ≡ OutOfMemory) × M)
@@ -47,7 +47,7 @@ exact rule M laws limit (Some raw) (Some left) (Err e) found within none (inr (i
 -- a reader that allocates so keeps all of it, once these are known of its call
 pub reads_taking : {S : Type 0} (rule : Padding) (source : Ghosts S) (laws : IsSource source.gives source.refuses) (old new : S)
     (takes : Option ℕ → List ℕ → List ℕ → Type 0) (limit : Option ℕ) (r : Result (Option (List (List ℕ))) Error)
-    → IfOk r (λ found. IfSome found (λ segments. IfKnown (source.unread old) (source.unread new) (MessageStands rule source.gives segments)))
+    → IfOk r (λ found. IfSome found (λ segments. IfKnown (source.unread old) (source.unread new) (MessageFound rule source.gives segments)))
     → IfOk r (λ found. IfSome found (λ segments. IsWithin segments limit))
     → IfOk r (λ found. IfSome found (AllByRecursion IsWholeWords))
     → AsksNext source old new rule (takes limit) (StreamError rule source.gives source.refuses limit None) r

@@ -4,14 +4,14 @@ use Rattle.std.proofs.lemmas.List.{drop-drop, drop_at, take-append-drop, length-
 use Rattle.std.specs.Prelude.{sum}
 use Rattle.std.specs.List.{AllByRecursion}
 use Rattle.std.specs.Result.{IsErrAnd}
-use Rattle.capnp_frame.specs.Prelude.{Asked, FailsOr, AreWithin, IsWholeWords, lengths, TakesForLengths, TableStands, MessageStands, cut, SkipsMessage, LengthsStand, Drops, Giving, Refusing, Splits, RunsShort, IsSource, IfKnown, RequestError, Advances, ReadsTable, skipping_rules, ReadsStream}
+use Rattle.capnp_frame.specs.Prelude.{Asked, FailsOr, AreWithin, IsWholeWords, lengths, TakesForLengths, TableFound, MessageFound, cut, SkipsMessage, LengthsFound, Drops, Giving, Refusing, Splits, RunsShort, IsSource, IfKnown, RequestError, Advances, ReadsTable, skipping_rules, ReadsStream}
 use Rattle.capnp_frame.specs.declared.error.Error.{Error}
 use Rattle.capnp_frame.specs.declared.error.ErrorKind.{ErrorKind}
 use Rattle.capnp_frame.specs.declared.error.ErrorKind.TheVariants.{DeviceFailed, FailedToFillTheWholeBuffer}
 use Rattle.capnp_frame.specs.declared.io.Read.{Ghosts}
 use Rattle.capnp_frame.specs.declared.serialize.segment_table.Padding.{Padding}
 use Rattle.capnp_frame.proofs.sources.SourceLemmas.{IfKnown-join, IfKnown-refl, IfKnown-weaker}
-use Rattle.capnp_frame.proofs.encodings.RequestLemmas.{lengths-cut, MessageStands-cut, table_not_empty}
+use Rattle.capnp_frame.proofs.encodings.RequestLemmas.{lengths-cut, MessageFound-cut, table_not_empty}
 use Rattle.capnp_frame.proofs.errors.MetErrors.{reader_kind, source_kind, or_memory, table_met_skipping, segments_met}
 use Rattle.capnp_frame.proofs.sources.StepLemmas.{asks_found, asks_failed, asks_passed}
 use Rattle.capnp_frame.proofs.sources.ResultLemmas.{reads_taking}
@@ -76,9 +76,9 @@ short_at_end refuses j n (Some x) (Some y) kind plain some (within, here) end is
 -- Messages
 
 -- the segments that are skipped after a table
-pub LengthsStand-skipped : (rule : Padding) (gives : Giving) (ns : List ℕ) (n : ℕ) (a b c : Option (List ℕ)) → AreSplit gives
-    → n ≡ 8 * sum ns → IfKnown a b (TableStands rule gives ns) → IfKnown b c (Drops n) → IfKnown a c (LengthsStand rule gives ns)
-LengthsStand-skipped rule gives ns n a b c plain all = IfKnown-join a b c (λ x y z table (within, is).
+pub LengthsFound-skipped : (rule : Padding) (gives : Giving) (ns : List ℕ) (n : ℕ) (a b c : Option (List ℕ)) → AreSplit gives
+    → n ≡ 8 * sum ns → IfKnown a b (TableFound rule gives ns) → IfKnown b c (Drops n) → IfKnown a c (LengthsFound rule gives ns)
+LengthsFound-skipped rule gives ns n a b c plain all = IfKnown-join a b c (λ x y z table (within, is).
     let bytes = take n y in
     let long : length bytes ≡ n = length-take-le n y within in
     let given : gives y (length bytes) bytes z =
@@ -86,18 +86,18 @@ LengthsStand-skipped rule gives ns n a b c plain all = IfKnown-join a b c (λ x 
     let whole : length bytes ≡ 8 * sum ns = long ∙ all in (
       cut ns bytes,
       (lengths-cut ns bytes whole).0,
-      MessageStands-cut rule gives ns bytes (Some x) (Some y) (Some z) whole table given,
+      MessageFound-cut rule gives ns bytes (Some x) (Some y) (Some z) whole table given,
     ))
 
 -- the message that is there, and some message of these lengths where that isn't known
-standing : (rule : Padding) (gives : Giving) (ns : List ℕ) (a b : Option (List ℕ)) → IfKnown a b (LengthsStand rule gives ns)
-    → (message : List (List ℕ)) × (lengths message ≡ ns) × AllByRecursion IsWholeWords message × IfKnown a b (MessageStands rule gives message)
-standing rule gives ns None b found =
+known_found : (rule : Padding) (gives : Giving) (ns : List ℕ) (a b : Option (List ℕ)) → IfKnown a b (LengthsFound rule gives ns)
+    → (message : List (List ℕ)) × (lengths message ≡ ns) × AllByRecursion IsWholeWords message × IfKnown a b (MessageFound rule gives message)
+known_found rule gives ns None b found =
     let zeros = replicate (8 * sum ns) 0 in
     let are = lengths-cut ns zeros (length-replicate (8 * sum ns) 0) in
     (cut ns zeros, are.0, are.1, tt)
-standing rule gives ns (Some x) None found = absurd found
-standing rule gives ns (Some x) (Some y) (message, same, stands) = (message, same, stands.whole, stands)
+known_found rule gives ns (Some x) None found = absurd found
+known_found rule gives ns (Some x) (Some y) (message, same, is_found) = (message, same, is_found.whole, is_found)
 
 -- The exits of a call that skips a message, once its table is asked for: the table is not read,
 pub skips_unread : {S : Type 0} (rule : Padding) (source : Ghosts S) (laws : IsSource source.gives source.refuses) (old new : S) (kept : ℕ)
@@ -128,11 +128,11 @@ skips_cut rule source laws a b c kept limit ns n error (Err own) join is table a
 -- or they are.
 pub skips_found : {S : Type 0} (rule : Padding) (source : Ghosts S) (laws : IsSource source.gives source.refuses) (a b c : S) (kept : ℕ)
     (limit : Option ℕ) (ns : List ℕ) → (source.same a b → source.same b c → source.same a c)
-    → ReadsTable source a b rule limit kept (Ok (Some ns)) → IfKnown (source.unread a) (source.unread c) (LengthsStand rule source.gives ns)
+    → ReadsTable source a b rule limit kept (Ok (Some ns)) → IfKnown (source.unread a) (source.unread c) (LengthsFound rule source.gives ns)
     → Advances source.unread source.failures source.same b c
     → SkipsMessage (ReadsStream source a c (skipping_rules rule source.gives source.refuses kept) limit) (Ok (Some ns))
-skips_found rule source laws a b c kept limit ns join table stands second =
-    let there = standing rule source.gives ns (source.unread a) (source.unread c) stands in (
+skips_found rule source laws a b c kept limit ns join table is_found second =
+    let there = known_found rule source.gives ns (source.unread a) (source.unread c) is_found in (
       there.0,
       there.1,
       reads_taking rule source laws a c (λ most. TakesForLengths kept source.gives) limit (Ok (Some there.0)) there.3

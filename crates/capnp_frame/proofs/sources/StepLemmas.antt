@@ -10,7 +10,7 @@ use Rattle.capnp_frame.specs.declared.io.Read.{Ghosts}
 use Rattle.capnp_frame.specs.Prelude.{Giving, Refusing, IsSource, IfKnown, IsTail, RequestError, Advances, Asked, DeclaresAccepted, TakesForLengths, TableError, IsReaderKind, IsProvidedReaderKind, TableRestError, ReadsLengths, ReadsTable, AsksNext, AsksNextInto, range_len}
 use Rattle.capnp_frame.proofs.sources.AskLemmas.{Asked-ok, Asked-err}
 use Rattle.capnp_frame.proofs.encodings.RequestLemmas.{word_not_empty}
-use Rattle.capnp_frame.proofs.tables.TableReading.{table_stands}
+use Rattle.capnp_frame.proofs.tables.TableReading.{table_found}
 use Rattle.capnp_frame.proofs.errors.MetErrors.{or_memory, rest_met, reader_kind, source_kind, lengths_taken}
 
 -- a step that finds what comes next, after one that succeeded
@@ -192,7 +192,7 @@ lengths_found source rule limit kept a b c word count indices total ns join give
     let some = accepted.some in
     let few = accepted.few in
     subst (λ l. ReadsTable source a c rule limit kept (Ok (Some l))) (sym is) (record {
-      found = table_stands rule source.gives word _ _ _ _ given read.table;
+      found = table_found rule source.gives word _ _ _ _ given read.table;
       within = record { some = omega (arith, long); few = omega (arith, long); each = read.each; size = read.within };
       bound = subst (λ k. k < 2 ^ 42) read.ranges.total_is read.bound;
       asks = asks_found source rule _ _ a b c _ join first read.asked.advances;

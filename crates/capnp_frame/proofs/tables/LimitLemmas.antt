@@ -6,7 +6,7 @@ use lib.Seq.{take-append-le}
 use Rattle.capnp_frame.specs.declared.error.ErrorKind.{ErrorKind}
 use Rattle.capnp_frame.specs.declared.error.ErrorKind.TheVariants.{MessageTooLarge, NonZeroPadding}
 use Rattle.capnp_frame.specs.declared.serialize.segment_table.Padding.{Padding}
-use Rattle.capnp_frame.specs.Prelude.{field, table_size, IsTable, lengths, word_count, AreWithin, Giving, Refusing, IsSource, TableStands, MessageStands, Unless, Tells, IsTooLarge, IsTooShort, FailsLeaving, RejectsPadding, LimitError, CountError, StartError, StreamError}
+use Rattle.capnp_frame.specs.Prelude.{field, table_size, IsTable, lengths, word_count, AreWithin, Giving, Refusing, IsSource, TableFound, MessageFound, Unless, Tells, IsTooLarge, IsTooShort, FailsLeaving, RejectsPadding, LimitError, CountError, StartError, StreamError}
 use Rattle.capnp_frame.proofs.tables.TableLemmas.{any_table}
 use Rattle.capnp_frame.proofs.errors.StreamErrorLemmas.{in_range, within_limit, small_room, given_some}
 
@@ -23,7 +23,7 @@ table_tells word others ns table few long =
 -- the line of the limit and those after it
 StartError-table : {gives : Giving} {refuses : Refusing} (rule : Padding) (laws : IsSource gives refuses) (limit room : Option ℕ)
     (kind : ErrorKind) (A : List ℕ → List ℕ → Type 0) (raw left ns following : List ℕ)
-    → (IsTooShort room (table_size (length ns)) → ⊥) → (sent : TableStands rule gives ns raw following) → 0 < length ns → length ns < 512
+    → (IsTooShort room (table_size (length ns)) → ⊥) → (sent : TableFound rule gives ns raw following) → 0 < length ns → length ns < 512
     → Unless (IsTooLarge ns limit) (FailsLeaving (MessageTooLarge (sum ns)) kind following left)
     (Unless (RejectsPadding rule (sent.first ++ sent.others) ns) (FailsLeaving NonZeroPadding kind following left) (A ns following))
     → StartError rule gives refuses limit room kind A raw left
@@ -40,7 +40,7 @@ StartError-table {gives} {refuses} rule laws limit room kind A raw left ns follo
 -- the lines after a table that is accepted
 pub StartError-from : {gives : Giving} {refuses : Refusing} (rule : Padding) (laws : IsSource gives refuses) (limit room : Option ℕ)
     (kind : ErrorKind) (A : List ℕ → List ℕ → Type 0) (raw left ns following : List ℕ)
-    → (IsTooShort room (table_size (length ns)) → ⊥) → TableStands rule gives ns raw following → AreWithin ns limit
+    → (IsTooShort room (table_size (length ns)) → ⊥) → TableFound rule gives ns raw following → AreWithin ns limit
     → A ns following → StartError rule gives refuses limit room kind A raw left
 StartError-from rule laws limit room kind A raw left ns following fits sent accepts after =
     StartError-table rule laws limit room kind A raw left ns following fits sent accepts.some accepts.few
@@ -48,11 +48,11 @@ StartError-from rule laws limit room kind A raw left ns following fits sent acce
 
 -- a message of more words than the limit fails for it
 pub past_limit : {gives : Giving} {refuses : Refusing} (rule : Padding) (laws : IsSource gives refuses) (limit : Option ℕ)
-    (m : List (List ℕ)) (raw rest : List ℕ) → MessageStands rule gives m raw rest → length m < 512 → IsTooLarge (lengths m) limit
+    (m : List (List ℕ)) (raw rest : List ℕ) → MessageFound rule gives m raw rest → length m < 512 → IsTooLarge (lengths m) limit
     → (left : List ℕ) × StreamError rule gives refuses limit None (MessageTooLarge (sum (lengths m))) raw left
-past_limit rule laws limit m raw rest stands few over =
-    let some = stands.table.table.can.some in (
-      stands.between,
-      StartError-table rule laws limit None (MessageTooLarge (sum (lengths m))) _ raw stands.between (lengths m) stands.between
-          (λ none. none) stands.table some (omega (arith, length-map m word_count)) (inl (over, (refl, refl))),
+past_limit rule laws limit m raw rest is_found few over =
+    let some = is_found.table.table.can.some in (
+      is_found.between,
+      StartError-table rule laws limit None (MessageTooLarge (sum (lengths m))) _ raw is_found.between (lengths m) is_found.between
+          (λ none. none) is_found.table some (omega (arith, length-map m word_count)) (inl (over, (refl, refl))),
     )

@@ -21,14 +21,14 @@ sum_at_le (m ∷ ns) zero n here = let same : m ≡ n = cc in omega (arith, sum_
 sum_at_le (m ∷ ns) (suc i) n here = omega (arith, sum_at_le ns i n here, sum_by-cons (λ x. x) m (take i ns), sum_by-cons (λ x. x) m ns)
 
 -- where a segment that is held begins and ends
-pub record PartStands (bytes : List ℕ) (count index start n : ℕ) : Type 0 where
+pub record IsPartAt (bytes : List ℕ) (count index start n : ℕ) : Type 0 where
   pub within : start + 8 * n ≤ length bytes
   pub part : slice_get (declared_segments count bytes) index ≡ Some (take (start + 8 * n - start) (drop start bytes))
 
-pub stands_at : (bytes : List ℕ) (count index start n : ℕ) → HoldsMessage bytes count → index < count
+pub part_is_at : (bytes : List ℕ) (count index start n : ℕ) → HoldsMessage bytes count → index < count
     → start ≡ table_size count + 8 * sum (declared_lengths index bytes) → number (drop (4 * index) (drop 4 bytes)) ≡ n
-    → PartStands bytes count index start n
-stands_at bytes count index start n holds less begin is =
+    → IsPartAt bytes count index start n
+part_is_at bytes count index start n holds less begin is =
     let ns = declared_lengths count bytes in
     let here : slice_get ns index ≡ Some n = number_at index count (drop 4 bytes) less ∙ ap Some is in
     let before : sum (take index ns) ≡ sum (declared_lengths index bytes) = ap sum (numbers-take index count (drop 4 bytes) (omega arith)) in
@@ -67,7 +67,7 @@ lies_between bytes count index front start end holds less front_is start_is end_
     let there : n ≡ number (drop (4 * (index + 1)) bytes) = ap number (drop-drop (4 * index) 4 bytes ∙ ap (λ k. drop k bytes) place) in
     let more = sum-declared bytes index in
     let begin : front + 8 * start ≡ table_size count + 8 * sum (declared_lengths index bytes) = omega arith in
-    let found = stands_at bytes count index (front + 8 * start) n holds less begin refl in
+    let found = part_is_at bytes count index (front + 8 * start) n holds less begin refl in
     let last : front + 8 * start + 8 * n ≡ front + 8 * end = omega arith in
     record {
       ordered = omega arith;

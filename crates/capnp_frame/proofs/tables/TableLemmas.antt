@@ -6,7 +6,7 @@ use Rattle.std.specs.List.{flat_map, AllByRecursion}
 use Rattle.std.specs.Int.{w32, from_le_bytes}
 use Rattle.std.proofs.lemmas.Nat.{from_le_bytes-to_le_bytes_4}
 use Rattle.std.proofs.lemmas.List.{drop_at, length-replicate}
-use Rattle.capnp_frame.specs.Prelude.{same_front, field, FitsField, table_bytes, zero_padded_table, KeepsPadding, IsTable, Giving, TableStands}
+use Rattle.capnp_frame.specs.Prelude.{same_front, field, FitsField, table_bytes, zero_padded_table, KeepsPadding, IsTable, Giving, TableFound}
 use Rattle.capnp_frame.specs.declared.serialize.segment_table.Padding.{Padding}
 use Rattle.capnp_frame.specs.declared.serialize.segment_table.Padding.TheVariants.{Any, Zero}
 
@@ -89,11 +89,11 @@ declared ns first others table size =
     omega arith
 
 -- at most one table is at a front
-pub TableStands-once : {rule other : Padding} (gives : Giving) (raw ns rest ms left : List ℕ)
+pub TableFound-once : {rule other : Padding} (gives : Giving) (raw ns rest ms left : List ℕ)
     → ((raw : List ℕ) (n : ℕ) (bytes rest others left : List ℕ) → gives raw n bytes rest → gives raw n others left
     → (bytes ≡ others) × (rest ≡ left)) → ((raw : List ℕ) (n : ℕ) (bytes rest : List ℕ) → gives raw n bytes rest
-    → length bytes ≡ n) → TableStands rule gives ns raw rest → TableStands other gives ms raw left → (ns ≡ ms) × (rest ≡ left)
-TableStands-once {rule} gives raw ns rest ms left unique all p q =
+    → length bytes ≡ n) → TableFound rule gives ns raw rest → TableFound other gives ms raw left → (ns ≡ ms) × (rest ≡ left)
+TableFound-once {rule} gives raw ns rest ms left unique all p q =
     let first = unique raw 8 p.first p.between q.first q.between p.first_given q.first_given in
     let lens : length ns ≡ length ms = sym (declared ns p.first p.others p.table
     (all raw 8 p.first p.between p.first_given)) ∙ ap (λ l. number l + 1) first.0

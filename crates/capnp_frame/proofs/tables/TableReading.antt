@@ -3,7 +3,7 @@ use Rattle.std.proofs.Common.{◌≡◌, ℕ, ◌+◌, ◌-◌, ◌*◌, ◌/◌
 use Rattle.std.proofs.lemmas.List.{take-take, take-append-drop, take_all, take_at, drop_at}
 use borrow.Rule.Slice.PartMut.{put_mid}
 use Rattle.capnp_frame.specs.declared.serialize.segment_table.Padding.{Padding}
-use Rattle.capnp_frame.specs.Prelude.{table_size, KeepsPadding, IsTable, Giving, IfKnown, RestStands, TableStands, DeclaresAccepted, declared_lengths, declared_padding, SpellsLengths, DeclaresTable}
+use Rattle.capnp_frame.specs.Prelude.{table_size, KeepsPadding, IsTable, Giving, IfKnown, RestFound, TableFound, DeclaresAccepted, declared_lengths, declared_padding, SpellsLengths, DeclaresTable}
 use Rattle.capnp_frame.proofs.sources.SourceLemmas.{IfKnown-join, IfKnown-weaker, length-put_mid, put_mid_front}
 use Rattle.capnp_frame.proofs.tables.DeclaredTables.{length-declared, table_is, padding_declared}
 
@@ -57,11 +57,11 @@ rejected_table rule word table count front long rejected is =
     rejected (padding_declared rule table count whole)
 
 -- and its other words are what the second request gave
-pub rest_stands : (rule : Padding) (gives : Giving) (word table : List ℕ) (count : ℕ) (old new : Option (List ℕ)) → take 8 table ≡ word
+pub rest_found : (rule : Padding) (gives : Giving) (word table : List ℕ) (count : ℕ) (old new : Option (List ℕ)) → take 8 table ≡ word
     → length table ≡ table_size count → DeclaresTable table count → KeepsPadding rule (declared_padding count table)
     → IfKnown old new (λ raw rest. gives raw (length table - 8) (drop 8 table) rest)
-    → IfKnown old new (RestStands rule gives word (declared_lengths count table))
-rest_stands rule gives word table count old new front long tells kept =
+    → IfKnown old new (RestFound rule gives word (declared_lengths count table))
+rest_found rule gives word table count old new front long tells kept =
     let ns = declared_lengths count table in
     let many = length-declared count table in
     let size : length table - 8 ≡ 8 * (length ns / 2) = omega arith in
@@ -72,10 +72,10 @@ rest_stands rule gives word table count old new front long tells kept =
     })
 
 -- the first word and then the others are a table
-pub table_stands : (rule : Padding) (gives : Giving) (word ns : List ℕ) (old mid new : Option (List ℕ))
-    → IfKnown old mid (λ raw rest. gives raw 8 word rest) → IfKnown mid new (RestStands rule gives word ns)
-    → IfKnown old new (TableStands rule gives ns)
-table_stands rule gives word ns old mid new = IfKnown-join old mid new (λ raw between rest first others. record {
+pub table_found : (rule : Padding) (gives : Giving) (word ns : List ℕ) (old mid new : Option (List ℕ))
+    → IfKnown old mid (λ raw rest. gives raw 8 word rest) → IfKnown mid new (RestFound rule gives word ns)
+    → IfKnown old new (TableFound rule gives ns)
+table_found rule gives word ns old mid new = IfKnown-join old mid new (λ raw between rest first others. record {
   first = word;
   others = others.others;
   between = between;

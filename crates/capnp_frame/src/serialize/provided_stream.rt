@@ -8,7 +8,7 @@ ghost use Rattle.capnp_frame.specs.Asking.{Asked, FailsOr};
 ghost use Rattle.capnp_frame.specs.Errors.{FailsWith};
 ghost use Rattle.capnp_frame.specs.Streams.{next_in, framed_rules, ReadsStreamInto};
 ghost use Rattle.capnp_frame.specs.Steps.{FindsTable, FindsMessage, AsksNextInto, TableRestError, CompleteTableError};
-ghost use Rattle.capnp_frame.specs.Requests.{RestStands, TableStands, MessageStands};
+ghost use Rattle.capnp_frame.specs.Requests.{RestFound, TableFound, MessageFound};
 ghost use Rattle.capnp_frame.specs.StreamErrors.{DeclaresAccepted, TableError, StreamError, IsTableKind, IsProvidedReaderKind};
 ghost use Rattle.capnp_frame.specs.declared.error.ErrorKind.{ErrorKind};
 
@@ -146,7 +146,7 @@ fn read_total<R: Read>(
     requires accepted { DeclaresAccepted first.now count }
     requires size { length table.old ≡ table_size count }
     ensures found { OnOk result (IfKnown (R.unread source.old) (R.unread source.new)
-        (RestStands rules.padding R.gives first.now (declared_lengths count table.new))) }
+        (RestFound rules.padding R.gives first.now (declared_lengths count table.new))) }
     ensures tells { OnOk result (DeclaresTable table.new count) }
     ensures total { IfOk result (λ total. total ≡ sum (declared_lengths count table.new)) }
     ensures bound { IfOk result (λ total. total < 2 ^ 42) }

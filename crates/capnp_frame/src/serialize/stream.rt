@@ -6,7 +6,7 @@ ghost use Rattle.capnp_frame.specs.Limits.{IsWithin};
 ghost use Rattle.capnp_frame.specs.Source.{IfKnown};
 ghost use Rattle.capnp_frame.specs.Streams.{framed_rules, reusing_rules, ReadsStream};
 ghost use Rattle.capnp_frame.specs.Steps.{AsksNext};
-ghost use Rattle.capnp_frame.specs.Requests.{MessageStands};
+ghost use Rattle.capnp_frame.specs.Requests.{MessageFound};
 ghost use Rattle.capnp_frame.specs.StreamErrors.{StreamError, Outgrows};
 
 use crate::error::Result;
@@ -80,7 +80,7 @@ fn read_segments<R: Read>(
     spare_bytes: Vec<u8>,
 ) -> Result<Option<OwnedSegments>>
     ensures found { IfOk result (λ found. IfSome found (λ segments. IfKnown (R.unread source.old)
-        (R.unread source.new) (MessageStands rules.padding R.gives segments))) }
+        (R.unread source.new) (MessageFound rules.padding R.gives segments))) }
     ensures within { IfOk result (λ found. IfSome found (λ segments.
         IsWithin segments rules.limit_in_words)) }
     ensures whole { IfOk result (λ found. IfSome found (AllByRecursion IsWholeWords)) }

@@ -1,6 +1,6 @@
 -- The tests of a walk hold exactly where the words are those of a layout.
 use Rattle.std.proofs.Common.{◌≡◌, ℕ, ◌+◌, ◌*◌, ◌/◌, ◌^◌, ◌<◌, List, [], ◌∷◌, Some, slice_get, refl, subst, arith}
-use Rattle.capnp_layout.specs.Prelude.{pointer_kind, offset, Form, Shape, local, far, double_far, ShapeStands, PointsTo, is_null, is_object}
+use Rattle.capnp_layout.specs.Prelude.{pointer_kind, offset, Form, Shape, local, far, double_far, ShapeIsAt, PointsTo, is_null, is_object}
 use Rattle.capnp_layout.specs.declared.place.Place.{Place}
 
 -- a pointer within its segment that is not null, and where its object starts
@@ -8,7 +8,7 @@ pub record Local (segment : List ℕ) (word tag : ℕ) (form : Form) (children :
   pub start : ℕ
   pub shape : Shape
   pub target : start + 2 ^ 30 * (offset tag / 2 ^ 29) ≡ word + 1 + offset tag
-  pub stands : ShapeStands segment (record { segment = 0; word = start }) tag shape
+  pub is_at : ShapeIsAt segment (record { segment = 0; word = start }) tag shape
   pub form_is : shape.form ≡ form
   pub children_is : shape.children ≡ children
 
@@ -17,19 +17,19 @@ pub local_object : (segment : List ℕ) (word tag : ℕ) (shape : Shape) → sli
     → Local segment word tag shape.form shape.children
 local_object segment word tag shape here positive is_local (is_null e) =
     let same : tag ≡ 0 = cc in absurd (omega arith)
-local_object segment word tag shape here positive is_local (is_object {words = words} {start = start} {shape = inner} (local {word = w} e p k) w_is begins stands) =
+local_object segment word tag shape here positive is_local (is_object {words = words} {start = start} {shape = inner} (local {word = w} e p k) w_is begins is_at) =
     let same : w ≡ tag = cc in
     let seg : words ≡ segment = cc in
     record {
       start = start;
       shape = inner;
       target = subst (λ (x : ℕ). start + 2 ^ 30 * (offset x / 2 ^ 29) ≡ word + 1 + offset x) same begins;
-      stands = subst (λ (x : ℕ). ShapeStands segment (record { segment = 0; word = start }) x inner) same (subst (λ (l : List ℕ). ShapeStands l
-          (record { segment = 0; word = start }) w inner) seg stands);
+      is_at = subst (λ (x : ℕ). ShapeIsAt segment (record { segment = 0; word = start }) x inner) same (subst (λ (l : List ℕ). ShapeIsAt l
+          (record { segment = 0; word = start }) w inner) seg is_at);
       form_is = refl;
       children_is = refl;
     }
-local_object segment word tag shape here positive is_local (is_object (far {word = w} e f p k) w_is begins stands) =
+local_object segment word tag shape here positive is_local (is_object (far {word = w} e f p k) w_is begins is_at) =
     let same : w ≡ tag = cc in absurd (omega (arith, f.far))
-local_object segment word tag shape here positive is_local (is_object (double_far {word = w} e f p g q r k) w_is begins stands) =
+local_object segment word tag shape here positive is_local (is_object (double_far {word = w} e f p g q r k) w_is begins is_at) =
     let same : w ≡ tag = cc in absurd (omega (arith, f.far))

@@ -2,7 +2,7 @@
 use Rattle.std.proofs.lemmas.List.Elements.{All-head, All-tail}
 use Rattle.std.proofs.Common.{◌≡◌, ℕ, zero, suc, ◌+◌, ◌*◌, ◌^◌, ◌<◌, ◌≤◌, List, [], ◌∷◌, ◌++◌, length, take, drop, refl, sym, ◌∙◌, ap, subst, arith, length-append, length-take, length-drop}
 use Rattle.std.specs.Prelude.{All, ⊤}
-use Rattle.capnp_layout.specs.Prelude.{number_of, width, words_for, Form, null, struct, numbers, pointers, structs, Trees, none, tree, count, object_size, total_words, run, row_run, slots, pointers_to, woven, own, body, HasRoom, AllHaveRoom}
+use Rattle.capnp_layout.specs.Prelude.{number_of, width, words_for, Form, null, struct, numbers, pointers, structs, Trees, none, tree, count, object_size, total_words, run, element_runs, slots, pointers_to, woven, own, body, HasRoom, AllHaveRoom}
 use Rattle.capnp_layout.proofs.words.DigitLemmas.{length-digits}
 use Rattle.capnp_layout.proofs.pointers.SlotLemmas.{AllOf}
 
@@ -23,54 +23,54 @@ pub length-run : (start n : ℕ) → length (run start n) ≡ n
 length-run start zero = refl
 length-run start (suc n) = ap (λ (k : ℕ). suc k) (length-run (start + 1) n)
 
-pub length-row_run : (start d p : ℕ) (rows : List (List ℕ)) → length (row_run start d p rows) ≡ length rows * p
-length-row_run start d p [] = omega arith
-length-row_run start d p (row ∷ rows) =
-    let rest = length-row_run (start + d + p) d p rows in
-    omega (arith, length-append (run (start + d) p) (row_run (start + d + p) d p rows), length-run (start + d) p)
+pub length-element_runs : (start d p : ℕ) (elements : List (List ℕ)) → length (element_runs start d p elements) ≡ length elements * p
+length-element_runs start d p [] = omega arith
+length-element_runs start d p (element ∷ elements) =
+    let rest = length-element_runs (start + d + p) d p elements in
+    omega (arith, length-append (run (start + d) p) (element_runs (start + d + p) d p elements), length-run (start + d) p)
 
 run_before : (start n next : ℕ) → start + n ≤ next → Before next (run start n)
 run_before start zero next le = tt
 run_before start (suc n) next le = (omega arith, run_before (start + 1) n next (omega arith))
 
-row_run_before : (start d p : ℕ) (rows : List (List ℕ)) (next : ℕ) → start + length rows * (d + p) ≤ next → Before next (row_run start d p rows)
-row_run_before start d p [] next le = tt
-row_run_before start d p (row ∷ rows) next le =
-    before_append next (run (start + d) p) (row_run (start + d + p) d p rows) (run_before (start + d) p next (omega arith)) (row_run_before (start + d + p) d p rows next (omega arith))
+element_runs_before : (start d p : ℕ) (elements : List (List ℕ)) (next : ℕ) → start + length elements * (d + p) ≤ next → Before next (element_runs start d p elements)
+element_runs_before start d p [] next le = tt
+element_runs_before start d p (element ∷ elements) next le =
+    before_append next (run (start + d) p) (element_runs (start + d + p) d p elements) (run_before (start + d) p next (omega arith)) (element_runs_before (start + d + p) d p elements next (omega arith))
 
 pub length-slots : (form : Form) (n : ℕ) → HasRoom form n → length (slots form n) ≡ n
 length-slots null n room = length-run 0 n
 length-slots (struct words) n room = length-run (length words) n
 length-slots (numbers c values) n room = length-run 0 n
 length-slots pointers n room = length-run 0 n
-length-slots (structs d p rows) n room = length-row_run 1 d p rows ∙ sym room.4
+length-slots (structs d p elements) n room = length-element_runs 1 d p elements ∙ sym room.4
 
 pub slots_before : (form : Form) (n : ℕ) → HasRoom form n → Before (object_size form n) (slots form n)
 slots_before null n room = run_before 0 n 0 (omega arith)
 slots_before (struct words) n room = run_before (length words) n (length words + n) (omega arith)
 slots_before (numbers c values) n room = let empty : n ≡ 0 = room.2 in run_before 0 n (words_for (length values) (width c)) (omega arith)
 slots_before pointers n room = run_before 0 n n (omega arith)
-slots_before (structs d p rows) n room = row_run_before 1 d p rows (1 + length rows * (d + p)) (omega arith)
+slots_before (structs d p elements) n room = element_runs_before 1 d p elements (1 + length elements * (d + p)) (omega arith)
 
-pub length-woven : (d p : ℕ) (rows : List (List ℕ)) (links : List ℕ) → AllOf d rows → length links ≡ length rows * p → length (woven p rows links) ≡ length rows * (d + p)
+pub length-woven : (d p : ℕ) (elements : List (List ℕ)) (links : List ℕ) → AllOf d elements → length links ≡ length elements * p → length (woven p elements links) ≡ length elements * (d + p)
 length-woven d p [] links even long = omega arith
-length-woven d p (row ∷ rows) links even long =
-    let wide : length row ≡ d = All-head (λ r. length r ≡ d) row rows even in
-    let split : suc (length rows) * p ≡ p + length rows * p = omega arith in
-    let rest = length-woven d p rows (drop p links) (All-tail (λ r. length r ≡ d) row rows even) (omega (arith, length-drop p links)) in
-    omega (arith, length-append (row ++ take p links) (woven p rows (drop p links)), length-append row (take p links), length-take p links)
+length-woven d p (element ∷ elements) links even long =
+    let wide : length element ≡ d = All-head (λ r. length r ≡ d) element elements even in
+    let split : suc (length elements) * p ≡ p + length elements * p = omega arith in
+    let rest = length-woven d p elements (drop p links) (All-tail (λ r. length r ≡ d) element elements even) (omega (arith, length-drop p links)) in
+    omega (arith, length-append (element ++ take p links) (woven p elements (drop p links)), length-append element (take p links), length-take p links)
 
--- the rows of a list of structs with room
-pub rows_even : (d : ℕ) (rows : List (List ℕ)) → All (λ row. (length row ≡ d) × All (λ w. w < 2 ^ 64) row) rows → AllOf d rows
-rows_even d rows all = λ k e within. (all k e within).0
+-- the elements of a list of structs with room
+pub elements_even : (d : ℕ) (elements : List (List ℕ)) → All (λ element. (length element ≡ d) × All (λ w. w < 2 ^ 64) element) elements → AllOf d elements
+elements_even d elements all = λ k e within. (all k e within).0
 
 pub length-own : (form : Form) (links : List ℕ) → HasRoom form (length links) → length (own form links) ≡ object_size form (length links)
 length-own null links room = refl
 length-own (struct words) links room = length-append words links
 length-own (numbers c values) links room = length-digits (2 ^ 64) (words_for (length values) (width c)) (number_of (2 ^ width c) values)
 length-own pointers links room = refl
-length-own (structs d p rows) links room =
-    let rest = length-woven d p rows links (rows_even d rows room.5) room.4 in
+length-own (structs d p elements) links room =
+    let rest = length-woven d p elements links (elements_even d elements room.5) room.4 in
     omega arith
 
 pub length-pointers_to : (slots : List ℕ) (next : ℕ) (trees : Trees) → length slots ≡ count trees → length (pointers_to slots next trees) ≡ count trees

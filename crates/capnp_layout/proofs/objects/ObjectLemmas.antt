@@ -1,6 +1,6 @@
 -- At most one object, and one tree, is at a place.
 use Rattle.std.proofs.Common.{◌≡◌, ℕ, List, Some, refl, ap, subst, sym, ◌∙◌, arith}
-use Rattle.capnp_layout.specs.Prelude.{list_count, offset, data_words, pointer_words, Trees, word_at, Origin, exactly, IsStart, Target, Lands, local, far, double_far, landing_pad, landing_pad_tag, Shape, ShapeStands, structs_shape, a_struct, some_numbers, some_pointers, some_structs, PointsTo, is_null, is_object, At, nowhere, at}
+use Rattle.capnp_layout.specs.Prelude.{list_count, offset, data_words, pointer_words, Trees, word_at, Origin, exactly, IsStart, Target, Lands, local, far, double_far, landing_pad, landing_pad_tag, Shape, ShapeIsAt, structs_shape, a_struct, some_numbers, some_pointers, some_structs, PointsTo, is_null, is_object, At, nowhere, at}
 use Rattle.capnp_layout.specs.Object.{following}
 use Rattle.capnp_layout.specs.declared.place.Place.{Place}
 
@@ -30,7 +30,7 @@ one_landing m place c d (double_far {word = v} {inner = i} {tag = a} e _ p _ x _
     let tags : a ≡ b = same_word m (landing_pad_tag w) a b (subst (λ z. word_at m (landing_pad_tag z) ≡ Some a) same x) y in
     cc
 
-pub one_shape : (words : List ℕ) (start : Place) (pointer : ℕ) (s t : Shape) → ShapeStands words start pointer s → ShapeStands words start pointer t → s ≡ t
+pub one_shape : (words : List ℕ) (start : Place) (pointer : ℕ) (s t : Shape) → ShapeIsAt words start pointer s → ShapeIsAt words start pointer t → s ≡ t
 one_shape words start pointer s t (a_struct k _) (a_struct l _) = refl
 one_shape words start pointer s t (a_struct k _) (some_numbers l _ _) = absurd (omega arith)
 one_shape words start pointer s t (a_struct k _) (some_pointers l _ _) = absurd (omega arith)
@@ -59,15 +59,15 @@ pub one_object : (m : List (List ℕ)) (place : Place) (s t : Shape) → PointsT
 one_object m place s t (is_null e) (is_null f) = refl
 one_object m place s t (is_null e) (is_object lands _ _ _) = absurd (null_lands_nowhere m place _ e lands)
 one_object m place s t (is_object lands _ _ _) (is_null e) = absurd (null_lands_nowhere m place _ e lands)
-one_object m place s t (is_object {landing = c} {words = v} {start = i} {shape = a} lands e begins stands) (is_object {landing = d} {words = w} {start = j} {shape = b} lands' f begins' stands') =
+one_object m place s t (is_object {landing = c} {words = v} {start = i} {shape = a} lands e begins is_at) (is_object {landing = d} {words = w} {start = j} {shape = b} lands' f begins' is_at') =
     let landing : c ≡ d = one_landing m place c d lands lands' in
     let words : v ≡ w = cc in
     let start : i ≡ j = one_start d.origin d.tag i j (subst (λ (x : Target). IsStart x.origin x.tag i) landing begins) begins' in
-    let moved : ShapeStands w (record { segment = d.segment; word = j }) d.tag a =
-    subst (λ (x : ℕ). ShapeStands w (record { segment = d.segment; word = x }) d.tag a) start
-    (subst (λ (x : Target). ShapeStands w (record { segment = x.segment; word = i }) x.tag a) landing
-    (subst (λ x. ShapeStands x (record { segment = c.segment; word = i }) c.tag a) words stands)) in
-    let shape : a ≡ b = one_shape w (record { segment = d.segment; word = j }) d.tag a b moved stands' in
+    let moved : ShapeIsAt w (record { segment = d.segment; word = j }) d.tag a =
+    subst (λ (x : ℕ). ShapeIsAt w (record { segment = d.segment; word = x }) d.tag a) start
+    (subst (λ (x : Target). ShapeIsAt w (record { segment = x.segment; word = i }) x.tag a) landing
+    (subst (λ x. ShapeIsAt x (record { segment = c.segment; word = i }) c.tag a) words is_at)) in
+    let shape : a ≡ b = one_shape w (record { segment = d.segment; word = j }) d.tag a b moved is_at' in
     cc
 
 pub one_tree : (m : List (List ℕ)) (places : List Place) (a b : Trees) (x y : ℕ) → At m places a x → At m places b y → (a ≡ b) × (x ≡ y)

@@ -1,6 +1,6 @@
 -- An object in the segment of its pointer, in a message of one segment, and what is tested of it.
 use Rattle.std.proofs.Common.{◌≡◌, ◌≢◌, ℕ, ◌+◌, ◌*◌, ◌/◌, ◌^◌, ◌<◌, ◌≤◌, List, [], ◌∷◌, length, Some, slice_get, sym, ◌∙◌, ap, subst, arith}
-use Rattle.capnp_layout.specs.Prelude.{pointer_kind, offset, words_of, word_at, IsStart, Target, Lands, local, far, double_far, Shape, ShapeStands, PointsTo, IsObject, shape_of, room_of}
+use Rattle.capnp_layout.specs.Prelude.{pointer_kind, offset, words_of, word_at, IsStart, Target, Lands, local, far, double_far, Shape, ShapeIsAt, PointsTo, IsObject, shape_of, room_of}
 use Rattle.capnp_layout.specs.Object.{following}
 use Rattle.capnp_layout.specs.declared.place.Place.{Place}
 use Rattle.capnp_layout.specs.declared.object.Object.{Object as ReadObject}
@@ -38,7 +38,7 @@ pub record ReadLocal (segment : List ℕ) (word pointer : ℕ) (object : ReadObj
   pub object_is : PointsTo (segment ∷ []) (record { segment = 0; word = word }) (shape_as segment object)
   pub room : object.start.word + room_of object.body ≤ length segment
   pub shape : Shape
-  pub stands : ShapeStands segment (record { segment = 0; word = object.start.word }) pointer shape
+  pub is_at : ShapeIsAt segment (record { segment = 0; word = object.start.word }) pointer shape
   pub form_is : shape.form ≡ (shape_of segment object.start object.body).form
   pub children_is : shape.children ≡ (shape_of segment object.start object.body).children
 
@@ -65,7 +65,7 @@ read_local segment word pointer object o long there not_far =
       object_is = object_is;
       room = omega (arith, o.room, ap (λ (l : List ℕ). length l) content);
       shape = r.shape;
-      stands = subst (λ (k : ℕ). ShapeStands segment (record { segment = 0; word = k }) pointer r.shape) start r.stands;
+      is_at = subst (λ (k : ℕ). ShapeIsAt segment (record { segment = 0; word = k }) pointer r.shape) start r.is_at;
       form_is = r.form_is;
       children_is = r.children_is;
     }

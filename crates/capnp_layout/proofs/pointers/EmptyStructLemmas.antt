@@ -16,8 +16,8 @@ empty_output true = refl
 empty_output false = refl
 
 -- such a struct is where its pointer is
-pub empty_struct_stands : {m : List (List ℕ)} {place : Place} {words : List ℕ} → slice_get m place.segment ≡ Some words → slice_get words place.word ≡ Some empty_struct
+pub empty_struct_is_at : {m : List (List ℕ)} {place : Place} {words : List ℕ} → slice_get m place.segment ≡ Some words → slice_get words place.word ≡ Some empty_struct
     → PointsTo m place empty_shape
-empty_struct_stands {m} {place} {words} there is =
+empty_struct_is_at {m} {place} {words} there is =
     is_object {start = place.word} (local (word_there m place words empty_struct there is) (lit< tt) (lit< tt)) there (omega arith)
     (a_struct refl (omega (arith, slice_get_within words place.word empty_struct is)))

@@ -3,55 +3,55 @@ use Rattle.std.proofs.Common.{◌≡◌, ℕ, ◌+◌, ◌*◌, ◌/◌, ◌<◌
 use Rattle.std.proofs.lemmas.Option.{slice_get-get_or}
 use Rattle.capnp_frame.specs.declared.error.ErrorKind.{ErrorKind}
 use Rattle.capnp_frame.specs.declared.error.ErrorKind.TheVariants.{PointerOutOfBounds, WrongPointerKind}
-use Rattle.capnp_layout.specs.Prelude.{words_of, pointer_kind, code, offset, data_words, pointer_words, list_count, width, words_for, ShapeStands, a_struct, some_numbers, some_pointers, some_structs, struct_shape, numbers_shape, pointers_shape, structs_shape, SizeError, struct_outside, list_outside, structs_outside, odd_tag, many_elements}
+use Rattle.capnp_layout.specs.Prelude.{words_of, pointer_kind, code, offset, data_words, pointer_words, list_count, width, words_for, ShapeIsAt, a_struct, some_numbers, some_pointers, some_structs, struct_shape, numbers_shape, pointers_shape, structs_shape, SizeError, struct_outside, list_outside, structs_outside, odd_tag, many_elements}
 use Rattle.capnp_layout.specs.declared.place.Place.{Place}
 use Rattle.capnp_layout.proofs.words.WordLemmas.{length-words_of}
 use Rattle.capnp_layout.proofs.pointers.PointerErrorLemmas.{words_for_pointers}
 
-pub struct_stands : (bytes : List ℕ) (place : Place) (tag d p : ℕ) → pointer_kind tag ≡ 0 → d ≡ data_words tag → p ≡ pointer_words tag
-    → place.word + (d + p) ≤ length bytes / 8 → ShapeStands (words_of bytes) place tag (struct_shape (words_of bytes) place d p)
-struct_stands bytes place tag d p k e f room =
+pub struct_is_at : (bytes : List ℕ) (place : Place) (tag d p : ℕ) → pointer_kind tag ≡ 0 → d ≡ data_words tag → p ≡ pointer_words tag
+    → place.word + (d + p) ≤ length bytes / 8 → ShapeIsAt (words_of bytes) place tag (struct_shape (words_of bytes) place d p)
+struct_is_at bytes place tag d p k e f room =
     let words = words_of bytes in
     let within : place.word + data_words tag + pointer_words tag ≤ length words = omega (arith, length-words_of bytes) in
-    let stands : ShapeStands words place tag (struct_shape words place (data_words tag) (pointer_words tag)) = a_struct k within in
-    subst (λ (x : ℕ). ShapeStands words place tag (struct_shape words place x p)) (sym e)
-    (subst (λ (x : ℕ). ShapeStands words place tag (struct_shape words place (data_words tag) x)) (sym f) stands)
+    let is_at : ShapeIsAt words place tag (struct_shape words place (data_words tag) (pointer_words tag)) = a_struct k within in
+    subst (λ (x : ℕ). ShapeIsAt words place tag (struct_shape words place x p)) (sym e)
+    (subst (λ (x : ℕ). ShapeIsAt words place tag (struct_shape words place (data_words tag) x)) (sym f) is_at)
 
-pub numbers_stand : (bytes : List ℕ) (place : Place) (tag c n : ℕ) → pointer_kind tag ≡ 1 → code tag < 6 → c ≡ code tag → n ≡ list_count tag
-    → place.word + words_for n (width c) ≤ length bytes / 8 → ShapeStands (words_of bytes) place tag (numbers_shape (words_of bytes) place c n)
-numbers_stand bytes place tag c n k few e f room =
+pub numbers_are_at : (bytes : List ℕ) (place : Place) (tag c n : ℕ) → pointer_kind tag ≡ 1 → code tag < 6 → c ≡ code tag → n ≡ list_count tag
+    → place.word + words_for n (width c) ≤ length bytes / 8 → ShapeIsAt (words_of bytes) place tag (numbers_shape (words_of bytes) place c n)
+numbers_are_at bytes place tag c n k few e f room =
     let words = words_of bytes in
     let size : words_for n (width c) ≡ words_for (list_count tag) (width (code tag)) =
     ap (λ (x : ℕ). words_for x (width c)) f ∙ ap (λ (x : ℕ). words_for (list_count tag) (width x)) e in
     let within : place.word + words_for (list_count tag) (width (code tag)) ≤ length words = omega (arith, length-words_of bytes, size, room) in
-    let stands : ShapeStands words place tag (numbers_shape words place (code tag) (list_count tag)) = some_numbers k few within in
-    subst (λ (x : ℕ). ShapeStands words place tag (numbers_shape words place x n)) (sym e)
-    (subst (λ (x : ℕ). ShapeStands words place tag (numbers_shape words place (code tag) x)) (sym f) stands)
+    let is_at : ShapeIsAt words place tag (numbers_shape words place (code tag) (list_count tag)) = some_numbers k few within in
+    subst (λ (x : ℕ). ShapeIsAt words place tag (numbers_shape words place x n)) (sym e)
+    (subst (λ (x : ℕ). ShapeIsAt words place tag (numbers_shape words place (code tag) x)) (sym f) is_at)
 
-pub pointers_stand : (bytes : List ℕ) (place : Place) (tag n : ℕ) → pointer_kind tag ≡ 1 → code tag ≡ 6 → n ≡ list_count tag
-    → place.word + n ≤ length bytes / 8 → ShapeStands (words_of bytes) place tag (pointers_shape place n)
-pointers_stand bytes place tag n k six f room =
+pub pointers_are_at : (bytes : List ℕ) (place : Place) (tag n : ℕ) → pointer_kind tag ≡ 1 → code tag ≡ 6 → n ≡ list_count tag
+    → place.word + n ≤ length bytes / 8 → ShapeIsAt (words_of bytes) place tag (pointers_shape place n)
+pointers_are_at bytes place tag n k six f room =
     let words = words_of bytes in
     let within : place.word + list_count tag ≤ length words = omega (arith, length-words_of bytes) in
-    let stands : ShapeStands words place tag (pointers_shape place (list_count tag)) = some_pointers k six within in
-    subst (λ (x : ℕ). ShapeStands words place tag (pointers_shape place x)) (sym f) stands
+    let is_at : ShapeIsAt words place tag (pointers_shape place (list_count tag)) = some_pointers k six within in
+    subst (λ (x : ℕ). ShapeIsAt words place tag (pointers_shape place x)) (sym f) is_at
 
-pub structs_stand : (bytes : List ℕ) (place : Place) (pointer tag d p n size : ℕ) → pointer_kind pointer ≡ 1 → code pointer ≡ 7 → size ≡ list_count pointer
+pub structs_are_at : (bytes : List ℕ) (place : Place) (pointer tag d p n size : ℕ) → pointer_kind pointer ≡ 1 → code pointer ≡ 7 → size ≡ list_count pointer
     → slice_get (words_of bytes) place.word ≡ Some tag → pointer_kind tag ≡ 0 → n ≡ offset tag → d ≡ data_words tag → p ≡ pointer_words tag
     → place.word + (1 + size) ≤ length bytes / 8 → n * (d + p) ≤ size
-    → ShapeStands (words_of bytes) place pointer (structs_shape (words_of bytes) place d p n size)
-structs_stand bytes place pointer tag d p n size k seven size_is tag_is even n_is d_is p_is room few =
+    → ShapeIsAt (words_of bytes) place pointer (structs_shape (words_of bytes) place d p n size)
+structs_are_at bytes place pointer tag d p n size k seven size_is tag_is even n_is d_is p_is room few =
     let words = words_of bytes in
     let within : place.word + 1 + list_count pointer ≤ length words = omega (arith, length-words_of bytes) in
     let product : n * (d + p) ≡ offset tag * (data_words tag + pointer_words tag) =
     ap (λ (x : ℕ). x * (d + p)) n_is ∙ ap (λ (x : ℕ). offset tag * (x + p)) d_is ∙ ap (λ (x : ℕ). offset tag * (data_words tag + x)) p_is in
     let fewer : offset tag * (data_words tag + pointer_words tag) ≤ list_count pointer = omega (arith, product, few, size_is) in
-    let stands : ShapeStands words place pointer (structs_shape words place (data_words tag) (pointer_words tag) (offset tag) (list_count pointer)) =
+    let is_at : ShapeIsAt words place pointer (structs_shape words place (data_words tag) (pointer_words tag) (offset tag) (list_count pointer)) =
     some_structs k seven within tag_is even fewer in
-    subst (λ (x : ℕ). ShapeStands words place pointer (structs_shape words place x p n size)) (sym d_is)
-    (subst (λ (x : ℕ). ShapeStands words place pointer (structs_shape words place (data_words tag) x n size)) (sym p_is)
-    (subst (λ (x : ℕ). ShapeStands words place pointer (structs_shape words place (data_words tag) (pointer_words tag) x size)) (sym n_is)
-    (subst (λ (x : ℕ). ShapeStands words place pointer (structs_shape words place (data_words tag) (pointer_words tag) (offset tag) x)) (sym size_is) stands)))
+    subst (λ (x : ℕ). ShapeIsAt words place pointer (structs_shape words place x p n size)) (sym d_is)
+    (subst (λ (x : ℕ). ShapeIsAt words place pointer (structs_shape words place (data_words tag) x n size)) (sym p_is)
+    (subst (λ (x : ℕ). ShapeIsAt words place pointer (structs_shape words place (data_words tag) (pointer_words tag) x size)) (sym n_is)
+    (subst (λ (x : ℕ). ShapeIsAt words place pointer (structs_shape words place (data_words tag) (pointer_words tag) (offset tag) x)) (sym size_is) is_at)))
 
 -- and what does not
 pub struct_misfits : (bytes : List ℕ) (start tag d p : ℕ) (kind : ErrorKind) → pointer_kind tag ≡ 0 → d ≡ data_words tag → p ≡ pointer_words tag

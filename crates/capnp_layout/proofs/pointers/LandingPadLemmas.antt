@@ -5,7 +5,7 @@ use Rattle.std.specs.Result.{IsErrAnd}
 use Rattle.capnp_frame.specs.declared.error.Error.{Error}
 use Rattle.capnp_frame.specs.declared.error.ErrorKind.{ErrorKind}
 use Rattle.capnp_frame.specs.declared.error.ErrorKind.TheVariants.{PointerOutOfBounds, InvalidSegmentId}
-use Rattle.capnp_layout.specs.Prelude.{words_of, has_wide_landing_pad, landing_pad_segment, landing_pad_position, IsLocal, IsLocalShape, IsFarPointer, message_of, word_at, landing_pad, landing_pad_tag, IsFar, exactly, IsStart, Lands, far as by_landing_pad, double_far, ShapeStands, PointsTo, is_object, HasWideLandingPad, IsLanding, NotLocal, shape_of, traversed_of, NoWord, no_segment, past_segment, BadLandingPad, no_landing_pad, far_again, landing_pad_capability, far_tag, capability_tag}
+use Rattle.capnp_layout.specs.Prelude.{words_of, has_wide_landing_pad, landing_pad_segment, landing_pad_position, IsLocal, IsLocalShape, IsFarPointer, message_of, word_at, landing_pad, landing_pad_tag, IsFar, exactly, IsStart, Lands, far as by_landing_pad, double_far, ShapeIsAt, PointsTo, is_object, HasWideLandingPad, IsLanding, NotLocal, shape_of, traversed_of, NoWord, no_segment, past_segment, BadLandingPad, no_landing_pad, far_again, landing_pad_capability, far_tag, capability_tag}
 use Rattle.capnp_layout.specs.Object.{following}
 use Rattle.capnp_layout.specs.declared.place.Place.{Place}
 use Rattle.capnp_layout.specs.declared.object.Body.{Body}
@@ -13,7 +13,7 @@ use Rattle.capnp_layout.specs.declared.object.Body.TheVariants.{Struct, Numbers,
 use Rattle.capnp_layout.specs.declared.landing_pad.Landing.{Landing as ReadLanding}
 use Rattle.capnp_layout.specs.declared.pointer.FarPointer.{FarPointer}
 use Rattle.capnp_layout.specs.declared.pointer.LocalPointer.{LocalPointer}
-use Rattle.capnp_layout.proofs.words.MessageLemmas.{segment_stands, no_segment_stands, word_stands, no_word_stands}
+use Rattle.capnp_layout.proofs.words.MessageLemmas.{segment_is_there, no_segment_is_there, word_is_there, no_word_is_there}
 
 -- what `?` passes on is of the same kind as the error that it returns
 pub passed_kind : {Y : Type 0} {error : Error} {kind : ErrorKind} (result : Result Y Error) → IsErrAnd result (λ y. y ≡ error) → error.kind ≡ kind → IsErrAnd result (λ y. y.kind ≡ kind)
@@ -75,26 +75,26 @@ pub landing_pad_word : (segments : List (List ℕ)) (word : ℕ) (far : FarPoint
     → slice_get segments far.landing_pad.segment ≡ Some bytes → slice_get (words_of bytes) far.landing_pad.word ≡ Some first
     → word_at (message_of segments) (landing_pad word) ≡ Some first
 landing_pad_word segments word far bytes first far_is segment e =
-    subst (λ (x : Place). word_at (message_of segments) x ≡ Some first) far_is.landing_pad_is (word_stands segments far.landing_pad bytes first segment e)
+    subst (λ (x : Place). word_at (message_of segments) x ≡ Some first) far_is.landing_pad_is (word_is_there segments far.landing_pad bytes first segment e)
 
 pub second_word : (segments : List (List ℕ)) (word : ℕ) (far : FarPointer) (bytes : List ℕ) (tag : ℕ) → IsFarPointer word far
     → slice_get segments far.landing_pad.segment ≡ Some bytes → slice_get (words_of bytes) (far.landing_pad.word + 1) ≡ Some tag
     → word_at (message_of segments) (landing_pad_tag word) ≡ Some tag
 second_word segments word far bytes tag far_is segment e =
     subst (λ (x : Place). word_at (message_of segments) (record { segment = x.segment; word = x.word + 1 }) ≡ Some tag) far_is.landing_pad_is
-    (word_stands segments (record { segment = far.landing_pad.segment; word = far.landing_pad.word + 1 }) bytes tag segment e)
+    (word_is_there segments (record { segment = far.landing_pad.segment; word = far.landing_pad.word + 1 }) bytes tag segment e)
 
 pub no_second_word : (segments : List (List ℕ)) (word : ℕ) (far : FarPointer) (bytes : List ℕ) → IsFarPointer word far
     → slice_get segments far.landing_pad.segment ≡ Some bytes → slice_get (words_of bytes) (far.landing_pad.word + 1) ≡ None
     → word_at (message_of segments) (landing_pad_tag word) ≡ None
 no_second_word segments word far bytes far_is segment e =
     subst (λ (x : Place). word_at (message_of segments) (record { segment = x.segment; word = x.word + 1 }) ≡ None) far_is.landing_pad_is
-    (no_word_stands segments (record { segment = far.landing_pad.segment; word = far.landing_pad.word + 1 }) bytes segment e)
+    (no_word_is_there segments (record { segment = far.landing_pad.segment; word = far.landing_pad.word + 1 }) bytes segment e)
 
 pub no_landing_pad_segment : (segments : List (List ℕ)) (word : ℕ) (far : FarPointer) (kind : ErrorKind) → IsFarPointer word far
     → slice_get segments far.landing_pad.segment ≡ None → kind ≡ InvalidSegmentId far.landing_pad.segment → BadLandingPad (message_of segments) word kind
 no_landing_pad_segment segments word far kind far_is none is =
-    let at_landing_pad : NoWord (message_of segments) far.landing_pad (InvalidSegmentId far.landing_pad.segment) = no_segment (no_segment_stands segments far.landing_pad.segment none) in
+    let at_landing_pad : NoWord (message_of segments) far.landing_pad (InvalidSegmentId far.landing_pad.segment) = no_segment (no_segment_is_there segments far.landing_pad.segment none) in
     subst (BadLandingPad (message_of segments) word) (sym is)
     (no_landing_pad (subst (λ (x : Place). NoWord (message_of segments) x (InvalidSegmentId far.landing_pad.segment)) far_is.landing_pad_is at_landing_pad))
 
@@ -102,7 +102,7 @@ pub no_landing_pad_word : (segments : List (List ℕ)) (word : ℕ) (far : FarPo
     → slice_get segments far.landing_pad.segment ≡ Some bytes → slice_get (words_of bytes) far.landing_pad.word ≡ None → kind ≡ PointerOutOfBounds
     → BadLandingPad (message_of segments) word kind
 no_landing_pad_word segments word far bytes kind far_is segment none is =
-    let at_landing_pad : NoWord (message_of segments) far.landing_pad PointerOutOfBounds = past_segment (segment_stands segments far.landing_pad.segment bytes segment) none in
+    let at_landing_pad : NoWord (message_of segments) far.landing_pad PointerOutOfBounds = past_segment (segment_is_there segments far.landing_pad.segment bytes segment) none in
     subst (BadLandingPad (message_of segments) word) (sym is)
     (no_landing_pad (subst (λ (x : Place). NoWord (message_of segments) x PointerOutOfBounds) far_is.landing_pad_is at_landing_pad))
 
@@ -134,7 +134,7 @@ narrow_landing segments place word far bytes first local read there far_is narro
     by_landing_pad there (is_far_word word far far_is narrow) (landing_pad_word segments word far bytes first far_is segment here) local_is.local_kind in
     let from_landing_pad : Lands m place (record { segment = far.landing_pad.segment; origin = following far.landing_pad.word; tag = first; landing_pads = 1 }) =
     subst (λ (x : Place). Lands m place (record { segment = x.segment; origin = following x.word; tag = first; landing_pads = 1 })) (sym far_is.landing_pad_is) lands in
-    local_landing m place far.landing_pad first 1 local bytes read from_landing_pad (omega arith) (segment_stands segments far.landing_pad.segment bytes segment) local_is seen
+    local_landing m place far.landing_pad first 1 local bytes read from_landing_pad (omega arith) (segment_is_there segments far.landing_pad.segment bytes segment) local_is seen
 
 -- the two words of a wide landing pad
 pub wide_landing_pad : {bytes : List ℕ} {first tag : ℕ} (segments : List (List ℕ)) (word : ℕ) (far : FarPointer) → IsFarPointer word far → far.is_double_far ≡ true
@@ -180,18 +180,18 @@ traversed_of_shape words start (Numbers elements count) = refl
 traversed_of_shape words start (Pointers count) = refl
 traversed_of_shape words start (Structs elements after_tag) = refl
 
-pub object_stands : (m : List (List ℕ)) (place : Place) (read : ReadLanding) (start : ℕ) (body : Body) (traversed : ℕ) → IsLanding m place read → read.start ≡ Some start
+pub object_is_at : (m : List (List ℕ)) (place : Place) (read : ReadLanding) (start : ℕ) (body : Body) (traversed : ℕ) → IsLanding m place read → read.start ≡ Some start
     → ((tag number : ℕ) → IsLocalShape tag read.shape
-    → ShapeStands (words_of read.segment.now) (record { segment = number; word = start }) tag (shape_of (words_of read.segment.now) (record { segment = number; word = start }) body))
+    → ShapeIsAt (words_of read.segment.now) (record { segment = number; word = start }) tag (shape_of (words_of read.segment.now) (record { segment = number; word = start }) body))
     → traversed ≡ traversed_of body
     → PointsTo m place (record (shape_of (words_of read.segment.now) (record { segment = read.number; word = start }) body) { traversed = read.landing_pads + traversed })
-object_stands m place read start body traversed l e stands traversed_is =
+object_is_at m place read start body traversed l e is_at traversed_is =
     let words = words_of read.segment.now in
     let landing = l.landing in
     let here : Place = record { segment = landing.segment; word = start } in
     let begins : IsStart landing.origin landing.tag start =
     subst (λ (o : Option ℕ). MatchOption o ((s : ℕ) → IsStart landing.origin landing.tag s → ⊥) (λ s. IsStart landing.origin landing.tag s)) e l.start in
-    let found = stands landing.tag landing.segment l.shape in
+    let found = is_at landing.tag landing.segment l.shape in
     let total : landing.landing_pads + (shape_of words here body).traversed ≡ read.landing_pads + traversed = omega (arith, l.landing_pads, traversed_of_shape words here body) in
     let object : PointsTo m place (record (shape_of words here body) { traversed = landing.landing_pads + (shape_of words here body).traversed }) =
     is_object l.lands l.content begins found in

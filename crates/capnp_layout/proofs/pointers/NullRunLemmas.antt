@@ -62,13 +62,13 @@ first_null words start n room are =
     }
 
 -- they are where the words are zero
-pub nulls_stand : (m : List (List ℕ)) (segment : ℕ) (words : List ℕ) (start n : ℕ) → slice_get m segment ≡ Some words → start + n ≤ length words → AreNull words start n
+pub nulls_are_at : (m : List (List ℕ)) (segment : ℕ) (words : List ℕ) (start n : ℕ) → slice_get m segment ≡ Some words → start + n ≤ length words → AreNull words start n
     → At m (places segment start n) (nulls n) 0
-nulls_stand m segment words start zero there room are = nowhere
-nulls_stand m segment words start (suc n) there room are =
+nulls_are_at m segment words start zero there room are = nowhere
+nulls_are_at m segment words start (suc n) there room are =
     let f = first_null words start n room are in
     at (null_there (word_there m (record { segment = segment; word = start }) words 0 there f.word)) nowhere
-    (nulls_stand m segment words (start + 1) n there (omega arith) f.rest)
+    (nulls_are_at m segment words (start + 1) n there (omega arith) f.rest)
 
 -- they are put into their slots as the words that they are
 pub nulls_filled : (words : List ℕ) (start n slot next : ℕ) (block : List ℕ) → start + n ≤ length words → AreNull words start n → slot + n ≤ length block

@@ -1,7 +1,7 @@
 -- Where a pointer is invalid, there is no object within the nesting depth left.
 use Rattle.std.proofs.Common.{◌≡◌, ℕ, ◌+◌, ◌*◌, ◌<◌, ◌≤◌, true, false, List, Some, None, slice_get, refl, sym, ◌∙◌, ap, subst, arith}
 use Rattle.capnp_frame.specs.declared.error.ErrorKind.{ErrorKind}
-use Rattle.capnp_layout.specs.Prelude.{width, words_for, pointer_kind, code, has_wide_landing_pad, landing_pad_segment, offset, data_words, pointer_words, list_count, word_at, IsFar, landing_pad, landing_pad_tag, IsStart, Target, Lands, local, far, double_far, Shape, ShapeStands, a_struct, some_numbers, some_pointers, some_structs, PointsTo, nothing, is_null as null_there, is_object, NoWord, no_segment, past_segment, BadLandingPad, no_landing_pad, far_again, landing_pad_capability, no_tag, not_far, no_content, far_tag, capability_tag, SizeError, struct_outside, list_outside, structs_outside, odd_tag, many_elements, PointerError, no_word, capability, bad_landing_pad, too_deep, no_start, misfits}
+use Rattle.capnp_layout.specs.Prelude.{width, words_for, pointer_kind, code, has_wide_landing_pad, landing_pad_segment, offset, data_words, pointer_words, list_count, word_at, IsFar, landing_pad, landing_pad_tag, IsStart, Target, Lands, local, far, double_far, Shape, ShapeIsAt, a_struct, some_numbers, some_pointers, some_structs, PointsTo, nothing, is_null as null_there, is_object, NoWord, no_segment, past_segment, BadLandingPad, no_landing_pad, far_again, landing_pad_capability, no_tag, not_far, no_content, far_tag, capability_tag, SizeError, struct_outside, list_outside, structs_outside, odd_tag, many_elements, PointerError, no_word, capability, bad_landing_pad, too_deep, no_start, misfits}
 use Rattle.capnp_layout.specs.Tree.{is_null}
 use Rattle.capnp_layout.specs.declared.place.Place.{Place}
 use Rattle.capnp_layout.proofs.objects.ObjectLemmas.{same_word, one_landing, one_start, null_lands_nowhere}
@@ -96,7 +96,7 @@ pub words_for_pointers : (n code : ℕ) → code ≡ 6 → words_for n (width co
 words_for_pointers n code six = let whole : words_for n 64 ≡ n = omega arith in ap (λ (c : ℕ). words_for n (width c)) six ∙ whole
 
 -- a size that fits is accepted
-fits_or_not : (words : List ℕ) (start : Place) (pointer : ℕ) (kind : ErrorKind) (s : Shape) → SizeError words start.word pointer kind → ShapeStands words start pointer s → ⊥
+fits_or_not : (words : List ℕ) (start : Place) (pointer : ℕ) (kind : ErrorKind) (s : Shape) → SizeError words start.word pointer kind → ShapeIsAt words start pointer s → ⊥
 fits_or_not words start pointer kind s (struct_outside k l) (a_struct j f) = omega arith
 fits_or_not words start pointer kind s (struct_outside k l) (some_numbers j _ _) = omega arith
 fits_or_not words start pointer kind s (struct_outside k l) (some_pointers j _ _) = omega arith
@@ -121,7 +121,7 @@ fits_or_not words start pointer kind s (many_elements {tag = a} k c _ e _ many) 
     let few_too : offset a * (data_words a + pointer_words a) ≤ list_count pointer = subst (λ x. offset x * (data_words x + pointer_words x) ≤ list_count pointer) (sym same) few in
     omega (arith, many, few_too)
 
-pub not_null : (words : List ℕ) (start : Place) (tag : ℕ) (shape : Shape) → ShapeStands words start tag shape → is_null shape.form ≡ false
+pub not_null : (words : List ℕ) (start : Place) (tag : ℕ) (shape : Shape) → ShapeIsAt words start tag shape → is_null shape.form ≡ false
 not_null words start tag shape (a_struct _ _) = refl
 not_null words start tag shape (some_numbers _ _ _) = refl
 not_null words start tag shape (some_pointers _ _ _) = refl
@@ -136,23 +136,23 @@ record Reached (m : List (List ℕ)) (place : Place) : Type 0 where
   lands : Lands m place landing
   content : slice_get m landing.segment ≡ Some words
   begins : IsStart landing.origin landing.tag start
-  stands : ShapeStands words (record { segment = landing.segment; word = start }) landing.tag shape
+  is_at : ShapeIsAt words (record { segment = landing.segment; word = start }) landing.tag shape
 
 reached : (m : List (List ℕ)) (place : Place) (landing : Target) (shape : Shape) → Lands m place landing → PointsTo m place shape → Reached m place
 reached m place landing shape lands (null_there e) = absurd (null_lands_nowhere m place landing e lands)
-reached m place landing shape lands (is_object {landing = c} {words = w} {start = i} {shape = s} lands' e b stands) =
-    record { landing = c; words = w; start = i; shape = s; lands = lands'; content = e; begins = b; stands = stands }
+reached m place landing shape lands (is_object {landing = c} {words = w} {start = i} {shape = s} lands' e b is_at) =
+    record { landing = c; words = w; start = i; shape = s; lands = lands'; content = e; begins = b; is_at = is_at }
 
 -- where a pointer leads somewhere, an object stands for it
 pub deep_enough : (m : List (List ℕ)) (place : Place) (landing : Target) (nesting : ℕ) (shape : Shape) → Lands m place landing → PointsTo m place shape
     → (is_null shape.form ≡ false → 0 < nesting) → 0 < nesting
 deep_enough m place landing nesting shape lands (null_there e) deep = absurd (null_lands_nowhere m place landing e lands)
-deep_enough m place landing nesting shape lands (is_object {landing = c} {words = w} {start = i} {shape = s} _ _ _ stands) deep = deep (not_null w _ c.tag s stands)
+deep_enough m place landing nesting shape lands (is_object {landing = c} {words = w} {start = i} {shape = s} _ _ _ is_at) deep = deep (not_null w _ c.tag s is_at)
 
 null_word : (m : List (List ℕ)) (place : Place) (shape : Shape) → is_null shape.form ≡ true → PointsTo m place shape → word_at m place ≡ Some 0
 null_word m place shape e (null_there f) = f
-null_word m place shape e (is_object {landing = c} {words = w} {start = i} {shape = s} _ _ _ stands) =
-    let some : is_null s.form ≡ false = not_null w (record { segment = c.segment; word = i }) c.tag s stands in cc
+null_word m place shape e (is_object {landing = c} {words = w} {start = i} {shape = s} _ _ _ is_at) =
+    let some : is_null s.form ≡ false = not_null w (record { segment = c.segment; word = i }) c.tag s is_at in cc
 
 pub word_of_null : (m : List (List ℕ)) (place : Place) → PointsTo m place nothing → word_at m place ≡ Some 0
 word_of_null m place object = null_word m place nothing refl object
@@ -187,8 +187,8 @@ invalid_pointer_has_no_object m place nesting kind shape (misfits {landing = c} 
     let content_there : slice_get m c.segment ≡ Some r.words = subst (λ (x : Target). slice_get m x.segment ≡ Some r.words) same r.content in
     let words : r.words ≡ w = cc in
     let start : r.start ≡ i = one_start c.origin c.tag r.start i (subst (λ (x : Target). IsStart x.origin x.tag r.start) same r.begins) begins in
-    let moved : ShapeStands w (record { segment = c.segment; word = i }) c.tag r.shape =
-    subst (λ (x : ℕ). ShapeStands w (record { segment = c.segment; word = x }) c.tag r.shape) start
-    (subst (λ (x : Target). ShapeStands w (record { segment = x.segment; word = r.start }) x.tag r.shape) same
-    (subst (λ x. ShapeStands x (record { segment = r.landing.segment; word = r.start }) r.landing.tag r.shape) words r.stands)) in
+    let moved : ShapeIsAt w (record { segment = c.segment; word = i }) c.tag r.shape =
+    subst (λ (x : ℕ). ShapeIsAt w (record { segment = c.segment; word = x }) c.tag r.shape) start
+    (subst (λ (x : Target). ShapeIsAt w (record { segment = x.segment; word = r.start }) x.tag r.shape) same
+    (subst (λ x. ShapeIsAt x (record { segment = r.landing.segment; word = r.start }) r.landing.tag r.shape) words r.is_at)) in
     fits_or_not w (record { segment = c.segment; word = i }) c.tag kind r.shape misfit moved

@@ -1,36 +1,36 @@
 -- The pointers of an object, one taken after the other.
 use Rattle.std.proofs.Common.{◌≡◌, ◌⊎◌, inl, inr, ℕ, zero, suc, ◌+◌, ◌-◌, ◌<◌, ◌≤◌, List, [], ◌++◌, refl, sym, ◌∙◌, ap, arith}
-use Rattle.capnp_layout.specs.Prelude.{places, row_places, shape_of, row_size, kept_places, kept_in, row_slots}
+use Rattle.capnp_layout.specs.Prelude.{places, pointer_places, shape_of, section_sizes, kept_places, kept_in, section_slots}
 use Rattle.std.proofs.lemmas.List.{append-nil}
 use Rattle.capnp_layout.specs.declared.object.Body.{Body}
 use Rattle.capnp_layout.specs.declared.object.Body.TheVariants.{Struct, Numbers, Pointers, Structs}
 use Rattle.capnp_layout.specs.declared.place.Place.{Place}
 
 -- nothing is left
-pub none_left : (segment word here gap p n : ℕ) → here ≡ 0 → n ≡ 0 → places segment word here ++ row_places segment (word + here) gap p n ≡ []
+pub none_left : (segment word here gap p n : ℕ) → here ≡ 0 → n ≡ 0 → places segment word here ++ pointer_places segment (word + here) gap p n ≡ []
 none_left segment word zero gap p zero e f = refl
 none_left segment word (suc here) gap p n e f = absurd (omega arith)
 none_left segment word zero gap p (suc n) e f = absurd (omega arith)
 
-pub some_left : (segment word here gap p n : ℕ) → (0 < n → 0 < p) → places segment word here ++ row_places segment (word + here) gap p n ≡ [] → here + n ≡ 0
+pub some_left : (segment word here gap p n : ℕ) → (0 < n → 0 < p) → places segment word here ++ pointer_places segment (word + here) gap p n ≡ [] → here + n ≡ 0
 some_left segment word zero gap p zero some e = refl
 some_left segment word (suc here) gap p n some e = absurd (cc)
 some_left segment word zero gap (suc p) (suc n) some e = absurd (cc)
 some_left segment word zero gap zero (suc n) some e = absurd (let no = some (omega arith) in omega arith)
 
--- some of the pointers of each row
-pub rows_kept : (segment word d p q n : ℕ) → q ≤ p → kept_places segment (word + p) d p q n ≡ row_places segment (word + q) (d + (p - q)) q n
-rows_kept segment word d p q zero le = refl
-rows_kept segment word d p q (suc n) le =
+-- some of the pointers of each section
+pub sections_kept : (segment word d p q n : ℕ) → q ≤ p → kept_places segment (word + p) d p q n ≡ pointer_places segment (word + q) (d + (p - q)) q n
+sections_kept segment word d p q zero le = refl
+sections_kept segment word d p q (suc n) le =
     let first : word + p + d ≡ word + q + (d + (p - q)) = omega arith in
-    let rest = rows_kept segment (word + q + (d + (p - q))) d p q n le in
+    let rest = sections_kept segment (word + q + (d + (p - q))) d p q n le in
     rw (first, rest) refl
 
 kept_none : (segment word d p n : ℕ) → kept_places segment word d p 0 n ≡ []
 kept_none segment word d p zero = refl
 kept_none segment word d p (suc n) = kept_none segment (word + d + p) d p n
 
-slots_none : (word d n : ℕ) → row_slots word d 0 n ≡ []
+slots_none : (word d n : ℕ) → section_slots word d 0 n ≡ []
 slots_none word d zero = refl
 slots_none word d (suc n) = slots_none (word + d + 0) d n
 
@@ -38,23 +38,23 @@ pub kept_nothing : {B : Type 0} (segment word d p q n : ℕ) → (q ≡ 0) ⊎ (
 kept_nothing segment word d p q n (inl e) = rw e (kept_none segment word d p n)
 kept_nothing segment word d p q n (inr e) = rw e.1 refl
 
-pub slots_nothing : {B : Type 0} (word d p q n : ℕ) → q ≡ p → (q ≡ 0) ⊎ (B × (n ≡ 0)) → row_slots word d p n ≡ []
+pub slots_nothing : {B : Type 0} (word d p q n : ℕ) → q ≡ p → (q ≡ 0) ⊎ (B × (n ≡ 0)) → section_slots word d p n ≡ []
 slots_nothing word d p q n all (inl e) = rw (← all, e) (slots_none word d n)
 slots_nothing word d p q n all (inr e) = rw e.1 refl
 
 pub kept_first : (segment word d p q n : ℕ) → q ≤ p → 0 < n
-    → places segment (word + d) q ++ row_places segment (word + d + q) (d + (p - q)) q (n - 1) ≡ kept_places segment word d p q n
+    → places segment (word + d) q ++ pointer_places segment (word + d + q) (d + (p - q)) q (n - 1) ≡ kept_places segment word d p q n
 kept_first segment word d p q zero le some = absurd (omega arith)
 kept_first segment word d p q (suc n) le some =
     let less : suc n - 1 ≡ n = omega arith in
-    rw (less, rows_kept segment (word + d) d p q n le) refl
+    rw (less, sections_kept segment (word + d) d p q n le) refl
 
-pub kept_all : (segment start d p n : ℕ) → row_places segment start d p n ≡ kept_places segment start d p p n
+pub kept_all : (segment start d p n : ℕ) → pointer_places segment start d p n ≡ kept_places segment start d p p n
 kept_all segment start d p zero = refl
 kept_all segment start d p (suc n) = ap (λ (l : List Place). places segment (start + d) p ++ l) (kept_all segment (start + d + p) d p n)
 
 -- all pointers of an object
-pub kept_children : (words : List ℕ) (start : Place) (body : Body) → kept_in start body (row_size body).pointers ≡ (shape_of words start body).children
+pub kept_children : (words : List ℕ) (start : Place) (body : Body) → kept_in start body (section_sizes body).pointers ≡ (shape_of words start body).children
 kept_children words start (Struct size) = append-nil (places start.segment (start.word + size.data_words) size.pointers)
 kept_children words start (Numbers size n) = refl
 kept_children words start (Pointers n) =

@@ -1,9 +1,9 @@
--- Pointers in their slots: a run of slots, and the slots of rows.
+-- Pointers in their slots: a run of slots, and the slots of elements.
 use Rattle.std.proofs.lemmas.List.{take-append-drop}
 use Rattle.std.proofs.lemmas.List.Elements.{All-head, All-tail}
 use Rattle.std.proofs.Common.{◌≡◌, ℕ, zero, suc, ◌+◌, ◌*◌, List, [], ◌∷◌, ◌++◌, length, take, drop, Some, slice_get, refl, sym, ap, subst, arith, length-append, length-take, length-drop}
 use Rattle.std.specs.Prelude.{All}
-use Rattle.capnp_layout.specs.Prelude.{words_from, places, row_places, rows_from, run, row_run, woven, placed}
+use Rattle.capnp_layout.specs.Prelude.{words_from, places, pointer_places, elements_from, run, element_runs, woven, placed}
 use Rattle.capnp_layout.specs.declared.place.Place.{Place}
 use Rattle.capnp_layout.proofs.words.SubsliceLemmas.{Holds, holds_left, holds_right, holds_words, holds_first}
 
@@ -35,63 +35,63 @@ placed-run k base at start (suc n) here =
     let rest : placed k base (run (start + 1) n) ≡ places k (at + 1) n = placed-run k base (at + 1) (start + 1) n (omega arith) in
     rw (here, rest) refl
 
-pub placed-row_run : (k base at start d p : ℕ) (rows : List (List ℕ)) → base + start ≡ at → placed k base (row_run start d p rows) ≡ row_places k at d p (length rows)
-placed-row_run k base at start d p [] here = refl
-placed-row_run k base at start d p (row ∷ rows) here =
+pub placed-element_runs : (k base at start d p : ℕ) (elements : List (List ℕ)) → base + start ≡ at → placed k base (element_runs start d p elements) ≡ pointer_places k at d p (length elements)
+placed-element_runs k base at start d p [] here = refl
+placed-element_runs k base at start d p (element ∷ elements) here =
     let first : placed k base (run (start + d) p) ≡ places k (at + d) p = placed-run k base (at + d) (start + d) p (omega arith) in
-    let rest : placed k base (row_run (start + d + p) d p rows) ≡ row_places k (at + d + p) d p (length rows) = placed-row_run k base (at + d + p) (start + d + p) d p rows (omega arith) in
-    rw (placed-append k base (run (start + d) p) (row_run (start + d + p) d p rows), first, rest) refl
+    let rest : placed k base (element_runs (start + d + p) d p elements) ≡ pointer_places k (at + d + p) d p (length elements) = placed-element_runs k base (at + d + p) (start + d + p) d p elements (omega arith) in
+    rw (placed-append k base (run (start + d) p) (element_runs (start + d + p) d p elements), first, rest) refl
 
--- rows of d words
+-- elements of d words
 abbrev pub AllOf : ℕ → List (List ℕ) → Type 0
-AllOf d rows = All (λ row. length row ≡ d) rows
+AllOf d elements = All (λ element. length element ≡ d) elements
 
--- the parts of a row: its data, its links, and the rows after it
-record Row (segment : List ℕ) (at d p : ℕ) (row : List ℕ) (rows : List (List ℕ)) (links : List ℕ) : Type 0 where
-  data_words : Holds segment at row
+-- the parts of an element: its data, its links, and the elements after it
+record ElementParts (segment : List ℕ) (at d p : ℕ) (element : List ℕ) (elements : List (List ℕ)) (links : List ℕ) : Type 0 where
+  data_words : Holds segment at element
   own_links : Holds segment (at + d) (take p links)
   own_long : length (take p links) ≡ p
-  others : Holds segment (at + d + p) (woven p rows (drop p links))
-  others_long : length (drop p links) ≡ length rows * p
+  others : Holds segment (at + d + p) (woven p elements (drop p links))
+  others_long : length (drop p links) ≡ length elements * p
 
-row_parts : (segment : List ℕ) (at d p : ℕ) (row : List ℕ) (rows : List (List ℕ)) (links : List ℕ) → length row ≡ d → length links ≡ suc (length rows) * p
-    → Holds segment at (woven p (row ∷ rows) links) → Row segment at d p row rows links
-row_parts segment at d p row rows links wide long h =
-    let split : suc (length rows) * p ≡ p + length rows * p = omega arith in
+element_parts : (segment : List ℕ) (at d p : ℕ) (element : List ℕ) (elements : List (List ℕ)) (links : List ℕ) → length element ≡ d → length links ≡ suc (length elements) * p
+    → Holds segment at (woven p (element ∷ elements) links) → ElementParts segment at d p element elements links
+element_parts segment at d p element elements links wide long h =
+    let split : suc (length elements) * p ≡ p + length elements * p = omega arith in
     let long_take : length (take p links) ≡ p = omega (arith, length-take p links) in
-    let long_drop : length (drop p links) ≡ length rows * p = omega (arith, length-drop p links) in
-    let both : length (row ++ take p links) ≡ d + p = omega (arith, length-append row (take p links)) in
-    let front : Holds segment at (row ++ take p links) = holds_left segment at (row ++ take p links) (woven p rows (drop p links)) h in
-    let back : Holds segment (at + (d + p)) (woven p rows (drop p links)) = holds_right segment at (d + p) (row ++ take p links) (woven p rows (drop p links)) both h in
+    let long_drop : length (drop p links) ≡ length elements * p = omega (arith, length-drop p links) in
+    let both : length (element ++ take p links) ≡ d + p = omega (arith, length-append element (take p links)) in
+    let front : Holds segment at (element ++ take p links) = holds_left segment at (element ++ take p links) (woven p elements (drop p links)) h in
+    let back : Holds segment (at + (d + p)) (woven p elements (drop p links)) = holds_right segment at (d + p) (element ++ take p links) (woven p elements (drop p links)) both h in
     let next : at + (d + p) ≡ at + d + p = omega arith in
     record {
-      data_words = holds_left segment at row (take p links) front;
-      own_links = holds_right segment at d row (take p links) wide front;
+      data_words = holds_left segment at element (take p links) front;
+      own_links = holds_right segment at d element (take p links) wide front;
       own_long = long_take;
-      others = subst (λ (n : ℕ). Holds segment n (woven p rows (drop p links))) next back;
+      others = subst (λ (n : ℕ). Holds segment n (woven p elements (drop p links))) next back;
       others_long = long_drop;
     }
 
-pub linked_rows : (segment : List ℕ) (base at start d p : ℕ) (rows : List (List ℕ)) (links : List ℕ) → base + start ≡ at → AllOf d rows → length links ≡ length rows * p
-    → Holds segment at (woven p rows links) → Linked segment base (row_run start d p rows) links
-linked_rows segment base at start d p [] [] here even long h = refl
-linked_rows segment base at start d p [] (x ∷ links) here even long h = absurd (omega arith)
-linked_rows segment base at start d p (row ∷ rows) links here even long h =
-    let parts = row_parts segment at d p row rows links (All-head (λ r. length r ≡ d) row rows even) long h in
+pub linked_elements : (segment : List ℕ) (base at start d p : ℕ) (elements : List (List ℕ)) (links : List ℕ) → base + start ≡ at → AllOf d elements → length links ≡ length elements * p
+    → Holds segment at (woven p elements links) → Linked segment base (element_runs start d p elements) links
+linked_elements segment base at start d p [] [] here even long h = refl
+linked_elements segment base at start d p [] (x ∷ links) here even long h = absurd (omega arith)
+linked_elements segment base at start d p (element ∷ elements) links here even long h =
+    let parts = element_parts segment at d p element elements links (All-head (λ r. length r ≡ d) element elements even) long h in
     let first : Linked segment base (run (start + d) (length (take p links))) (take p links) = linked_run segment base (at + d) (start + d) (take p links) (omega arith) parts.own_links in
     let whole : Linked segment base (run (start + d) p) (take p links) = subst (λ (n : ℕ). Linked segment base (run (start + d) n) (take p links)) parts.own_long first in
-    let rest : Linked segment base (row_run (start + d + p) d p rows) (drop p links) =
-    linked_rows segment base (at + d + p) (start + d + p) d p rows (drop p links) (omega arith) (All-tail (λ r. length r ≡ d) row rows even) parts.others_long parts.others in
-    subst (λ (l : List ℕ). Linked segment base (run (start + d) p ++ row_run (start + d + p) d p rows) l) (take-append-drop p links)
-    (linked_append segment base (run (start + d) p) (row_run (start + d + p) d p rows) (take p links) (drop p links) whole rest)
+    let rest : Linked segment base (element_runs (start + d + p) d p elements) (drop p links) =
+    linked_elements segment base (at + d + p) (start + d + p) d p elements (drop p links) (omega arith) (All-tail (λ r. length r ≡ d) element elements even) parts.others_long parts.others in
+    subst (λ (l : List ℕ). Linked segment base (run (start + d) p ++ element_runs (start + d + p) d p elements) l) (take-append-drop p links)
+    (linked_append segment base (run (start + d) p) (element_runs (start + d + p) d p elements) (take p links) (drop p links) whole rest)
 
-pub rows_woven : (segment : List ℕ) (at d p : ℕ) (rows : List (List ℕ)) (links : List ℕ) → AllOf d rows → length links ≡ length rows * p
-    → Holds segment at (woven p rows links) → rows_from segment at d p (length rows) ≡ rows
-rows_woven segment at d p [] links even long h = refl
-rows_woven segment at d p (row ∷ rows) links even long h =
-    let wide : length row ≡ d = All-head (λ r. length r ≡ d) row rows even in
-    let parts = row_parts segment at d p row rows links wide long h in
-    let first : words_from segment at d ≡ row = holds_words segment at d row wide parts.data_words in
-    let rest : rows_from segment (at + d + p) d p (length rows) ≡ rows = rows_woven segment (at + d + p) d p rows (drop p links) (All-tail
-    (λ r. length r ≡ d) row rows even) parts.others_long parts.others in
+pub elements_from_woven : (segment : List ℕ) (at d p : ℕ) (elements : List (List ℕ)) (links : List ℕ) → AllOf d elements → length links ≡ length elements * p
+    → Holds segment at (woven p elements links) → elements_from segment at d p (length elements) ≡ elements
+elements_from_woven segment at d p [] links even long h = refl
+elements_from_woven segment at d p (element ∷ elements) links even long h =
+    let wide : length element ≡ d = All-head (λ r. length r ≡ d) element elements even in
+    let parts = element_parts segment at d p element elements links wide long h in
+    let first : words_from segment at d ≡ element = holds_words segment at d element wide parts.data_words in
+    let rest : elements_from segment (at + d + p) d p (length elements) ≡ elements = elements_from_woven segment (at + d + p) d p elements (drop p links) (All-tail
+    (λ r. length r ≡ d) element elements even) parts.others_long parts.others in
     cc

@@ -1,4 +1,4 @@
--- Some trees of many: without nulls at the end, the first ones, those after, the first of each row.
+-- Some trees of many: without nulls at the end, the first ones, those after, the first of each element.
 use Rattle.std.specs.Prelude.{⊤}
 use Rattle.std.proofs.Common.{◌≡◌, ℕ, zero, suc, ◌+◌, ◌*◌, ◌≤◌, List, [], ◌∷◌, length, refl, sym, ◌∙◌, ap, arith}
 use Rattle.capnp_layout.specs.Prelude.{Form, null, struct, numbers, pointers, structs, Trees, none, tree, count, first, following, before, keep_tree, cut_nulls, least_pointers, narrowed, object_size, total_words}
@@ -14,7 +14,7 @@ each_keep P none null children here all = tt
 each_keep P none (struct words) children here all = (here, tt)
 each_keep P none (numbers c values) children here all = (here, tt)
 each_keep P none pointers children here all = (here, tt)
-each_keep P none (structs d p rows) children here all = (here, tt)
+each_keep P none (structs d p elements) children here all = (here, tt)
 
 pub each_cut : (P : Form → Trees → Type 0) (trees : Trees) → Each P trees → Each P (cut_nulls trees)
 each_cut P none all = tt
@@ -34,10 +34,10 @@ pub each_before : (P : Form → Trees → Type 0) (trees others : Trees) → Eac
 each_before P none others all more = more
 each_before P (tree form children rest) others all more = (all.0, each_before P rest others all.1 more)
 
-pub each_narrowed : (P : Form → Trees → Type 0) (n p : ℕ) (rows : List (List ℕ)) (children : Trees) → Each P children → Each P (narrowed n p rows children)
+pub each_narrowed : (P : Form → Trees → Type 0) (n p : ℕ) (elements : List (List ℕ)) (children : Trees) → Each P children → Each P (narrowed n p elements children)
 each_narrowed P n p [] children all = tt
-each_narrowed P n p (row ∷ rows) children all =
-    each_before P (first n (first p children)) (narrowed n p rows (following p children)) (each_first P n (first p children) (each_first P p children all)) (each_narrowed P n p rows (following p children)
+each_narrowed P n p (element ∷ elements) children all =
+    each_before P (first n (first p children)) (narrowed n p elements (following p children)) (each_first P n (first p children) (each_first P p children all)) (each_narrowed P n p elements (following p children)
     (each_after P p children all))
 
 -- cut trees
@@ -47,7 +47,7 @@ cut-keep none null children = refl
 cut-keep none (struct words) children = refl
 cut-keep none (numbers c values) children = refl
 cut-keep none pointers children = refl
-cut-keep none (structs d p rows) children = refl
+cut-keep none (structs d p elements) children = refl
 
 pub cut-cut : (trees : Trees) → cut_nulls (cut_nulls trees) ≡ cut_nulls trees
 cut-cut none = refl
@@ -66,7 +66,7 @@ kept none null children = record { most = omega arith; least = λ n le. omega ar
 kept none (struct words) children = record { most = omega arith; least = λ n le. omega arith; empty = λ le. absurd (omega arith); no_larger = omega arith }
 kept none (numbers c values) children = record { most = omega arith; least = λ n le. omega arith; empty = λ le. absurd (omega arith); no_larger = omega arith }
 kept none pointers children = record { most = omega arith; least = λ n le. omega arith; empty = λ le. absurd (omega arith); no_larger = omega arith }
-kept none (structs d p rows) children = record { most = omega arith; least = λ n le. omega arith; empty = λ le. absurd (omega arith); no_larger = omega arith }
+kept none (structs d p elements) children = record { most = omega arith; least = λ n le. omega arith; empty = λ le. absurd (omega arith); no_larger = omega arith }
 
 pub count-cut : (trees : Trees) → count (cut_nulls trees) ≤ count trees
 count-cut none = omega arith
@@ -112,24 +112,24 @@ pub total-before : (trees others : Trees) → total_words (before trees others) 
 total-before none others = omega arith
 total-before (tree form children rest) others = omega (arith, total-before rest others)
 
-pub total-narrowed : (n p : ℕ) (rows : List (List ℕ)) (children : Trees) → total_words (narrowed n p rows children) ≤ total_words children
+pub total-narrowed : (n p : ℕ) (elements : List (List ℕ)) (children : Trees) → total_words (narrowed n p elements children) ≤ total_words children
 total-narrowed n p [] children = omega arith
-total-narrowed n p (row ∷ rows) children =
-    omega (arith, total-before (first n (first p children)) (narrowed n p rows (following p children)), total-chunks n (first p children), total-chunks p children, total-narrowed n p rows (following p children))
+total-narrowed n p (element ∷ elements) children =
+    omega (arith, total-before (first n (first p children)) (narrowed n p elements (following p children)), total-chunks n (first p children), total-chunks p children, total-narrowed n p elements (following p children))
 
-pub count-narrowed : (n p : ℕ) (rows : List (List ℕ)) (children : Trees) → n ≤ p → count children ≡ length rows * p → count (narrowed n p rows children) ≡ length rows * n
+pub count-narrowed : (n p : ℕ) (elements : List (List ℕ)) (children : Trees) → n ≤ p → count children ≡ length elements * p → count (narrowed n p elements children) ≡ length elements * n
 count-narrowed n p [] children le long = omega arith
-count-narrowed n p (row ∷ rows) children le long =
-    let split : suc (length rows) * p ≡ p + length rows * p = omega arith in
+count-narrowed n p (element ∷ elements) children le long =
+    let split : suc (length elements) * p ≡ p + length elements * p = omega arith in
     let own : count (first p children) ≡ p = count-first p children (omega arith) in
     let some : count (first n (first p children)) ≡ n = count-first n (first p children) (omega arith) in
-    let rest = count-narrowed n p rows (following p children) le (omega (arith, count-following p children (omega arith))) in
-    omega (arith, count-before (first n (first p children)) (narrowed n p rows (following p children)))
+    let rest = count-narrowed n p elements (following p children) le (omega (arith, count-following p children (omega arith))) in
+    omega (arith, count-before (first n (first p children)) (narrowed n p elements (following p children)))
 
-pub least_pointers_within : (p : ℕ) (rows : List (List ℕ)) (children : Trees) → least_pointers p rows children ≤ p
+pub least_pointers_within : (p : ℕ) (elements : List (List ℕ)) (children : Trees) → least_pointers p elements children ≤ p
 least_pointers_within p [] children = omega arith
-least_pointers_within p (row ∷ rows) children =
-    omega (arith, count-cut (first p children), count-first_most p children, least_pointers_within p rows (following p children))
+least_pointers_within p (element ∷ elements) children =
+    omega (arith, count-cut (first p children), count-first_most p children, least_pointers_within p elements (following p children))
 
 -- the first of some trees before the others
 pub before_chunks : (n : ℕ) (trees : Trees) → before (first n trees) (following n trees) ≡ trees

@@ -20,12 +20,12 @@ pub trim_before : (a b : Trees) → trim (before a b) ≡ before (trim a) (trim 
 trim_before none b = refl
 trim_before (tree form children rest) b = ap (λ (r : Trees). tree (trim_form form (trim children)) (trim_children form (trim children)) r) (trim_before rest b)
 
-pub trim_narrowed : (q p : ℕ) (rows : List (List ℕ)) (t : Trees) → trim (narrowed q p rows t) ≡ narrowed q p rows (trim t)
+pub trim_narrowed : (q p : ℕ) (elements : List (List ℕ)) (t : Trees) → trim (narrowed q p elements t) ≡ narrowed q p elements (trim t)
 trim_narrowed q p [] t = refl
-trim_narrowed q p (row ∷ rows) t =
+trim_narrowed q p (element ∷ elements) t =
     let one : trim (first q (first p t)) ≡ first q (first p (trim t)) = trim_first q (first p t) ∙ ap (first q) (trim_first p t) in
-    let two : trim (narrowed q p rows (following p t)) ≡ narrowed q p rows (following p (trim t)) = trim_narrowed q p rows (following p t) ∙ ap (narrowed q p rows) (trim_after p t) in
-    rw (trim_before (first q (first p t)) (narrowed q p rows (following p t)), one, two) refl
+    let two : trim (narrowed q p elements (following p t)) ≡ narrowed q p elements (following p (trim t)) = trim_narrowed q p elements (following p t) ∙ ap (narrowed q p elements) (trim_after p t) in
+    rw (trim_before (first q (first p t)) (narrowed q p elements (following p t)), one, two) refl
 
 first_keep : (rest whole : Trees) (form : Form) (children : Trees) → first (count rest) whole ≡ rest → first (count (keep_tree rest form children)) (tree form children whole) ≡ keep_tree rest form children
 first_keep (tree f h r) whole form children e =
@@ -35,7 +35,7 @@ first_keep none whole null children e = refl
 first_keep none whole (struct words) children e = ap (λ (t : Trees). tree (struct words) children t) e
 first_keep none whole (numbers c values) children e = ap (λ (t : Trees). tree (numbers c values) children t) e
 first_keep none whole pointers children e = ap (λ (t : Trees). tree pointers children t) e
-first_keep none whole (structs d p rows) children e = ap (λ (t : Trees). tree (structs d p rows) children t) e
+first_keep none whole (structs d p elements) children e = ap (λ (t : Trees). tree (structs d p elements) children t) e
 
 -- what is cut is a front
 pub first_cut : (t : Trees) → first (count (cut_nulls t)) t ≡ cut_nulls t
@@ -53,7 +53,7 @@ count_keep none null children = refl
 count_keep none (struct words) children = refl
 count_keep none (numbers c values) children = refl
 count_keep none pointers children = refl
-count_keep none (structs d p rows) children = refl
+count_keep none (structs d p elements) children = refl
 count_keep (tree f h r) form children =
     let more : count r + 1 ≡ suc (count r) = omega arith in
     let two : count r + 1 + 1 ≡ suc (suc (count r)) = omega arith in
@@ -64,7 +64,7 @@ null_trimmed null children = refl
 null_trimmed (struct words) children = refl
 null_trimmed (numbers c values) children = refl
 null_trimmed pointers children = refl
-null_trimmed (structs d p rows) children = refl
+null_trimmed (structs d p elements) children = refl
 
 pub count_cut_trim : (t : Trees) → count (cut_nulls (trim t)) ≡ count (cut_nulls t)
 count_cut_trim none = refl

@@ -5,20 +5,20 @@ use Rattle.std.proofs.lemmas.Nat.{pow_pos}
 use Rattle.std.proofs.Common.{◌≡◌, ℕ, zero, suc, ◌+◌, ◌*◌, ◌/◌, ◌%◌, ◌^◌, ◌<◌, ◌≤◌, List, [], ◌∷◌, length, drop, Option, Some, None, slice_get, refl, sym, ap, subst, arith, length-take}
 use Rattle.std.proofs.Common.{length-drop, length-append}
 use Rattle.std.specs.Prelude.{All, option_and_then}
-use Rattle.capnp_layout.specs.Prelude.{digits, number_of, words_from, offset, data_words, pointer_words, code, list_count, width, words_for, word_at, Lands, Target, local, far, double_far, landing_pad, landing_pad_tag, Shape, ShapeStands, rows_from, places, row_places, a_struct, some_numbers, some_pointers, some_structs, PointsTo, is_null, is_object, At, nowhere, at, HasRoom, AllWords, AllHaveRoom, Trees}
+use Rattle.capnp_layout.specs.Prelude.{digits, number_of, words_from, offset, data_words, pointer_words, code, list_count, width, words_for, word_at, Lands, Target, local, far, double_far, landing_pad, landing_pad_tag, Shape, ShapeIsAt, elements_from, places, pointer_places, a_struct, some_numbers, some_pointers, some_structs, PointsTo, is_null, is_object, At, nowhere, at, HasRoom, AllWords, AllHaveRoom, Trees}
 use Rattle.capnp_layout.specs.declared.place.Place.{Place}
 use Rattle.capnp_layout.proofs.words.DigitLemmas.{length-digits}
 use Rattle.capnp_layout.proofs.objects.FieldLemmas.{length-places}
-use Rattle.capnp_layout.proofs.trees.StandLemmas.{count_at}
+use Rattle.capnp_layout.proofs.trees.TreeCountLemmas.{count_at}
 
-pub length-row_places : (segment start d p n : ℕ) → length (row_places segment start d p n) ≡ n * p
-length-row_places segment start d p zero = omega arith
-length-row_places segment start d p (suc n) =
-    omega (arith, length-append (places segment (start + d) p) (row_places segment (start + d + p) d p n), length-places segment (start + d) p, length-row_places segment (start + d + p) d p n)
+pub length-pointer_places : (segment start d p n : ℕ) → length (pointer_places segment start d p n) ≡ n * p
+length-pointer_places segment start d p zero = omega arith
+length-pointer_places segment start d p (suc n) =
+    omega (arith, length-append (places segment (start + d) p) (pointer_places segment (start + d + p) d p n), length-places segment (start + d) p, length-pointer_places segment (start + d + p) d p n)
 
-pub length-rows_from : (words : List ℕ) (start d p n : ℕ) → length (rows_from words start d p n) ≡ n
-length-rows_from words start d p zero = refl
-length-rows_from words start d p (suc n) = ap (λ (k : ℕ). suc k) (length-rows_from words (start + d + p) d p n)
+pub length-elements_from : (words : List ℕ) (start d p n : ℕ) → length (elements_from words start d p n) ≡ n
+length-elements_from words start d p zero = refl
+length-elements_from words start d p (suc n) = ap (λ (k : ℕ). suc k) (length-elements_from words (start + d + p) d p n)
 
 all_get : {X : Type 0} (P : X → Type 0) (xs : List X) (i : ℕ) (x : X) → All P xs → slice_get xs i ≡ Some x → P x
 all_get P xs i x all there = subst P (get_or_from_slice_get xs i x x there) (all i x (slice_get_within xs i x there))
@@ -39,17 +39,17 @@ digits_below base (suc n) x positive = All-cons (λ d. d < base) (x % base) (dig
 pub words_below : (words : List ℕ) (start n : ℕ) → All (λ w. w < 2 ^ 64) words → All (λ w. w < 2 ^ 64) (words_from words start n)
 words_below words start n all = All-take (λ w. w < 2 ^ 64) n (drop start words) (All-drop (λ w. w < 2 ^ 64) start words all)
 
-pub rows_below : (words : List ℕ) (start d p n : ℕ) → start + n * (d + p) ≤ length words → All (λ w. w < 2 ^ 64) words
-    → All (λ row. (length row ≡ d) × All (λ w. w < 2 ^ 64) row) (rows_from words start d p n)
-rows_below words start d p zero room all = All-nil (λ row. (length row ≡ d) × All (λ w. w < 2 ^ 64) row)
-rows_below words start d p (suc n) room all =
+pub elements_below : (words : List ℕ) (start d p n : ℕ) → start + n * (d + p) ≤ length words → All (λ w. w < 2 ^ 64) words
+    → All (λ element. (length element ≡ d) × All (λ w. w < 2 ^ 64) element) (elements_from words start d p n)
+elements_below words start d p zero room all = All-nil (λ element. (length element ≡ d) × All (λ w. w < 2 ^ 64) element)
+elements_below words start d p (suc n) room all =
     let split : suc n * (d + p) ≡ (d + p) + n * (d + p) = omega arith in
     let wide : length (words_from words start d) ≡ d = omega (arith, length-take d (drop start words), length-drop start words) in
-    All-cons (λ row. (length row ≡ d) × All (λ w. w < 2 ^ 64) row) (words_from words start d) (rows_from words (start + d + p) d p n) (wide, words_below words start d all)
-    (rows_below words (start + d + p) d p n (omega arith) all)
+    All-cons (λ element. (length element ≡ d) × All (λ w. w < 2 ^ 64) element) (words_from words start d) (elements_from words (start + d + p) d p n) (wide, words_below words start d all)
+    (elements_below words (start + d + p) d p n (omega arith) all)
 
-pub stands_room : (words : List ℕ) (start : Place) (tag : ℕ) (shape : Shape) → tag < 2 ^ 64 → All (λ w. w < 2 ^ 64) words → ShapeStands words start tag shape → HasRoom shape.form (length shape.children)
-stands_room words start tag shape small all (a_struct k room) =
+pub room_of_shape : (words : List ℕ) (start : Place) (tag : ℕ) (shape : Shape) → tag < 2 ^ 64 → All (λ w. w < 2 ^ 64) words → ShapeIsAt words start tag shape → HasRoom shape.form (length shape.children)
+room_of_shape words start tag shape small all (a_struct k room) =
     let d : ℕ = data_words tag in (
       omega (arith, length-take (data_words tag) (drop start.word words)),
       omega (
@@ -59,26 +59,26 @@ stands_room words start tag shape small all (a_struct k room) =
       ),
       words_below words start.word (data_words tag) all,
     )
-stands_room words start tag shape small all (some_numbers k c room) = (
+room_of_shape words start tag shape small all (some_numbers k c room) = (
   c,
   omega (arith, length-digits (2 ^ width (code tag)) (list_count tag) (number_of (2 ^ 64) (words_from words start.word (words_for (list_count tag) (width (code tag)))))),
   refl,
   digits_below (2 ^ width (code tag)) (list_count tag) (number_of (2 ^ 64) (words_from words start.word (words_for (list_count tag) (width (code tag))))) (pow_pos (width (code tag))),
 )
-stands_room words start tag shape small all (some_pointers k c room) = omega (arith, length-places start.segment start.word (list_count tag))
-stands_room words start tag shape small all (some_structs {tag = inner} k c room there l fits) =
+room_of_shape words start tag shape small all (some_pointers k c room) = omega (arith, length-places start.segment start.word (list_count tag))
+room_of_shape words start tag shape small all (some_structs {tag = inner} k c room there l fits) =
     let below : inner < 2 ^ 64 = all_get (λ w. w < 2 ^ 64) words start.word inner all there in
-    let many : length (rows_from words (start.word + 1) (data_words inner) (pointer_words inner) (offset inner)) ≡ offset inner = length-rows_from words (start.word + 1) (data_words inner)
+    let many : length (elements_from words (start.word + 1) (data_words inner) (pointer_words inner) (offset inner)) ≡ offset inner = length-elements_from words (start.word + 1) (data_words inner)
     (pointer_words inner) (offset inner) in
-    let places_many : length (row_places start.segment (start.word + 1) (data_words inner) (pointer_words inner) (offset inner)) ≡ offset inner * pointer_words inner =
-    length-row_places start.segment (start.word + 1) (data_words inner) (pointer_words inner) (offset inner) in
+    let places_many : length (pointer_places start.segment (start.word + 1) (data_words inner) (pointer_words inner) (offset inner)) ≡ offset inner * pointer_words inner =
+    length-pointer_places start.segment (start.word + 1) (data_words inner) (pointer_words inner) (offset inner) in
     let few : list_count tag < 2 ^ 29 = omega arith in (
       omega arith,
       omega arith,
       rw many (omega arith),
       rw many (omega arith),
       rw many places_many,
-      rows_below words (start.word + 1) (data_words inner) (pointer_words inner) (offset inner) (omega arith) all,
+      elements_below words (start.word + 1) (data_words inner) (pointer_words inner) (offset inner) (omega arith) all,
     )
 
 tag_below : (m : List (List ℕ)) (place : Place) (landing : Target) → AllWords m → Lands m place landing → landing.tag < 2 ^ 64
@@ -88,8 +88,8 @@ tag_below m place landing all (double_far {word = w} {tag = tag} e f p g q there
 
 pub object_room : (m : List (List ℕ)) (place : Place) (shape : Shape) → AllWords m → PointsTo m place shape → HasRoom shape.form (length shape.children)
 object_room m place shape all (is_null e) = refl
-object_room m place shape all (is_object {landing = l} {words = words} {start = start} {shape = s} lands e begins stands) =
-    stands_room words (record { segment = l.segment; word = start }) l.tag s (tag_below m place l all lands) (all_get (λ (words : List ℕ). All (λ w. w < 2 ^ 64) words) m l.segment words all e) stands
+object_room m place shape all (is_object {landing = l} {words = words} {start = start} {shape = s} lands e begins is_at) =
+    room_of_shape words (record { segment = l.segment; word = start }) l.tag s (tag_below m place l all lands) (all_get (λ (words : List ℕ). All (λ w. w < 2 ^ 64) words) m l.segment words all e) is_at
 
 pub read_has_room : (m : List (List ℕ)) (places : List Place) (trees : Trees) (traversed : ℕ) → AllWords m → At m places trees traversed → AllHaveRoom trees
 read_has_room m places trees traversed all nowhere = tt

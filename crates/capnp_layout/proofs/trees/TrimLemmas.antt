@@ -6,8 +6,8 @@ use Rattle.std.proofs.Common.{◌≡◌, ℕ, ◌+◌, ◌*◌, ◌^◌, ◌<◌
 use Rattle.std.specs.Prelude.{All, slice_index_or}
 use Rattle.capnp_layout.specs.Prelude.{Form, null, struct, numbers, pointers, structs, Trees, none, tree, count, cut_nulls, least_data, least_pointers, narrowed, trim_form, trim_children, trim, object_size, total_words, HasRoom, AllHaveRoom, Trimmed}
 use Rattle.capnp_layout.proofs.pointers.SlotLemmas.{AllOf}
-use Rattle.capnp_layout.proofs.layouts.SizeLemmas.{rows_even}
-use Rattle.capnp_layout.proofs.words.CutLemmas.{length-cut, all_cut, least_data_within, least_data-take, take-rows}
+use Rattle.capnp_layout.proofs.layouts.SizeLemmas.{elements_even}
+use Rattle.capnp_layout.proofs.words.CutLemmas.{length-cut, all_cut, least_data_within, least_data-take, take-elements}
 use Rattle.capnp_layout.proofs.words.CutLemmas as words
 use Rattle.capnp_layout.proofs.trees.ChunkLemmas.{Each, each_cut, each_narrowed, count-cut, total-cut, count-narrowed, total-narrowed, least_pointers_within}
 use Rattle.capnp_layout.proofs.trees.ChunkLemmas as trees
@@ -55,32 +55,32 @@ twice null children room = (refl, refl)
 twice (struct ws) children room = (ap struct (words.cut-cut ws), trees.cut-cut children)
 twice (numbers c values) children room = (refl, refl)
 twice pointers children room = (refl, refl)
-twice (structs d p rows) children room =
-    let n : ℕ = least_data rows in
-    let q : ℕ = least_pointers p rows children in
-    let fewer : least_pointers p rows children ≤ p = least_pointers_within p rows children in
-    let datas : least_data (map (take (least_data rows)) rows) ≡ least_data rows = least_data-take (least_data rows) rows (omega arith) in
-    let links : least_pointers (least_pointers p rows children) (map (take (least_data rows)) rows) (narrowed (least_pointers p rows children) p rows children) ≡ least_pointers p rows children =
-    least-narrowed (take (least_data rows)) (least_pointers p rows children) p rows children fewer room.4 (omega arith) in
-    let rows_same : map (take (least_data rows)) (map (take (least_data rows)) rows) ≡ map (take (least_data rows)) rows = take-rows (least_data rows) rows in
-    let children_same : narrowed (least_pointers p rows children) (least_pointers p rows children) (map (take (least_data rows)) rows) (narrowed (least_pointers p rows children) p rows children) ≡ narrowed
-    (least_pointers p rows children) p rows children =
-    narrowed-narrowed (take (least_data rows)) (least_pointers p rows children) p rows children fewer room.4 in
-    (rw (datas, links, rows_same) refl, rw (links, children_same) refl)
+twice (structs d p elements) children room =
+    let n : ℕ = least_data elements in
+    let q : ℕ = least_pointers p elements children in
+    let fewer : least_pointers p elements children ≤ p = least_pointers_within p elements children in
+    let datas : least_data (map (take (least_data elements)) elements) ≡ least_data elements = least_data-take (least_data elements) elements (omega arith) in
+    let links : least_pointers (least_pointers p elements children) (map (take (least_data elements)) elements) (narrowed (least_pointers p elements children) p elements children) ≡ least_pointers p elements children =
+    least-narrowed (take (least_data elements)) (least_pointers p elements children) p elements children fewer room.4 (omega arith) in
+    let elements_same : map (take (least_data elements)) (map (take (least_data elements)) elements) ≡ map (take (least_data elements)) elements = take-elements (least_data elements) elements in
+    let children_same : narrowed (least_pointers p elements children) (least_pointers p elements children) (map (take (least_data elements)) elements) (narrowed (least_pointers p elements children) p elements children) ≡ narrowed
+    (least_pointers p elements children) p elements children =
+    narrowed-narrowed (take (least_data elements)) (least_pointers p elements children) p elements children fewer room.4 in
+    (rw (datas, links, elements_same) refl, rw (links, children_same) refl)
 
 children_trimmed : (form : Form) (children : Trees) → Trimmed children → Trimmed (trim_children form children)
 children_trimmed null children t = t
 children_trimmed (struct ws) children t = trimmed_each (cut_nulls children) (each_cut TrimmedOne children (each_trimmed children t))
 children_trimmed (numbers c values) children t = t
 children_trimmed pointers children t = t
-children_trimmed (structs d p rows) children t = trimmed_each (narrowed (least_pointers p rows children) p rows children) (each_narrowed TrimmedOne (least_pointers p rows children) p rows children (each_trimmed children t))
+children_trimmed (structs d p elements) children t = trimmed_each (narrowed (least_pointers p elements children) p elements children) (each_narrowed TrimmedOne (least_pointers p elements children) p elements children (each_trimmed children t))
 
 children_room : (form : Form) (children : Trees) → AllHaveRoom children → AllHaveRoom (trim_children form children)
 children_room null children r = r
 children_room (struct ws) children r = room_each (cut_nulls children) (each_cut RoomOne children (each_room children r))
 children_room (numbers c values) children r = r
 children_room pointers children r = r
-children_room (structs d p rows) children r = room_each (narrowed (least_pointers p rows children) p rows children) (each_narrowed RoomOne (least_pointers p rows children) p rows children (each_room children r))
+children_room (structs d p elements) children r = room_each (narrowed (least_pointers p elements children) p elements children) (each_narrowed RoomOne (least_pointers p elements children) p elements children (each_room children r))
 
 pub trimmed_trim : (trees : Trees) → AllHaveRoom trees → Trimmed (trim trees)
 trimmed_trim none room = tt
@@ -98,21 +98,21 @@ form_room null children room = room
 form_room (struct ws) children room = (omega (arith, length-cut ws), omega (arith, count-cut children), all_cut (λ w. w < 2 ^ 64) ws room.2)
 form_room (numbers c values) children room = room
 form_room pointers children room = room
-form_room (structs d p rows) children room =
-    let even : AllOf d rows = rows_even d rows room.5 in
-    let narrow : least_data rows ≤ d = least_data_within d rows even in
-    let fewer : least_pointers p rows children ≤ p = least_pointers_within p rows children in
-    let same : length (map (take (least_data rows)) rows) ≡ length rows = length-map rows (take (least_data rows)) in
-    let small = area (length rows) (least_data rows) (least_pointers p rows children) d p narrow fewer in
-    let counts = count-narrowed (least_pointers p rows children) p rows children fewer room.4 in (
+form_room (structs d p elements) children room =
+    let even : AllOf d elements = elements_even d elements room.5 in
+    let narrow : least_data elements ≤ d = least_data_within d elements even in
+    let fewer : least_pointers p elements children ≤ p = least_pointers_within p elements children in
+    let same : length (map (take (least_data elements)) elements) ≡ length elements = length-map elements (take (least_data elements)) in
+    let small = area (length elements) (least_data elements) (least_pointers p elements children) d p narrow fewer in
+    let counts = count-narrowed (least_pointers p elements children) p elements children fewer room.4 in (
       omega arith,
       omega arith,
       omega arith,
       rw same (omega arith),
       rw same counts,
-      All-map (λ row. (length row ≡ least_data rows) × All (λ w. w < 2 ^ 64) row) (take (least_data rows)) rows
-          (λ k e within. let one : length (slice_index_or rows k e) ≡ d = (room.5 k e within).0 in
-          (omega (arith, length-take (least_data rows) (slice_index_or rows k e)), All-take (λ w. w < 2 ^ 64) (least_data rows) (slice_index_or rows k e) (room.5 k e within).1)),
+      All-map (λ element. (length element ≡ least_data elements) × All (λ w. w < 2 ^ 64) element) (take (least_data elements)) elements
+          (λ k e within. let one : length (slice_index_or elements k e) ≡ d = (room.5 k e within).0 in
+          (omega (arith, length-take (least_data elements) (slice_index_or elements k e)), All-take (λ w. w < 2 ^ 64) (least_data elements) (slice_index_or elements k e) (room.5 k e within).1)),
     )
 
 pub room_trim : (trees : Trees) → AllHaveRoom trees → AllHaveRoom (trim trees)
@@ -127,10 +127,10 @@ form_size null children room = omega arith
 form_size (struct ws) children room = omega (arith, length-cut ws, count-cut children)
 form_size (numbers c values) children room = omega arith
 form_size pointers children room = omega arith
-form_size (structs d p rows) children room =
-    let even : AllOf d rows = rows_even d rows room.5 in
-    let same : length (map (take (least_data rows)) rows) ≡ length rows = length-map rows (take (least_data rows)) in
-    let small = area (length rows) (least_data rows) (least_pointers p rows children) d p (least_data_within d rows even) (least_pointers_within p rows children) in
+form_size (structs d p elements) children room =
+    let even : AllOf d elements = elements_even d elements room.5 in
+    let same : length (map (take (least_data elements)) elements) ≡ length elements = length-map elements (take (least_data elements)) in
+    let small = area (length elements) (least_data elements) (least_pointers p elements children) d p (least_data_within d elements even) (least_pointers_within p elements children) in
     rw same (omega arith)
 
 children_total : (form : Form) (children : Trees) → total_words (trim_children form children) ≤ total_words children
@@ -138,7 +138,7 @@ children_total null children = omega arith
 children_total (struct ws) children = total-cut children
 children_total (numbers c values) children = omega arith
 children_total pointers children = omega arith
-children_total (structs d p rows) children = total-narrowed (least_pointers p rows children) p rows children
+children_total (structs d p elements) children = total-narrowed (least_pointers p elements children) p elements children
 
 pub total-trim : (trees : Trees) → AllHaveRoom trees → total_words (trim trees) ≤ total_words trees
 total-trim none room = omega arith

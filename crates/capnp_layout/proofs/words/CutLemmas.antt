@@ -1,4 +1,4 @@
--- Words without zeros at the end, and rows cut to the words that they need.
+-- Words without zeros at the end, and elements cut to the words that they need.
 use Rattle.std.proofs.lemmas.List.Elements.{All-nil, All-cons, All-head, All-tail}
 use Rattle.std.proofs.lemmas.List.{take-take}
 use Rattle.std.proofs.Common.{◌≡◌, ℕ, zero, suc, ◌≤◌, List, [], ◌∷◌, length, map, take, refl, sym, ◌∙◌, ap, arith}
@@ -49,23 +49,23 @@ pub all_cut : (P : ℕ → Type 0) (words : List ℕ) → All P words → All P 
 all_cut P [] all = all
 all_cut P (word ∷ words) all = all_keep_word P (cut_zeros words) word (All-head P word words all) (all_cut P words (All-tail P word words all))
 
-pub least_data_within : (d : ℕ) (rows : List (List ℕ)) → AllOf d rows → least_data rows ≤ d
+pub least_data_within : (d : ℕ) (elements : List (List ℕ)) → AllOf d elements → least_data elements ≤ d
 least_data_within d [] even = omega arith
-least_data_within d (row ∷ rows) even =
-    let wide : length row ≡ d = All-head (λ r. length r ≡ d) row rows even in
-    let rest = least_data_within d rows (All-tail (λ r. length r ≡ d) row rows even) in
-    omega (arith, length-cut row)
+least_data_within d (element ∷ elements) even =
+    let wide : length element ≡ d = All-head (λ r. length r ≡ d) element elements even in
+    let rest = least_data_within d elements (All-tail (λ r. length r ≡ d) element elements even) in
+    omega (arith, length-cut element)
 
-pub least_data-take : (n : ℕ) (rows : List (List ℕ)) → least_data rows ≤ n → least_data (map (take n) rows) ≡ least_data rows
+pub least_data-take : (n : ℕ) (elements : List (List ℕ)) → least_data elements ≤ n → least_data (map (take n) elements) ≡ least_data elements
 least_data-take n [] le = refl
-least_data-take n (row ∷ rows) le =
-    let first : cut_zeros (take n row) ≡ cut_zeros row = cut-take n row (omega arith) in
-    let rest : least_data (map (take n) rows) ≡ least_data rows = least_data-take n rows (omega arith) in
+least_data-take n (element ∷ elements) le =
+    let first : cut_zeros (take n element) ≡ cut_zeros element = cut-take n element (omega arith) in
+    let rest : least_data (map (take n) elements) ≡ least_data elements = least_data-take n elements (omega arith) in
     cc
 
-pub take-rows : (n : ℕ) (rows : List (List ℕ)) → map (take n) (map (take n) rows) ≡ map (take n) rows
-take-rows n [] = refl
-take-rows n (row ∷ rows) =
-    let first : take n (take n row) ≡ take n row = take-take n n row (omega arith) in
-    let rest : map (take n) (map (take n) rows) ≡ map (take n) rows = take-rows n rows in
+pub take-elements : (n : ℕ) (elements : List (List ℕ)) → map (take n) (map (take n) elements) ≡ map (take n) elements
+take-elements n [] = refl
+take-elements n (element ∷ elements) =
+    let first : take n (take n element) ≡ take n element = take-take n n element (omega arith) in
+    let rest : map (take n) (map (take n) elements) ≡ map (take n) elements = take-elements n elements in
     cc

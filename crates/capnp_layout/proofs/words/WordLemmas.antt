@@ -78,7 +78,7 @@ length-chunks (suc k) bytes = ap (λ (n : ℕ). suc n) (length-chunks k (drop 8 
 pub length-words_of : (bytes : List ℕ) → length (words_of bytes) ≡ length bytes / 8
 length-words_of bytes = length-chunks (length bytes / 8) bytes
 
--- equal rows begin with the same word, and go on with the same words
+-- equal lists of words begin with the same word, and go on with the same words
 pub heads : {a b : ℕ} {xs ys : List ℕ} → a ∷ xs ≡ b ∷ ys → a ≡ b
 heads e = cc
 

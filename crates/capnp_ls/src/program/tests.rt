@@ -61,7 +61,7 @@ const HELLOS: &[u8] =
 /// A command, what it reads and what it prints of that, the write that fails, the message there,
 /// and how many bytes the device has then.
 #[derive(Drop)]
-struct Row {
+struct Case {
     command: &'static str,
     input: &'static [u8],
     printed: &'static [u8],
@@ -70,7 +70,7 @@ struct Row {
     taken: usize,
 }
 
-const LIST: Row = Row {
+const LIST: Case = Case {
     command: "list",
     input: STREAM,
     printed: LINES,
@@ -79,7 +79,7 @@ const LIST: Row = Row {
     taken: 0,
 };
 
-const CANON: Row = Row {
+const CANON: Case = Case {
     command: "canon",
     input: HELLOS,
     printed: HELLOS,
@@ -87,41 +87,41 @@ const CANON: Row = Row {
 };
 
 #[rattlefmt::skip]
-const WRITES: [Row; 7] = [
+const WRITES: [Case; 7] = [
     LIST,
-    Row { bad_write: 2, message: 1, taken: 10, ..LIST },
-    Row { bad_write: 3, message: 2, taken: 18, ..LIST },
+    Case { bad_write: 2, message: 1, taken: 10, ..LIST },
+    Case { bad_write: 3, message: 2, taken: 18, ..LIST },
     // the table and the segment of each message
     CANON,
-    Row { bad_write: 2, message: 0, taken: 8, ..CANON },
-    Row { bad_write: 3, message: 1, taken: 32, ..CANON },
-    Row { bad_write: 4, message: 1, taken: 40, ..CANON },
+    Case { bad_write: 2, message: 0, taken: 8, ..CANON },
+    Case { bad_write: 3, message: 1, taken: 32, ..CANON },
+    Case { bad_write: 4, message: 1, taken: 40, ..CANON },
 ];
 
 #[test]
 fn a_failed_write_fails_at_its_message(rt: HostRuntime) -> Result<()> {
-    for row in &WRITES {
-        let (command, bad_write) = (row.command, row.bad_write);
+    for case in &WRITES {
+        let (command, bad_write) = (case.command, case.bad_write);
         assert!(rt;
-            fails_there(rt.alloc(), row)?,
+            fails_there(rt.alloc(), case)?,
             "{command}, write {bad_write}"
         );
     }
     Ok(())
 }
 
-// Whether the run stops at the row's message by 13, with so much of the output taken.
-fn fails_there(alloc: Global, row: &Row) -> Result<bool> {
+// Whether the run stops at the case's message by 13, with so much of the output taken.
+fn fails_there(alloc: Global, case: &Case) -> Result<bool> {
     let mut device = FailingWriter {
         got: Vec::new(alloc),
-        bad_write: row.bad_write,
+        bad_write: case.bad_write,
         writes: 0,
     };
     let mut sink = Output::new(alloc, 0, &mut device)?;
-    let stop = stop_of(alloc, row.command, row.input, &mut sink)?;
+    let stop = stop_of(alloc, case.command, case.input, &mut sink)?;
     drop(sink);
-    let is_taken = Some(device.got.as_slice()) == row.printed.get(..row.taken);
-    Ok(is_taken && stop == Some((row.message, 13)))
+    let is_taken = Some(device.got.as_slice()) == case.printed.get(..case.taken);
+    Ok(is_taken && stop == Some((case.message, 13)))
 }
 
 // A slice of 40 bytes takes one form of 32, and the table of another.

@@ -15,12 +15,12 @@ const FIELDS: &[u8] = b"\0\0\0\0\x02\0\x02\0\x01\x82\x03\x04\x05\x06\x07\x08\
 fn expect_fields<T: PrimitiveElement + PartialEq + Debug + Copy>(
     rt: &impl Abort,
     width: &str,
-    rows: &[(u32, T)],
+    cases: &[(u32, T)],
 ) -> Result<()> {
     let segments = [FIELDS];
     let arena = plain_arena(&segments);
     let fields = root_as_struct(&arena)?;
-    for (offset, wanted) in rows {
+    for (offset, wanted) in cases {
         expect(
             rt,
             (width, *offset),
@@ -35,12 +35,12 @@ fn expect_fields<T: PrimitiveElement + PartialEq + Debug + Copy>(
 fn expect_masked_fields<T: PrimitiveElement + PartialEq + Debug + Copy>(
     rt: &impl Abort,
     width: &str,
-    rows: &[(u32, T, T)],
+    cases: &[(u32, T, T)],
 ) -> Result<()> {
     let segments = [FIELDS];
     let arena = plain_arena(&segments);
     let fields = root_as_struct(&arena)?;
-    for (offset, default, wanted) in rows {
+    for (offset, default, wanted) in cases {
         let found = fields.get_data_field_mask::<T>(*offset, *default);
         expect(rt, (width, *offset), found, *wanted);
     }

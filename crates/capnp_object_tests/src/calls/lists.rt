@@ -143,13 +143,13 @@ fn data_below_the_nesting_limit(rt: HostRuntime) -> Result<()> {
     Ok(())
 }
 
-// The first data words of the elements, in a row of three digits each.
+// The first data words of the elements, as three digits each.
 fn first_words<'a>(elements: ListIter<'_, Structs<'a>>) -> u64 {
-    let mut row: u64 = 0;
+    let mut digits: u64 = 0;
     for element in elements {
-        row = row.wrapping_mul(1000).wrapping_add(element.get_word(0));
+        digits = digits.wrapping_mul(1000).wrapping_add(element.get_word(0));
     }
-    row
+    digits
 }
 
 #[test]

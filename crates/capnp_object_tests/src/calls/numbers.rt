@@ -21,13 +21,13 @@ fn expect_elements<T: PrimitiveElement + PartialEq + Debug + Copy>(
     rt: &impl Abort,
     segment: &[u8],
     count: u32,
-    rows: &[(u32, T)],
+    cases: &[(u32, T)],
 ) -> Result<()> {
     let segments = [segment];
     let arena = plain_arena(&segments);
     let list: primitive_list::Reader<'_, T> = arena.get_root()?.get_as()?;
     expect(rt, segment, list.len(), count);
-    for (index, wanted) in rows {
+    for (index, wanted) in cases {
         assert!(rt; *index < list.len());
         expect(rt, (segment, *index), list.get(*index), *wanted);
     }

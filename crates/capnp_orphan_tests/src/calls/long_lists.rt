@@ -18,7 +18,7 @@ use std::str::from_utf8;
 fn expect_numbers<N: PrimitiveElement + Numbered + Copy>(
     rt: &(impl Abort + AllocGlobal),
     objects: &mut Orphanage,
-    row: &str,
+    case: &str,
     segment: &[u8],
 ) -> Result<()> {
     let mut all: Vec<N> = Vec::new(rt.alloc());
@@ -28,7 +28,7 @@ fn expect_numbers<N: PrimitiveElement + Numbered + Copy>(
     objects.clear();
     let list = objects.numbers::<N>(&all)?;
     objects.set_root(list);
-    expect(rt, row, objects.bytes() == segment, true);
+    expect(rt, case, objects.bytes() == segment, true);
     Ok(())
 }
 

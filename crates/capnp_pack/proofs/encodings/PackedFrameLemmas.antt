@@ -4,7 +4,7 @@ use Rattle.std.proofs.lemmas.List.{take-append-drop, length-take-le, length-drop
 use Rattle.std.proofs.lemmas.List.Concat.{flat_map-append}
 use Rattle.std.proofs.lemmas.List.Folds.{concat-append}
 use Rattle.std.specs.List.{concat, flat_map, AllByRecursion}
-use Rattle.capnp_frame.specs.Prelude.{IsWholeWords, lengths, field, padding_len, zero_padded_table, HasTable, IsTable, MessageStands, AppendsAll}
+use Rattle.capnp_frame.specs.Prelude.{IsWholeWords, lengths, field, padding_len, zero_padded_table, HasTable, IsTable, MessageFound, AppendsAll}
 use Rattle.capnp_frame.specs.declared.serialize.segment_table.Padding.{Padding}
 use Rattle.capnp_frame.specs.declared.serialize.segment_table.Padding.TheVariants.{Zero}
 use Rattle.capnp_frame.proofs.tables.TableLemmas.{length-fields, zero_table}
@@ -15,18 +15,18 @@ use Rattle.capnp_pack.proofs.packing.PackerLemmas.{Packs-some, Packs-whole}
 
 -- the three requests of a packed source are the three chunks
 
-frame_from_requests : {rule : Padding} (raw rest : List ℕ) (segments : List (List ℕ)) → MessageStands rule Unpacks segments raw rest → (text : List ℕ) × IsPackedFrame rule text segments × (raw ≡ text ++ rest)
-frame_from_requests raw rest segments stands =
-    let first = stands.table.first_given in
-    let others = stands.table.others_given in
-    let all = stands.given in (
+frame_from_requests : {rule : Padding} (raw rest : List ℕ) (segments : List (List ℕ)) → MessageFound rule Unpacks segments raw rest → (text : List ℕ) × IsPackedFrame rule text segments × (raw ≡ text ++ rest)
+frame_from_requests raw rest segments is_found =
+    let first = is_found.table.first_given in
+    let others = is_found.table.others_given in
+    let all = is_found.given in (
       first.0 ++ others.0 ++ all.0,
       record {
-        first = stands.table.first;
-        others = stands.table.others;
+        first = is_found.table.first;
+        others = is_found.table.others;
         one_word = first.3;
-        table = stands.table.table;
-        whole = stands.whole;
+        table = is_found.table.table;
+        whole = is_found.whole;
         first_text = first.0;
         others_text = others.0;
         segments_encoding = all.0;
@@ -39,8 +39,8 @@ frame_from_requests raw rest segments stands =
           ∙ sym (append_assoc first.0 others.0 (all.0 ++ rest)) ∙ sym (append_assoc (first.0 ++ others.0) all.0 rest),
     )
 
-pub MessageStands-from_packed : {rule : Padding} (text rest : List ℕ) (segments : List (List ℕ)) → IsPackedFrame rule text segments → MessageStands rule Unpacks segments (text ++ rest) rest
-MessageStands-from_packed text rest segments frame =
+pub MessageFound-from_packed : {rule : Padding} (text rest : List ℕ) (segments : List (List ℕ)) → IsPackedFrame rule text segments → MessageFound rule Unpacks segments (text ++ rest) rest
+MessageFound-from_packed text rest segments frame =
     let long = length-table (frame.first ++ frame.others) (lengths segments) frame.table in
     let one = frame.one_word in
     let a = frame.first_text in
@@ -60,10 +60,10 @@ MessageStands-from_packed text rest segments frame =
       whole = frame.whole;
     }
 
-pub packed_requests : (rule : Padding) (segments : List (List ℕ)) (raw rest : List ℕ) → MessageStands rule Unpacks segments raw rest ↔ ((text : List ℕ) × IsPackedFrame rule text segments × (raw ≡ text ++ rest))
+pub packed_requests : (rule : Padding) (segments : List (List ℕ)) (raw rest : List ℕ) → MessageFound rule Unpacks segments raw rest ↔ ((text : List ℕ) × IsPackedFrame rule text segments × (raw ≡ text ++ rest))
 packed_requests rule segments raw rest = (
   frame_from_requests raw rest segments,
-  λ (text, frame, e). subst (λ l. MessageStands rule Unpacks segments l rest) (sym e) (MessageStands-from_packed text rest segments frame),
+  λ (text, frame, e). subst (λ l. MessageFound rule Unpacks segments l rest) (sym e) (MessageFound-from_packed text rest segments frame),
 )
 
 -- what is written is a packed encoding of the message

@@ -6,8 +6,8 @@ use Rattle.capnp_frame.specs.declared.error.Error.{Error}
 use Rattle.capnp_frame.specs.declared.error.ErrorKind.TheVariants.{DeviceFailed, OutOfMemory}
 use Rattle.capnp_frame.specs.declared.serialize.segment_table.Padding.{Padding}
 use Rattle.capnp_frame.specs.declared.io.Read.{Ghosts}
-use Rattle.capnp_frame.specs.Prelude.{size_in_words, Outgrows, TakesForLengths, TableStands, cut, SkipsMessage, LengthsStand, IfKnown, ReadsTable, table_size, framed_rules, reusing_rules, skipping_rules, ReadsStream, ReadsStreamInto}
-use Rattle.capnp_frame.proofs.encodings.RequestLemmas.{lengths-cut, MessageStands-cut}
+use Rattle.capnp_frame.specs.Prelude.{size_in_words, Outgrows, TakesForLengths, TableFound, cut, SkipsMessage, LengthsFound, IfKnown, ReadsTable, table_size, framed_rules, reusing_rules, skipping_rules, ReadsStream, ReadsStreamInto}
+use Rattle.capnp_frame.proofs.encodings.RequestLemmas.{lengths-cut, MessageFound-cut}
 use Rattle.capnp_frame.proofs.sources.SourceLemmas.{IfKnown-join}
 use Rattle.capnp_pack.specs.Prelude.{Unpacks, ChunkError, packed_rules, packed_reusing_rules, packed_skipping_rules, packed_source}
 use Rattle.capnp_pack.proofs.encodings.MessageLemmas.{found_packed, accepted_packed}
@@ -103,12 +103,12 @@ packed_skips rule source old new kept limit (Err error) same reads =
     packed_reads_taking rule (λ most. TakesForLengths kept Unpacks) (λ s. s) source source.same old new limit (Err error) same reads
 
 -- the segments that are skipped after a table
-pub lengths_skipped : (rule : Padding) (ns : List ℕ) (n : ℕ) (a b c : Option (List ℕ)) → n ≡ 8 * sum ns → IfKnown a b (TableStands rule Unpacks ns)
-    → IfKnown b c (λ raw rest. (words : List ℕ) × Unpacks raw n words rest) → IfKnown a c (LengthsStand rule Unpacks ns)
+pub lengths_skipped : (rule : Padding) (ns : List ℕ) (n : ℕ) (a b c : Option (List ℕ)) → n ≡ 8 * sum ns → IfKnown a b (TableFound rule Unpacks ns)
+    → IfKnown b c (λ raw rest. (words : List ℕ) × Unpacks raw n words rest) → IfKnown a c (LengthsFound rule Unpacks ns)
 lengths_skipped rule ns n a b c all = IfKnown-join a b c (λ x y z table (words, given).
     let long : length words ≡ n = given.3 in
     let whole : length words ≡ 8 * sum ns = long ∙ all in (
       cut ns words,
       (lengths-cut ns words whole).0,
-      MessageStands-cut rule Unpacks ns words (Some x) (Some y) (Some z) whole table (subst (λ k. Unpacks y k words z) (sym long) given),
+      MessageFound-cut rule Unpacks ns words (Some x) (Some y) (Some z) whole table (subst (λ k. Unpacks y k words z) (sym long) given),
     ))

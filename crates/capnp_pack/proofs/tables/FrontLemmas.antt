@@ -9,8 +9,8 @@ use borrow.Rule.Simd.Moves.{swz_l}
 use borrow.Rule.Slice.PartMut.{put_mid, mid_of}
 use Rattle.capnp_frame.proofs.sources.SourceLemmas.{put_mid_front}
 use Rattle.capnp_pack.specs.Prelude.{IsWord, MarkedAt, tag_of, nonzero}
-use Rattle.capnp_pack.proofs.tables.MarkLemmas.{mark_row, mark_row_len, nonzero_lanes}
-use Rattle.capnp_pack.proofs.tables.PlaceLemmas.{padded, row, row_len, spread_word}
+use Rattle.capnp_pack.proofs.tables.MarkLemmas.{mark_entry, mark_entry_len, nonzero_lanes}
+use Rattle.capnp_pack.proofs.tables.PlaceLemmas.{padded, entry, entry_len, spread_word}
 
 -- eight of sixteen lanes
 abbrev pub eight_lanes : List ℕ → List ℕ
@@ -19,16 +19,16 @@ eight_lanes lanes = pick_l 0 (lanes ++ lanes) (range_with_len 0 8)
 pub eight_first : (lanes : List ℕ) → length lanes ≡ 16 → eight_lanes lanes ≡ take 8 lanes
 eight_first lanes long = pick_l_left 0 lanes lanes 16 (range_with_len 0 8) long tt ∙ pick_l-range_with_len 0 lanes 0 8 (omega (arith, long))
 
-pub front_lanes : (tag : ℕ) (word places : List ℕ) → places ≡ mark_row tag → IsWord word → tag ≡ tag_of word
+pub front_lanes : (tag : ℕ) (word places : List ℕ) → places ≡ mark_entry tag → IsWord word → tag ≡ tag_of word
     → take (ones tag) (eight_lanes (swz_l w8 16 (padded word) 0 places)) ≡ nonzero word
-front_lanes tag word places row is tagged_by =
+front_lanes tag word places entry is tagged_by =
     let lanes = swz_l w8 16 (padded word) 0 places in
-    let long : length lanes ≡ 16 = length-swz_l w8 16 (padded word) 0 places ∙ ap length row ∙ mark_row_len tag in
-    ap (take (ones tag)) (eight_first lanes long) ∙ ap (λ js. take (ones tag) (take 8 (swz_l w8 16 (padded word) 0 js))) row ∙ nonzero_lanes tag word is tagged_by
+    let long : length lanes ≡ 16 = length-swz_l w8 16 (padded word) 0 places ∙ ap length entry ∙ mark_entry_len tag in
+    ap (take (ones tag)) (eight_first lanes long) ∙ ap (λ js. take (ones tag) (take 8 (swz_l w8 16 (padded word) 0 js))) entry ∙ nonzero_lanes tag word is tagged_by
 
 -- those of a zero word are zero
-pub front_zero : (tag : ℕ) (word places : List ℕ) → places ≡ mark_row tag → tag ≡ 0 → take 1 (eight_lanes (swz_l w8 16 (padded word) 0 places)) ≡ 0 ∷ []
-front_zero tag word places row none = ap (λ js. take 1 (eight_lanes (swz_l w8 16 (padded word) 0 js))) (row ∙ ap mark_row none)
+pub front_zero : (tag : ℕ) (word places : List ℕ) → places ≡ mark_entry tag → tag ≡ 0 → take 1 (eight_lanes (swz_l w8 16 (padded word) 0 places)) ≡ 0 ∷ []
+front_zero tag word places entry none = ap (λ js. take 1 (eight_lanes (swz_l w8 16 (padded word) 0 js))) (entry ∙ ap mark_entry none)
 
 -- all eight are stored, of which only some are used
 pub stored : (at count : ℕ) (bytes front : List ℕ) → length bytes ≡ 64 → length front ≡ 8 → at ≤ 56 → count ≤ 8
@@ -48,11 +48,11 @@ stored_zero at count bytes front long eight room none first =
     ap (λ k. take k stores) one ∙ stored at 1 bytes front long eight room (omega arith) ∙ ap (λ l. take at bytes ++ l) first ∙ ap (λ l. l ++ 0 ∷ []) (sym held)
 
 -- the bytes that a tag marks, at their places in a word
-pub spread_lanes : (tag : ℕ) (text word places : List ℕ) → tag < 256 → 8 ≤ length text → IsWord word → places ≡ row tag
+pub spread_lanes : (tag : ℕ) (text word places : List ℕ) → tag < 256 → 8 ≤ length text → IsWord word → places ≡ entry tag
     → MarkedAt tag (put_chunk 0 word (eight_lanes (swz_l w8 16 (padded text) 0 places))) text (drop (ones tag) text)
-spread_lanes tag text word places low long is row_is =
+spread_lanes tag text word places low long is entry_is =
     let lanes = swz_l w8 16 (padded text) 0 places in
-    let wide : length lanes ≡ 16 = length-swz_l w8 16 (padded text) 0 places ∙ ap length row_is ∙ row_len tag in
+    let wide : length lanes ≡ 16 = length-swz_l w8 16 (padded text) 0 places ∙ ap length entry_is ∙ entry_len tag in
     let eight : length (eight_lanes lanes) ≡ 8 = ap length (eight_first lanes wide) ∙ length-take-le 8 lanes (omega (arith, wide)) in
     spread_word tag text _ low long (put_chunk_whole word (eight_lanes lanes) (is ∙ sym eight) ∙ eight_first lanes wide
-    ∙ ap (λ js. take 8 (swz_l w8 16 (padded text) 0 js)) row_is)
+    ∙ ap (λ js. take 8 (swz_l w8 16 (padded text) 0 js)) entry_is)

@@ -11,7 +11,7 @@ use lib.Dec.{ltb, lt→ltb}
 use lib.Count.{ones, ones_step, ones-le}
 use mir.Val.{zeroes}
 use borrow.Rule.Simd.Moves.{SwzOk, swz_l}
-use Rattle.capnp_pack.proofs.tables.TableRows.{rows, row_at}
+use Rattle.capnp_pack.proofs.tables.TagTableLemmas.{entries, entry_at}
 use Rattle.capnp_pack.specs.declared.compact_shuffle.TheConstants.{COMPACT_SHUFFLE}
 use Rattle.capnp_pack.specs.Prelude.{IsWord, marked, tag_of, nonzero}
 use Rattle.capnp_pack.proofs.words.TagLemmas.{marked_tag, tag_below, top_word, tag_suc, nonzero_suc}
@@ -24,15 +24,15 @@ abbrev pub marks : ℕ → ℕ → ℕ → List ℕ
 marks zero i tag = []
 marks (suc n) i tag = (if tag % 2 == 1 then i ∷ [] else []) ++ marks n (suc i) (tag / 2)
 
-abbrev pub mark_row : ℕ → List ℕ
-mark_row tag = marks 8 0 tag ++ replicate (16 - length (marks 8 0 tag)) 128
+abbrev pub mark_entry : ℕ → List ℕ
+mark_entry tag = marks 8 0 tag ++ replicate (16 - length (marks 8 0 tag)) 128
 
--- the table has each tag's row
-table : COMPACT_SHUFFLE ≡ rows mark_row 0 256
+-- the table has each tag's entry
+table : COMPACT_SHUFFLE ≡ entries mark_entry 0 256
 table = refl
 
-pub mark_row_of : (tag : ℕ) (none : List ℕ) → tag < 256 → get_or COMPACT_SHUFFLE tag none ≡ mark_row tag
-mark_row_of tag none low = row_at mark_row COMPACT_SHUFFLE tag none table low
+pub mark_entry_of : (tag : ℕ) (none : List ℕ) → tag < 256 → get_or COMPACT_SHUFFLE tag none ≡ mark_entry tag
+mark_entry_of tag none low = entry_at mark_entry COMPACT_SHUFFLE tag none table low
 
 fillers_ok : (m : ℕ) → Each1 IsPlace (replicate m 128)
 fillers_ok zero = tt
@@ -54,16 +54,16 @@ few_marks (suc n) i tag = by_bit (tag % 2 == 1) (few_marks n (suc i) (tag / 2))
     by_bit false few = omega arith
     by_bit true few = omega arith
 
-pub mark_row_len : (tag : ℕ) → length (mark_row tag) ≡ 16
-mark_row_len tag =
+pub mark_entry_len : (tag : ℕ) → length (mark_entry tag) ≡ 16
+mark_entry_len tag =
     let m = 16 - length (marks 8 0 tag) in
     omega (arith, length-append (marks 8 0 tag) (replicate m 128), length-replicate {A = ℕ} m 128, few_marks 8 0 tag)
 
-pub mark_row_ok : (tag : ℕ) → SwzOk w8 16 16 0 (mark_row tag)
-mark_row_ok tag =
+pub mark_entry_ok : (tag : ℕ) → SwzOk w8 16 16 0 (mark_entry tag)
+mark_entry_ok tag =
     let m = 16 - length (marks 8 0 tag) in
-    SwzOk-from_Each1 w8 16 1 16 0 (mark_row tag) refl
-    (omega (arith, mark_row_len tag)) (marks_ok 8 0 tag m (omega arith))
+    SwzOk-from_Each1 w8 16 1 16 0 (mark_entry tag) refl
+    (omega (arith, mark_entry_len tag)) (marks_ok 8 0 tag m (omega arith))
 
 -- the first lanes are the marked bytes
 gather : (n i tag k : ℕ) (word xs filler : List ℕ) → i + n ≡ 8 → length word ≡ 8 → ((j : ℕ) → j < 8 → get_or xs j 0 ≡ get_or word j 0) → k + n ≤ 16 →
@@ -121,10 +121,10 @@ padded_tag (a ∷ b ∷ c ∷ d ∷ e ∷ f ∷ g ∷ h ∷ i ∷ w) is = absurd
 pub marks_word : (word : List ℕ) → IsWord word → mask_l (map (top 7) (zip2 (λ a b. cond (not (eqb a b)) 255 0) (padded word) (replicate 16 0))) % 2 ^ 64 ≡ tag_of word
 marks_word word is = marks_lanes 16 (padded word) refl (omega arith) ∙ padded_tag word is
 
-pub nonzero_lanes : (tag : ℕ) (word : List ℕ) → IsWord word → tag ≡ tag_of word → take (ones tag) (take 8 (swz_l w8 16 (padded word) 0 (mark_row tag))) ≡ nonzero word
+pub nonzero_lanes : (tag : ℕ) (word : List ℕ) → IsWord word → tag ≡ tag_of word → take (ones tag) (take 8 (swz_l w8 16 (padded word) 0 (mark_entry tag))) ≡ nonzero word
 nonzero_lanes tag word is e =
     let low : tag < 2 ^ 8 = omega (arith, tag_below word, top_word word is) in
-    take-take (ones tag) 8 (swz_l w8 16 (padded word) 0 (mark_row tag)) (ones-le 8 tag low)
+    take-take (ones tag) 8 (swz_l w8 16 (padded word) 0 (mark_entry tag)) (ones-le 8 tag low)
     ∙ gather 8 0 tag 0 word (padded word) (replicate (16 - length (marks 8 0 tag)) 128) refl is (padded_at word) (omega arith) low
     ∙ ap (λ t. marked t word) e
     ∙ marked_tag word

@@ -12,7 +12,7 @@ use lib.Dec.{T, ltb, lt→ltb}
 use lib.Count.{ones, ones_step, ones-le}
 use mir.Val.{zeroes}
 use borrow.Rule.Simd.Moves.{SwzOk, swz_l}
-use Rattle.capnp_pack.proofs.tables.TableRows.{rows, row_at}
+use Rattle.capnp_pack.proofs.tables.TagTableLemmas.{entries, entry_at}
 use Rattle.capnp_pack.specs.declared.expand_shuffle.TheConstants.{EXPAND_SHUFFLE}
 use Rattle.capnp_pack.specs.Prelude.{marked, MarkedAt}
 use Rattle.capnp_pack.proofs.words.WordLemmas.{byte_joins}
@@ -23,15 +23,15 @@ abbrev pub places : ℕ → ℕ → ℕ → List ℕ
 places zero rank tag = []
 places (suc n) rank tag = (if tag % 2 == 1 then rank else 128) ∷ places n (rank + tag % 2) (tag / 2)
 
-abbrev pub row : ℕ → List ℕ
-row tag = places 8 0 tag ++ replicate 8 128
+abbrev pub entry : ℕ → List ℕ
+entry tag = places 8 0 tag ++ replicate 8 128
 
--- the table has each tag's row
-table : EXPAND_SHUFFLE ≡ rows row 0 256
+-- the table has each tag's entry
+table : EXPAND_SHUFFLE ≡ entries entry 0 256
 table = refl
 
-pub row_of : (tag : ℕ) (none : List ℕ) → tag < 256 → get_or EXPAND_SHUFFLE tag none ≡ row tag
-row_of tag none low = row_at row EXPAND_SHUFFLE tag none table low
+pub entry_of : (tag : ℕ) (none : List ℕ) → tag < 256 → get_or EXPAND_SHUFFLE tag none ≡ entry tag
+entry_of tag none low = entry_at entry EXPAND_SHUFFLE tag none table low
 
 -- each place is one of 16, or 128
 
@@ -58,11 +58,11 @@ length-places : (n rank tag : ℕ) → length (places n rank tag) ≡ n
 length-places zero rank tag = refl
 length-places (suc n) rank tag = ap suc (length-places n (rank + tag % 2) (tag / 2))
 
-pub row_len : (tag : ℕ) → length (row tag) ≡ 16
-row_len tag = omega (arith, length-append (places 8 0 tag) (replicate 8 128), length-places 8 0 tag)
+pub entry_len : (tag : ℕ) → length (entry tag) ≡ 16
+entry_len tag = omega (arith, length-append (places 8 0 tag) (replicate 8 128), length-places 8 0 tag)
 
-pub row_ok : (tag : ℕ) → SwzOk w8 16 16 0 (row tag)
-row_ok tag = SwzOk-from_Each1 w8 16 1 16 0 (row tag) refl (omega (arith, length-append (places 8 0 tag) (replicate 8 128), length-places 8 0 tag))
+pub entry_ok : (tag : ℕ) → SwzOk w8 16 16 0 (entry tag)
+entry_ok tag = SwzOk-from_Each1 w8 16 1 16 0 (entry tag) refl (omega (arith, length-append (places 8 0 tag) (replicate 8 128), length-places 8 0 tag))
     (padded_ok (places 8 0 tag) (places_ok 8 0 tag (omega arith)))
 
 -- eight bytes, and zeros after them, as a vector
@@ -111,9 +111,9 @@ spread (suc n) rank tag i text room following long low =
     byte_joins tag lane (swz_l w8 16 (padded text) (suc i) (places n (rank + tag % 2) (tag / 2))) (drop rank text) (drop (rank + tag % 2) text) (drop (rank + ones tag) text) here
     (subst (λ k. MarkedAt (tag / 2) (swz_l w8 16 (padded text) (suc i) (places n (rank + tag % 2) (tag / 2))) (drop (rank + tag % 2) text) (drop k text)) counted others)
 
-pub spread_word : (tag : ℕ) (text word : List ℕ) → tag < 256 → 8 ≤ length text → word ≡ take 8 (swz_l w8 16 (padded text) 0 (row tag)) → MarkedAt tag word text (drop (ones tag) text)
+pub spread_word : (tag : ℕ) (text word : List ℕ) → tag < 256 → 8 ≤ length text → word ≡ take 8 (swz_l w8 16 (padded text) 0 (entry tag)) → MarkedAt tag word text (drop (ones tag) text)
 spread_word tag text word low long is =
-    let front : take 8 (swz_l w8 16 (padded text) 0 (row tag)) ≡ swz_l w8 16 (padded text) 0 (places 8 0 tag) = refl in
+    let front : take 8 (swz_l w8 16 (padded text) 0 (entry tag)) ≡ swz_l w8 16 (padded text) 0 (places 8 0 tag) = refl in
     let none : 0 + ones tag ≡ ones tag = omega arith in
     subst (λ w. MarkedAt tag w text (drop (ones tag) text)) (sym (is ∙ front))
     (subst (λ k. MarkedAt tag (swz_l w8 16 (padded text) 0 (places 8 0 tag)) text (drop k text)) none (spread 8 0 tag 0 text (omega arith) (omega arith) long low))

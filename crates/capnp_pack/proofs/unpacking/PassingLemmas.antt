@@ -7,7 +7,7 @@ use Rattle.std.proofs.lemmas.Bool.{cases_lt}
 use lib.Count.{ones}
 use borrow.Rule.Simd.Moves.{swz_l}
 use Rattle.capnp_pack.specs.Prelude.{IsWord, MarkedAt, HasProgress, Unpacked, Passes}
-use Rattle.capnp_pack.proofs.tables.PlaceLemmas.{padded, row, row_len, spread_word, spread_front}
+use Rattle.capnp_pack.proofs.tables.PlaceLemmas.{padded, entry, entry_len, spread_word, spread_front}
 use Rattle.capnp_pack.proofs.unpacking.ProgressLemmas.{shown_taken, more_taken}
 use Rattle.capnp_pack.proofs.unpacking.UnpackedLemmas.{tagged_after, zeros_after, literal_after, group_unpacked}
 
@@ -27,8 +27,8 @@ unpacked_passes most used filled shown words within p = record {
 marked_word : (tag : ℕ) (text : List ℕ) → tag < 256 → ones tag ≤ length text → (word : List ℕ) × IsWord word × MarkedAt tag word text (drop (ones tag) text)
 marked_word tag text low within =
     let front = text ++ replicate 8 0 in
-    let lanes = swz_l w8 16 (padded front) 0 (row tag) in
-    let wide : length lanes ≡ 16 = length-swz_l w8 16 (padded front) 0 (row tag) ∙ row_len tag in
+    let lanes = swz_l w8 16 (padded front) 0 (entry tag) in
+    let wide : length lanes ≡ 16 = length-swz_l w8 16 (padded front) 0 (entry tag) ∙ entry_len tag in
     let long : length front ≡ length text + 8 = length-append text (replicate 8 0) in (
       take 8 lanes,
       length-take-le 8 lanes (omega (arith, wide)),

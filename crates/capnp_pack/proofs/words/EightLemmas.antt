@@ -70,8 +70,8 @@ all_one P xs n within front here =
     subst (AllByRecursion P) (sym (take-add n 1 xs)) (AllByRecursion-append P (take n xs) (take 1 (drop n xs)) front (subst (AllByRecursion P) (sym next) (here, tt)))
 
 -- this many words at the front are zero, and the next one isn't
-abbrev pub StandInFront : List (List ℕ) → ℕ → Type 0
-StandInFront words k = (k ≤ length words) × AllByRecursion IsZero (take k words) × IfFirst (drop k words) (λ word. IsZero word → ⊥)
+abbrev pub AreZerosInFront : List (List ℕ) → ℕ → Type 0
+AreZerosInFront words k = (k ≤ length words) × AllByRecursion IsZero (take k words) × IfFirst (drop k words) (λ word. IsZero word → ⊥)
 
 short_front : (w rest : List ℕ) → (w ≡ replicate (length w) 0 → ⊥) → prefix_len (λ x. not (not (eqb x 0))) (w ++ rest) < length w
 short_front [] rest other = absurd (other refl)
@@ -84,7 +84,7 @@ eight_more : (rest : List ℕ) → prefix_len (λ x. not (not (eqb x 0))) (zero_
 eight_more rest = omega arith
 
 -- the zero bytes at the front, in whole words
-pub zero_words_front : (words : List (List ℕ)) → AllByRecursion IsWord words → StandInFront words (prefix_len (λ x. not (not (eqb x 0))) (concat words) / 8)
+pub zero_words_front : (words : List (List ℕ)) → AllByRecursion IsWord words → AreZerosInFront words (prefix_len (λ x. not (not (eqb x 0))) (concat words) / 8)
 zero_words_front [] all = (omega arith, tt, tt)
 zero_words_front (w ∷ ws) all = elim (zero_or_not w) [
   | inl is ↦
@@ -92,11 +92,11 @@ zero_words_front (w ∷ ws) all = elim (zero_or_not w) [
       let front : prefix_len (λ x. not (not (eqb x 0))) (w ++ concat ws) ≡ 8 + prefix_len (λ x. not (not (eqb x 0))) (concat ws) =
       ap (λ v. prefix_len (λ x. not (not (eqb x 0))) (v ++ concat ws)) is ∙ eight_more (concat ws) in
       let next : prefix_len (λ x. not (not (eqb x 0))) (w ++ concat ws) / 8 ≡ suc (prefix_len (λ x. not (not (eqb x 0))) (concat ws) / 8) = omega (arith, front) in
-      subst (StandInFront (w ∷ ws)) (sym next) (omega (arith, more.0), (is, more.1), more.2)
+      subst (AreZerosInFront (w ∷ ws)) (sym next) (omega (arith, more.0), (is, more.1), more.2)
   | inr other ↦
       let short = short_front w (concat ws) (λ e. other (e ∙ ap (λ k. replicate k 0) all.0)) in
       let none : prefix_len (λ x. not (not (eqb x 0))) (w ++ concat ws) / 8 ≡ 0 = omega (arith, short, all.0) in
-      subst (StandInFront (w ∷ ws)) (sym none) (omega arith, tt, other)
+      subst (AreZerosInFront (w ∷ ws)) (sym none) (omega arith, tt, other)
 ]
 
 some_front : (bytes : List ℕ) → 0 < tag_of bytes → prefix_len (λ x. not (not (eqb x 0))) bytes < length bytes
@@ -108,12 +108,12 @@ some_front (suc b ∷ bytes) some =
 
 -- the number of zero words, by the lowest mark
 pub zeros_reported : (words : List (List ℕ)) (marks : ℕ) → AllByRecursion IsWord words → length words ≡ 8 → marks ≡ tag_of (concat words) →
-    (marks ≡ 0 → ⊥) → (count_trailing_zeros 64 marks / 8 < 8) × StandInFront words (count_trailing_zeros 64 marks / 8)
+    (marks ≡ 0 → ⊥) → (count_trailing_zeros 64 marks / 8 < 8) × AreZerosInFront words (count_trailing_zeros 64 marks / 8)
 zeros_reported words marks all eight e some =
     let long : length (concat words) ≡ 64 = omega (arith, length-words words all) in
     let more : 0 < tag_of (concat words) = omega (arith, e, positive marks some) in
     let reported : count_trailing_zeros 64 marks ≡ prefix_len (λ x. not (not (eqb x 0))) (concat words) = ap (count_trailing_zeros 64) e ∙ trailing_tag (concat words) long more in
-    (omega (arith, reported, some_front (concat words) more, long), subst (λ n. StandInFront words (n / 8)) (sym reported) (zero_words_front words all))
+    (omega (arith, reported, some_front (concat words) more, long), subst (λ n. AreZerosInFront words (n / 8)) (sym reported) (zero_words_front words all))
   where
     positive : (n : ℕ) → (n ≡ 0 → ⊥) → 0 < n
     positive zero other = absurd (other refl)

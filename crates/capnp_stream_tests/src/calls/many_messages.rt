@@ -96,7 +96,7 @@ fn read_each(rt: &(impl Abort + AllocGlobal), call: Call, stream: &[u8]) -> Resu
         assert_call(rt, returned, call, At::new("many messages", index));
     }
     let ended = is_returned(rt.alloc(), call, &mut source, DEFAULT_LIMIT, Wanted::End)?;
-    let at = At::row("their end");
+    let at = At::case("their end");
     assert_call(rt, ended, call, at);
     assert_unread(rt, source.len(), 0, call, at);
     Ok(())
@@ -142,7 +142,7 @@ fn reuse(
         );
         kept = segments;
     }
-    assert_count(rt, source.len(), 0, At::row("kept memory"));
+    assert_count(rt, source.len(), 0, At::case("kept memory"));
     Ok(())
 }
 
@@ -170,20 +170,20 @@ fn skip(
         assert_count(rt, lengths.total_words(), segments_in(index), at);
         kept = lengths;
     }
-    assert_count(rt, source.len(), 0, At::row("skipped"));
+    assert_count(rt, source.len(), 0, At::case("skipped"));
     Ok(())
 }
 
 // Messages in order.
-fn assert_all(rt: &impl Abort, messages: &[Reader<OwnedSegments>], row: &str) {
-    assert_count(rt, messages.len(), COUNT as usize, At::row(row));
+fn assert_all(rt: &impl Abort, messages: &[Reader<OwnedSegments>], case: &str) {
+    assert_count(rt, messages.len(), COUNT as usize, At::case(case));
     let mut index = 0u64;
     for message in messages {
         index = index.wrapping_add(1);
         assert_holds(
             rt,
             is_message(message.get_segments(), index),
-            At::new(row, index),
+            At::new(case, index),
         );
     }
 }
@@ -213,13 +213,13 @@ fn read_all(
     let options = DEFAULT_READER_OPTIONS;
     let read = every_message(rt.alloc(), stream, format, padding, options);
     assert_all(rt, &read.messages, "at once");
-    let at = At::row("at once");
+    let at = At::case("at once");
     assert_count(rt, read.end, stream.len(), at);
     assert_holds(rt, read.error.is_none(), at);
     let mut source = stream;
     let messages = read_messages(rt.alloc(), &mut source, format, COUNT as usize, options)?;
     assert_all(rt, &messages, "as many");
-    assert_count(rt, source.len(), 0, At::row("as many"));
+    assert_count(rt, source.len(), 0, At::case("as many"));
     Ok(())
 }
 
@@ -262,7 +262,7 @@ fn transcode(
         TableRules::new(padding, options),
         &way,
     );
-    assert_holds(rt, returned.is_ok(), At::row("transcoded"));
-    assert_bytes(rt, &sink, &wanted, At::row("transcoded"));
+    assert_holds(rt, returned.is_ok(), At::case("transcoded"));
+    assert_bytes(rt, &sink, &wanted, At::case("transcoded"));
     Ok(())
 }

@@ -43,7 +43,7 @@ fn each_record_is_appended_and_read(rt: HostRuntime) -> Result<()> {
         let mut message = Builder::new_default(rt.alloc());
         append_record(&rt, &mut log, &mut message, index)?;
     }
-    let at = At::row("a log");
+    let at = At::case("a log");
     assert_bytes(&rt, &log, &log_of(rt.alloc())?, at);
     let read = read_log(rt.alloc(), &log, DEFAULT_READER_OPTIONS);
     assert_count(&rt, read.messages.len(), COUNT as usize, at);

@@ -74,8 +74,8 @@ const WHOLE: [(usize, Ways); 8] = [
 // An interrupted call is made again.
 #[test]
 fn parts_and_interruptions_lose_nothing(rt: HostRuntime) -> Result<()> {
-    for row in &WHOLE {
-        retried!(write_whole(&rt, row.0, row.1))?;
+    for case in &WHOLE {
+        retried!(write_whole(&rt, case.0, case.1))?;
     }
     Ok(())
 }
@@ -165,23 +165,23 @@ const FAILURES: [Failing; 4] = [
 
 #[test]
 fn an_error_is_returned(rt: HostRuntime) -> Result<()> {
-    for row in &FAILURES {
-        retried!(fail_at(&rt, row))?;
+    for case in &FAILURES {
+        retried!(fail_at(&rt, case))?;
     }
     Ok(())
 }
 
-fn fail_at(rt: &(impl Abort + AllocGlobal), row: &Failing) -> Result<()> {
-    let at = At::new("bytes collected", row.capacity as u64);
-    let mut device = taking(rt.alloc(), row.ways)?;
-    let mut output = Output::new(rt.alloc(), row.capacity, &mut device)?;
+fn fail_at(rt: &(impl Abort + AllocGlobal), case: &Failing) -> Result<()> {
+    let at = At::new("bytes collected", case.capacity as u64);
+    let mut device = taking(rt.alloc(), case.ways)?;
+    let mut output = Output::new(rt.alloc(), case.capacity, &mut device)?;
     let call = failed_call(&mut output)?;
     let failures = output.failures();
     drop(output);
-    assert_holds(rt, call == row.call, at);
+    assert_holds(rt, call == case.call, at);
     assert_calls(rt, failures, 1, at);
     let got = device.got.as_slice();
-    assert_bytes(rt, got, row.got.unwrap_or(got), at);
+    assert_bytes(rt, got, case.got.unwrap_or(got), at);
     Ok(())
 }
 

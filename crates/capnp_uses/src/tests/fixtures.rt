@@ -1,4 +1,4 @@
-//! What these tests share: messages over worked segments, and what is expected at a row.
+//! What these tests share: messages over worked segments, and what is expected of a case.
 use capnp::message::{
     Builder, DEFAULT_READER_OPTIONS, HeapAllocator, Reader, ReaderOptions, SegmentArray,
 };
@@ -14,14 +14,14 @@ pub type Message<'a> = Reader<SegmentArray<'a>>;
 /// What the root of such a message leads to.
 pub type Source<'a> = any_pointer::Reader<'a, SegmentArray<'a>>;
 
-/// What is found at a row is what is wanted there.
+/// What is found in a case is what is wanted there.
 pub fn expect<R: Debug + Drop, T: PartialEq + Debug + Drop>(
     rt: &impl Abort,
-    row: R,
+    case: R,
     found: T,
     wanted: T,
 ) {
-    assert!(rt; found == wanted, "at {row:?}: {found:?} is not {wanted:?}");
+    assert!(rt; found == wanted, "at {case:?}: {found:?} is not {wanted:?}");
 }
 
 /// Options with another traversal limit.

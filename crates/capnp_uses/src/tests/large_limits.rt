@@ -120,18 +120,18 @@ fn set_data(message: &mut Builder<HeapAllocator>, bytes: &[u8]) -> Result<()> {
 }
 
 // Whether setting this data makes this segment, and whether the data is viewed as it was set.
-fn stands_and_is_viewed(alloc: Global, segment: &[u8], bytes: &[u8]) -> Result<(bool, bool)> {
+fn is_set_and_viewed(alloc: Global, segment: &[u8], bytes: &[u8]) -> Result<(bool, bool)> {
     let mut message = Builder::new_default(alloc);
     set_data(&mut message, bytes)?;
-    let stands = has_segments(&message, &[segment]);
+    let is_there = has_segments(&message, &[segment]);
     let view = message.get_root::<data::Owned>()?;
-    Ok((stands, view.as_bytes() == bytes))
+    Ok((is_there, view.as_bytes() == bytes))
 }
 
 #[test]
 fn data_that_is_set(rt: HostRuntime) -> Result<()> {
     for (segment, bytes) in &UNTERMINATED {
-        let found = stands_and_is_viewed(rt.alloc(), segment, bytes)?;
+        let found = is_set_and_viewed(rt.alloc(), segment, bytes)?;
         expect(&rt, *segment, found, (true, true));
     }
     Ok(())

@@ -234,7 +234,7 @@ fn canonicalize(rt: &(impl Abort + AllocGlobal), segment: &[u8]) -> Result<()> {
 }
 
 // Whether the first segment is this one.
-pub(crate) fn stands(message: &Builder<HeapAllocator>, segment: &[u8]) -> bool {
+pub(crate) fn has_segment(message: &Builder<HeapAllocator>, segment: &[u8]) -> bool {
     match message.get_segment(0) {
         Some(first) => first == segment,
         None => false,
@@ -245,10 +245,10 @@ pub(crate) fn stands(message: &Builder<HeapAllocator>, segment: &[u8]) -> bool {
 fn set_from(rt: &(impl Abort + AllocGlobal), reader: &Message<'_>, segment: &[u8]) -> Result<()> {
     let mut message = large_message(rt.alloc());
     set_root(&mut message, reader.get_root()?)?;
-    assert!(rt; stands(&message, segment));
+    assert!(rt; has_segment(&message, segment));
     let mut message = large_message(rt.alloc());
     set_root_canonical(&mut message, reader.get_root()?)?;
-    assert!(rt; stands(&message, segment));
+    assert!(rt; has_segment(&message, segment));
     let reader = message.into_reader();
     assert!(rt; reader.is_canonical()?);
     Ok(())

@@ -1,7 +1,7 @@
 //! Messages of more than 100,000 words, no two objects or numbers of which are equal: read, packed,
 //! copied and made canonical.
 use crate::tests::fixtures::{Source, expect, message_of, set_root, set_root_canonical};
-use crate::tests::large_messages::{framed_text, pack, read_framed, read_packed, stands, unpack};
+use crate::tests::large_messages::{framed_text, pack, read_framed, read_packed, has_segment, unpack};
 use capnp::Result;
 use capnp::message::{Builder, DEFAULT_READER_OPTIONS, HeapAllocator};
 use capnp_frame_tests::long_lists::{
@@ -71,9 +71,9 @@ fn compare(rt: &(impl Abort + AllocGlobal), segment: &[u8], form: &[u8]) -> Resu
     assert!(rt; reader.canonical_segment(rt.alloc())?.as_slice() == form);
     let mut message = roomy(rt.alloc());
     set_root(&mut message, reader.get_root()?)?;
-    assert!(rt; stands(&message, form));
+    assert!(rt; has_segment(&message, form));
     let mut message = roomy(rt.alloc());
     set_root_canonical(&mut message, reader.get_root()?)?;
-    assert!(rt; stands(&message, form));
+    assert!(rt; has_segment(&message, form));
     Ok(())
 }

@@ -1,5 +1,5 @@
 //! Loops over the lists of a message, by worked bytes (encoding document, "Lists").
-use crate::loops::{RowsReader, outwards};
+use crate::loops::{ListsReader, outwards};
 use capnp::any_struct::StructReader;
 use capnp::message::DEFAULT_READER_OPTIONS;
 use capnp::serialize::{self, OwnedSegments};
@@ -18,18 +18,18 @@ const LISTS: &[u8] = b"\0\0\0\0\x18\0\0\0\0\0\0\0\0\0\x06\0\
     \x08\0\0\0\x01\0\0\0\x05\0\0\0\0\0\0\0\x06\0\0\0\0\0\0\0\
     \x01\0\x02\0\0\0\0\0\x07\0\0\0\x08\0\0\0";
 
-// 2 pointers; 15 of weights twice, 11 of parts 4 times, 3 of rows 8 times, 4 of scans 16 times, 3 of
+// 2 pointers; 15 of weights twice, 11 of parts 4 times, 3 of lists 8 times, 4 of scans 16 times, 3 of
 // tags 32 times.
 #[test]
 fn lists_in_one_another_are_looped_over(rt: HostRuntime) -> Result<(), Fail> {
     let mut source = LISTS;
     let message = serialize::read_message(rt.alloc(), &mut source, DEFAULT_READER_OPTIONS)?;
     let root: StructReader<'_, OwnedSegments> = message.get_root()?;
-    let rows: RowsReader<'_> = root.get_pointer_as(2)?;
+    let lists: ListsReader<'_> = root.get_pointer_as(2)?;
     let sum = outwards(
         &root.get_pointer_as(0)?,
         &root.get_pointer_as(1)?,
-        &rows,
+        &lists,
         &root.get_pointer_as(3)?,
         &root.get_pointer_as(5)?,
         &root.get_pointer_as(0)?,

@@ -43,18 +43,18 @@ const FORMS: [(&[&[u8]], [&[u8]; 3]); 3] = [
 // How a root is set to that of another message.
 #[derive(Clone, Copy, Debug)]
 enum Way {
-    AsItStands,
+    Untrimmed,
     WithAWord,
     Canonical,
 }
 
-const WAYS: [Way; 3] = [Way::AsItStands, Way::WithAWord, Way::Canonical];
+const WAYS: [Way; 3] = [Way::Untrimmed, Way::WithAWord, Way::Canonical];
 
 // A new message whose root is set.
 fn set(alloc: Global, root: Source<'_>, way: Way) -> Result<Builder<HeapAllocator>> {
     let mut message = Builder::new_default(alloc);
     match way {
-        Way::AsItStands => set_tree(&mut message, root)?,
+        Way::Untrimmed => set_tree(&mut message, root)?,
         Way::WithAWord => set_tree_and_word(&mut message, root, 9)?,
         Way::Canonical => set_canonical(&mut message, root)?,
     }
@@ -77,8 +77,8 @@ fn expect_forms(
 ) -> Result<()> {
     for index in 0..3usize {
         let message = set(rt.alloc(), reader.get_root()?, WAYS[index])?;
-        let stands = has_segments(&message, &[forms[index]]);
-        expect(rt, (WAYS[index], forms[index]), stands, true);
+        let is_there = has_segments(&message, &[forms[index]]);
+        expect(rt, (WAYS[index], forms[index]), is_there, true);
     }
     Ok(())
 }

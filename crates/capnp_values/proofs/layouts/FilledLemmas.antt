@@ -1,9 +1,9 @@
 -- Objects whose own words are put into a block, and whose pointers are filled in, are laid out there.
 use Rattle.std.proofs.Common.{◌≡◌, ℕ, ◌+◌, ◌*◌, ◌≤◌, List, [], ◌∷◌, length, take, drop, sym, ◌∙◌, ap, arith, length-take, length-drop}
-use Rattle.capnp_layout.specs.Prelude.{struct, pointers, structs, Trees, none, tree, count, total_words, run, row_run, woven, body, struct_pointer, HasRoom, AllHaveRoom, put, put_rows, fill, moved, row_slots}
-use Rattle.capnp_layout.proofs.layouts.SizeLemmas.{length-woven, rows_even}
+use Rattle.capnp_layout.specs.Prelude.{struct, pointers, structs, Trees, none, tree, count, total_words, run, element_runs, woven, body, struct_pointer, HasRoom, AllHaveRoom, put, put_data_sections, fill, moved, section_slots}
+use Rattle.capnp_layout.proofs.layouts.SizeLemmas.{length-woven, elements_even}
 use Rattle.capnp_layout.proofs.layouts.BlockLemmas.{put_both, length-put, put_none}
-use Rattle.capnp_wire.proofs.layouts.BlockRowLemmas.{moved_run, moved_rows, put_short, put_rows_woven}
+use Rattle.capnp_wire.proofs.layouts.BlockElementLemmas.{moved_run, moved_elements, put_short, put_data_sections_woven}
 use Rattle.capnp_wire.proofs.layouts.FillLemmas.{fill_is}
 
 -- a struct
@@ -34,19 +34,19 @@ list_filled next children block room inner fits =
     ∙ fill_is next pointers children olds block room inner olds_long (omega (arith, fits))
 
 -- a list of structs
-pub structs_filled : (next d p : ℕ) (rows : List (List ℕ)) (children : Trees) (block : List ℕ) → HasRoom (structs d p rows) (count children) → AllHaveRoom children
-    → next + (1 + length rows * (d + p) + total_words children) ≤ length block
-    → fill (row_slots (next + 1) d p (length rows)) (next + (1 + length rows * (d + p))) children (put_rows (next + 1) p rows (put next (struct_pointer (length rows) d p ∷ []) block))
-    ≡ put next (body (tree (structs d p rows) children none)) block
-structs_filled next d p rows children block room inner fits =
-    let size : ℕ = length rows * (d + p) in
-    let tag : ℕ = struct_pointer (length rows) d p in
-    let wide = rows_even d rows room.5 in
-    let tagged_long : length (put next (struct_pointer (length rows) d p ∷ []) block) ≡ length block = length-put next (struct_pointer (length rows) d p ∷ []) block (omega (arith, fits)) in
-    let w = put_rows_woven (next + 1) d p rows (put next (struct_pointer (length rows) d p ∷ []) block) wide (omega (arith, tagged_long, fits)) in
-    let woven_long : length (woven p rows w.0) ≡ length rows * (d + p) = length-woven d p rows w.0 wide w.1 in
-    let joined : put_rows (next + 1) p rows (put next (tag ∷ []) block) ≡ put next (tag ∷ woven p rows w.0) block =
-    w.2 ∙ put_both next (tag ∷ []) (woven p rows w.0) block (omega (arith, woven_long, fits)) in
-    ap (λ (l : List ℕ). fill l (next + (1 + size)) children (put_rows (next + 1) p rows (put next (tag ∷ []) block))) (sym (moved_rows next 1 d p rows))
-    ∙ ap (λ (l : List ℕ). fill (moved next (row_run 1 d p rows)) (next + (1 + size)) children l) joined
-    ∙ fill_is next (structs d p rows) children w.0 block room inner (w.1 ∙ sym room.4) (omega (arith, fits))
+pub structs_filled : (next d p : ℕ) (elements : List (List ℕ)) (children : Trees) (block : List ℕ) → HasRoom (structs d p elements) (count children) → AllHaveRoom children
+    → next + (1 + length elements * (d + p) + total_words children) ≤ length block
+    → fill (section_slots (next + 1) d p (length elements)) (next + (1 + length elements * (d + p))) children (put_data_sections (next + 1) p elements (put next (struct_pointer (length elements) d p ∷ []) block))
+    ≡ put next (body (tree (structs d p elements) children none)) block
+structs_filled next d p elements children block room inner fits =
+    let size : ℕ = length elements * (d + p) in
+    let tag : ℕ = struct_pointer (length elements) d p in
+    let wide = elements_even d elements room.5 in
+    let tagged_long : length (put next (struct_pointer (length elements) d p ∷ []) block) ≡ length block = length-put next (struct_pointer (length elements) d p ∷ []) block (omega (arith, fits)) in
+    let w = put_data_sections_woven (next + 1) d p elements (put next (struct_pointer (length elements) d p ∷ []) block) wide (omega (arith, tagged_long, fits)) in
+    let woven_long : length (woven p elements w.0) ≡ length elements * (d + p) = length-woven d p elements w.0 wide w.1 in
+    let joined : put_data_sections (next + 1) p elements (put next (tag ∷ []) block) ≡ put next (tag ∷ woven p elements w.0) block =
+    w.2 ∙ put_both next (tag ∷ []) (woven p elements w.0) block (omega (arith, woven_long, fits)) in
+    ap (λ (l : List ℕ). fill l (next + (1 + size)) children (put_data_sections (next + 1) p elements (put next (tag ∷ []) block))) (sym (moved_elements next 1 d p elements))
+    ∙ ap (λ (l : List ℕ). fill (moved next (element_runs 1 d p elements)) (next + (1 + size)) children l) joined
+    ∙ fill_is next (structs d p elements) children w.0 block room inner (w.1 ∙ sym room.4) (omega (arith, fits))

@@ -8,7 +8,7 @@ use Rattle.capnp_wire.specs.Prelude.{WordsError, HasPart}
 use Rattle.capnp_wire.specs.declared.traits.TreeWords.{TreeWords}
 use Rattle.capnp_layout.proofs.trees.TrimLemmas.{total-trim}
 use Rattle.capnp_wire.proofs.views.PartWordLemmas.{as_is_words, same_tree_words}
-use Rattle.capnp_values.specs.Fields.{IsSettled, IsRow, FieldsError}
+use Rattle.capnp_values.specs.Fields.{IsSettled, IsValueInFront, FieldsError}
 use Rattle.capnp_values.specs.FieldLaws.{settled_none, settled_more}
 use Rattle.capnp_values.specs.Measured.{tree_words, both_words, Measures}
 use Rattle.capnp_values.specs.Lists.{AreItems, ValuesError}
@@ -58,12 +58,12 @@ measured_few h c size words settled a =
     let s = settled a.0 a.1 in
     (omega (arith, ap (λ (w : TreeWords). w.as_is) a.3, s.few), omega (arith, ap (λ (w : TreeWords). w.output) a.3, output_small c size a.0 s))
 
--- a value in front of a row: it fails, or is measured, and what is after it, too
-abbrev MeasuresRow : (Trees → Type 0) → (Trees → Type 0) → (ErrorKind → Type 0) → (ErrorKind → Type 0) → Bool → Result TreeWords Error → Type 0
-MeasuresRow h hs r rs c res = Measures (λ t. IsRow h hs t) (λ k. FieldsError h r rs k) c res
+-- a value in front of others: it fails, or is measured, and what is after it, too
+abbrev MeasuresFront : (Trees → Type 0) → (Trees → Type 0) → (ErrorKind → Type 0) → (ErrorKind → Type 0) → Bool → Result TreeWords Error → Type 0
+MeasuresFront h hs r rs c res = Measures (λ t. IsValueInFront h hs t) (λ k. FieldsError h r rs k) c res
 
 pub first_error : (h hs : Trees → Type 0) (r rs : ErrorKind → Type 0) (c : Bool) (returned : Result TreeWords Error) (error : Error) → returned ≡ Err error → WordsError h r false error.kind
-    → ((words : TreeWords) → HasPart h c words → returned ≡ Ok words) → ((k : ErrorKind) → WordsError h r false k → IsErrAnd returned (λ e. e.kind ≡ k)) → MeasuresRow h hs r rs c (Err error)
+    → ((words : TreeWords) → HasPart h c words → returned ≡ Ok words) → ((k : ErrorKind) → WordsError h r false k → IsErrAnd returned (λ e. e.kind ≡ k)) → MeasuresFront h hs r rs c (Err error)
 first_error h hs r rs c returned error was words_error found exact = record {
   returned = inl words_error;
   found = λ trees is. let ok : returned ≡ Ok (words_of_part c is.form is.children) = found (words_of_part c is.form is.children) (has_part h c is.form is.children is.part) in absurd (cc);
@@ -71,16 +71,16 @@ first_error h hs r rs c returned error was words_error found exact = record {
 }
 
 rest_error : (h hs : Trees → Type 0) (r rs : ErrorKind → Type 0) (c : Bool) (returned : Result TreeWords Error) (own : TreeWords) (error : Error) → returned ≡ Ok own → HasPart h c own
-    → ((k : ErrorKind) → WordsError h r false k → IsErrAnd returned (λ e. e.kind ≡ k)) → Measures hs rs c (Err error) → MeasuresRow h hs r rs c (Err error)
+    → ((k : ErrorKind) → WordsError h r false k → IsErrAnd returned (λ e. e.kind ≡ k)) → Measures hs rs c (Err error) → MeasuresFront h hs r rs c (Err error)
 rest_error h hs r rs c returned own error was has exact m = record {
   returned = inr (own.as_is, as_is_words h c own has, m.returned);
   found = λ trees is. let ok : Err error ≡ Ok (tree_words c is.rest) = m.found is.rest is.others in absurd (cc);
   exact = λ kind errors. m.exact kind (error_rest h r rs returned own kind was exact errors);
 }
 
-row_words : (h hs : Trees → Type 0) (rs : ErrorKind → Type 0) (c : Bool) (returned : Result TreeWords Error) (own words : TreeWords) → returned ≡ Ok own
-    → ((parts : TreeWords) → HasPart h c parts → returned ≡ Ok parts) → Measures hs rs c (Ok words) → (trees : Trees) → IsRow h hs trees → both_words own words ≡ tree_words c trees
-row_words h hs rs c returned own words was found m trees is =
+fields_words : (h hs : Trees → Type 0) (rs : ErrorKind → Type 0) (c : Bool) (returned : Result TreeWords Error) (own words : TreeWords) → returned ≡ Ok own
+    → ((parts : TreeWords) → HasPart h c parts → returned ≡ Ok parts) → Measures hs rs c (Ok words) → (trees : Trees) → IsValueInFront h hs trees → both_words own words ≡ tree_words c trees
+fields_words h hs rs c returned own words was found m trees is =
     let there : Ok words ≡ Ok (tree_words c is.rest) = m.found is.rest is.others in
     let same : words ≡ tree_words c is.rest = cc in
     let own_is : own ≡ words_of_part c is.form is.children =
@@ -90,24 +90,24 @@ row_words h hs rs c returned own words was found m trees is =
     (omega (arith, ap (λ (w : TreeWords). w.output) same, ap (λ (w : TreeWords). w.output) own_is, more_total c is.form is.children is.rest))
     ∙ sym (ap (tree_words c) is.whole)
 
-row_measured : (h hs : Trees → Type 0) (r rs : ErrorKind → Type 0) (c : Bool) (returned : Result TreeWords Error) (own words : TreeWords) → returned ≡ Ok own → HasPart h c own
+fields_measured : (h hs : Trees → Type 0) (r rs : ErrorKind → Type 0) (c : Bool) (returned : Result TreeWords Error) (own words : TreeWords) → returned ≡ Ok own → HasPart h c own
     → ((trees : Trees) → h trees → count trees ≡ 1) → ((parts : TreeWords) → HasPart h c parts → returned ≡ Ok parts)
-    → ((k : ErrorKind) → WordsError h r false k → IsErrAnd returned (λ e. e.kind ≡ k)) → Measures hs rs c (Ok words) → MeasuresRow h hs r rs c (Ok (both_words own words))
-row_measured h hs r rs c returned own words was has one found exact m =
+    → ((k : ErrorKind) → WordsError h r false k → IsErrAnd returned (λ e. e.kind ≡ k)) → Measures hs rs c (Ok words) → MeasuresFront h hs r rs c (Ok (both_words own words))
+fields_measured h hs r rs c returned own words was has one found exact m =
     let p = part_of h c own one has in
     let a = m.returned in
-    let is : IsRow h hs (tree p.form p.children a.0) = record { form = p.form; children = p.children; rest = a.0; whole = refl; part = p.part; others = a.1 } in
+    let is : IsValueInFront h hs (tree p.form p.children a.0) = record { form = p.form; children = p.children; rest = a.0; whole = refl; part = p.part; others = a.1 } in
     record {
-      returned = (tree p.form p.children a.0, is, (p.part.rooms.0, p.part.rooms.1, a.2), row_words h hs rs c returned own words was found m (tree p.form p.children a.0) is);
-      found = λ trees there. ap (λ (w : TreeWords). Ok w) (row_words h hs rs c returned own words was found m trees there);
+      returned = (tree p.form p.children a.0, is, (p.part.rooms.0, p.part.rooms.1, a.2), fields_words h hs rs c returned own words was found m (tree p.form p.children a.0) is);
+      found = λ trees there. ap (λ (w : TreeWords). Ok w) (fields_words h hs rs c returned own words was found m trees there);
       exact = λ kind errors. m.exact kind (error_rest h r rs returned own kind was exact errors);
     }
 
-pub row_front : (h hs : Trees → Type 0) (r rs : ErrorKind → Type 0) (c : Bool) (returned : Result TreeWords Error) (own : TreeWords) (rest : Result TreeWords Error) → returned ≡ Ok own → HasPart h c own
+pub value_front : (h hs : Trees → Type 0) (r rs : ErrorKind → Type 0) (c : Bool) (returned : Result TreeWords Error) (own : TreeWords) (rest : Result TreeWords Error) → returned ≡ Ok own → HasPart h c own
     → ((trees : Trees) → h trees → count trees ≡ 1) → ((parts : TreeWords) → HasPart h c parts → returned ≡ Ok parts)
-    → ((k : ErrorKind) → WordsError h r false k → IsErrAnd returned (λ e. e.kind ≡ k)) → Measures hs rs c rest → MeasuresRow h hs r rs c (onto own rest)
-row_front h hs r rs c returned own (Ok words) was has one found exact m = row_measured h hs r rs c returned own words was has one found exact m
-row_front h hs r rs c returned own (Err error) was has one found exact m = rest_error h hs r rs c returned own error was has exact m
+    → ((k : ErrorKind) → WordsError h r false k → IsErrAnd returned (λ e. e.kind ≡ k)) → Measures hs rs c rest → MeasuresFront h hs r rs c (onto own rest)
+value_front h hs r rs c returned own (Ok words) was has one found exact m = fields_measured h hs r rs c returned own words was has one found exact m
+value_front h hs r rs c returned own (Err error) was has one found exact m = rest_error h hs r rs c returned own error was has exact m
 
 -- how far the measuring of some values has come: with what is measured of those that are left, all are measured
 pub record ItemsMeasured {V : Type 0} (h : V → Trees → Type 0) (r : V → ErrorKind → Type 0) (c : Bool) (items : List V) (i : ℕ) (words : TreeWords) : Type 0 where
@@ -135,7 +135,7 @@ measuring_goes_on {V = V} h r c items i words v returned own within is was has o
       output_few = omega (arith, so_far.output_few, small, less);
       ends = λ rest m.
           let here = subst (λ (l : List V). MeasuresItems h r l c (onto own rest)) (sym (from_here items i v within is))
-          (row_front (h v) (λ t. AreItems h (drop (i + 1) items) t) (r v) (λ k. ValuesError h r (drop (i + 1) items) k) c returned own rest was has one found exact m) in
+          (value_front (h v) (λ t. AreItems h (drop (i + 1) items) t) (r v) (λ k. ValuesError h r (drop (i + 1) items) k) c returned own rest was has one found exact m) in
           subst (λ (x : Result TreeWords Error). MeasuresItems h r items c x) (onto_both words own rest) (so_far.ends (onto own rest) here);
     }
 

@@ -90,7 +90,7 @@ put_in_word word start width bits small within less few =
     let old_few : old < 2 ^ width = mod_below (word / 2 ^ start) (2 ^ width) (pow_pos width) in
     let goes : old * 2 ^ start % 2 ^ 64 ≡ old * 2 ^ start = shl_whole old width start 64 old_few within in
     let comes : bits * 2 ^ start % 2 ^ 64 ≡ bits * 2 ^ start = shl_whole bits width start 64 few within in
-    let stands : 2 ^ start * old ≤ 2 ^ start * (word / 2 ^ start) = mul-le-mul_left (2 ^ start) (mod-le (word / 2 ^ start) (2 ^ width)) in
+    let at_most : 2 ^ start * old ≤ 2 ^ start * (word / 2 ^ start) = mul-le-mul_left (2 ^ start) (mod-le (word / 2 ^ start) (2 ^ width)) in
     let room : 2 ^ start * (word / 2 ^ start) ≤ word = mul-div-le word (2 ^ start) in
     let swap = exchanged word start width bits in
     rw (mask, goes, comes) (omega arith)

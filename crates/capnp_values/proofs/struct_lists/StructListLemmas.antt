@@ -1,4 +1,4 @@
--- Lists of structs: the rows of trees of their elements, as they are or in canonical form, and the words of these.
+-- Lists of structs: the trees of their elements' fields, as they are or in canonical form, and the words of these.
 use Rattle.std.proofs.Common.{◌≡◌, ℕ, suc, ◌+◌, ◌*◌, ◌<◌, ◌^◌, Bool, true, false, max, List, [], ◌∷◌, length, map, take, refl, sym, ◌∙◌, ap, subst, arith}
 use Rattle.std.specs.Prelude.{All}
 use Rattle.std.proofs.lemmas.List.{take_all, length-map}
@@ -7,107 +7,107 @@ use Rattle.capnp_layout.specs.Prelude.{structs, Trees, none, tree, count, total_
 use Rattle.capnp_layout.proofs.trees.FrontLemmas.{trim_before}
 use Rattle.capnp_layout.proofs.trees.NarrowLemmas.{first-before, following-before, first_all}
 use Rattle.capnp_layout.proofs.trees.ChunkLemmas.{count-first, count-before, count-following, total-before, before_chunks}
-use Rattle.capnp_layout.proofs.trees.StoodLemmas.{total_narrowed}
+use Rattle.capnp_layout.proofs.trees.TreeSizeLemmas.{total_narrowed}
 use Rattle.capnp_layout.proofs.trees.TrimLemmas.{room_trim}
-use Rattle.capnp_values.specs.Fields.{IsSettled, kept_row}
-use Rattle.capnp_values.specs.StructLists.{AreRows, element_data, element_pointers, shown, AreEven}
+use Rattle.capnp_values.specs.Fields.{IsSettled, kept_fields}
+use Rattle.capnp_values.specs.StructLists.{AreElements, element_data, element_pointers, shown, AreEven}
 use Rattle.capnp_values.proofs.lists.PointerListLemmas.{count_output}
 
--- the rows of some structs
+-- the fields of some structs
 pub rooms_before : (a b : Trees) → AllHaveRoom a → AllHaveRoom b → AllHaveRoom (before a b)
 rooms_before none b x y = y
 rooms_before (tree form children rest) b x y = (x.0, x.1, rooms_before rest b x.2 y)
 
-settled_no_rows : (p : ℕ) → IsSettled (0 * p) none
-settled_no_rows p = record { many = omega arith; rooms = tt; few = omega arith }
+settled_no_elements : (p : ℕ) → IsSettled (0 * p) none
+settled_no_elements p = record { many = omega arith; rooms = tt; few = omega arith }
 
-pub rows_settled : {V : Type 0} (h : V → Trees → Type 0) (p : ℕ) → ((v : V) (t : Trees) → h v t → IsSettled p t) → (vs : List V) (t : Trees) → AreRows h vs t → IsSettled (length vs * p) t
-rows_settled h p s [] t is = subst (λ (x : Trees). IsSettled (0 * p) x) (sym is) (settled_no_rows p)
-rows_settled h p s (v ∷ vs) t is =
-    let a = s v is.row is.row_is in
-    let b = rows_settled h p s vs is.rest is.others in
+pub elements_settled : {V : Type 0} (h : V → Trees → Type 0) (p : ℕ) → ((v : V) (t : Trees) → h v t → IsSettled p t) → (vs : List V) (t : Trees) → AreElements h vs t → IsSettled (length vs * p) t
+elements_settled h p s [] t is = subst (λ (x : Trees). IsSettled (0 * p) x) (sym is) (settled_no_elements p)
+elements_settled h p s (v ∷ vs) t is =
+    let a = s v is.fields is.fields_is in
+    let b = elements_settled h p s vs is.rest is.others in
     let split : suc (length vs) * p ≡ p + length vs * p = omega arith in
     subst (λ (x : Trees). IsSettled (suc (length vs) * p) x) (sym is.whole)
     (record {
-      many = omega (arith, count-before is.row is.rest, a.many, b.many, split);
-      rooms = rooms_before is.row is.rest a.rooms b.rooms;
-      few = omega (arith, total-before is.row is.rest, a.few, b.few, split);
+      many = omega (arith, count-before is.fields is.rest, a.many, b.many, split);
+      rooms = rooms_before is.fields is.rest a.rooms b.rooms;
+      few = omega (arith, total-before is.fields is.rest, a.few, b.few, split);
     })
 
 output_before : (c : Bool) (a b : Trees) → output c (before a b) ≡ before (output c a) (output c b)
 output_before true a b = trim_before a b
 output_before false a b = refl
 
--- one row in front of others
-pub record IsFront (c : Bool) (p : ℕ) (row rest children : Trees) : Type 0 where
-  pub own : first p (output c children) ≡ output c row
+-- one struct's fields in front of others
+pub record IsFront (c : Bool) (p : ℕ) (fields rest children : Trees) : Type 0 where
+  pub own : first p (output c children) ≡ output c fields
   pub others : following p (output c children) ≡ output c rest
 
-pub in_front : (c : Bool) (p : ℕ) (row rest children : Trees) → children ≡ before row rest → count row ≡ p → IsFront c p row rest children
-in_front c p row rest children whole many =
-    let t : output c children ≡ before (output c row) (output c rest) = ap (output c) whole ∙ output_before c row rest in
-    let long : count (output c row) ≡ p = sym (count_output c row) ∙ many in
+pub in_front : (c : Bool) (p : ℕ) (fields rest children : Trees) → children ≡ before fields rest → count fields ≡ p → IsFront c p fields rest children
+in_front c p fields rest children whole many =
+    let t : output c children ≡ before (output c fields) (output c rest) = ap (output c) whole ∙ output_before c fields rest in
+    let long : count (output c fields) ≡ p = sym (count_output c fields) ∙ many in
     record {
-      own = ap (first p) t ∙ first-before p (output c row) (output c rest) long;
-      others = ap (following p) t ∙ following-before p (output c row) (output c rest) long;
+      own = ap (first p) t ∙ first-before p (output c fields) (output c rest) long;
+      others = ap (following p) t ∙ following-before p (output c fields) (output c rest) long;
     }
 
-pub shown_front : (c : Bool) (m p : ℕ) (ws : List ℕ) (rows : List (List ℕ)) (row rest children : Trees) → children ≡ before row rest → count row ≡ p
-    → shown c m p (ws ∷ rows) children ≡ before (first m (output c row)) (shown c m p rows rest)
-shown_front c m p ws rows row rest children whole many =
-    let f = in_front c p row rest children whole many in
-    ap (λ (t : Trees). before (first m t) (narrowed m p rows (following p (output c children)))) f.own
-    ∙ ap (λ (t : Trees). before (first m (output c row)) (narrowed m p rows t)) f.others
+pub shown_front : (c : Bool) (m p : ℕ) (ws : List ℕ) (elements : List (List ℕ)) (fields rest children : Trees) → children ≡ before fields rest → count fields ≡ p
+    → shown c m p (ws ∷ elements) children ≡ before (first m (output c fields)) (shown c m p elements rest)
+shown_front c m p ws elements fields rest children whole many =
+    let f = in_front c p fields rest children whole many in
+    ap (λ (t : Trees). before (first m t) (narrowed m p elements (following p (output c children)))) f.own
+    ∙ ap (λ (t : Trees). before (first m (output c fields)) (narrowed m p elements t)) f.others
 
-pub pointers_front : (c : Bool) (p : ℕ) (ws : List ℕ) (rows : List (List ℕ)) (row rest children : Trees) → children ≡ before row rest → count row ≡ p
-    → element_pointers c p (ws ∷ rows) children ≡ max (count (kept_row c row)) (element_pointers c p rows rest)
-pointers_front true p ws rows row rest children whole many =
-    let f = in_front true p row rest children whole many in
-    ap (λ (t : Trees). max (count (cut_nulls t)) (least_pointers p rows (following p (trim children)))) f.own
-    ∙ ap (λ (t : Trees). max (count (cut_nulls (trim row))) (least_pointers p rows t)) f.others
-pointers_front false p ws rows row rest children whole many = omega (arith, many)
+pub pointers_front : (c : Bool) (p : ℕ) (ws : List ℕ) (elements : List (List ℕ)) (fields rest children : Trees) → children ≡ before fields rest → count fields ≡ p
+    → element_pointers c p (ws ∷ elements) children ≡ max (count (kept_fields c fields)) (element_pointers c p elements rest)
+pointers_front true p ws elements fields rest children whole many =
+    let f = in_front true p fields rest children whole many in
+    ap (λ (t : Trees). max (count (cut_nulls t)) (least_pointers p elements (following p (trim children)))) f.own
+    ∙ ap (λ (t : Trees). max (count (cut_nulls (trim fields))) (least_pointers p elements t)) f.others
+pointers_front false p ws elements fields rest children whole many = omega (arith, many)
 
-pub total_front : (c : Bool) (row rest children : Trees) → children ≡ before row rest → total_words (output c children) ≡ total_words (output c row) + total_words (output c rest)
-total_front c row rest children whole = ap total_words (ap (output c) whole ∙ output_before c row rest) ∙ total-before (output c row) (output c rest)
+pub total_front : (c : Bool) (fields rest children : Trees) → children ≡ before fields rest → total_words (output c children) ≡ total_words (output c fields) + total_words (output c rest)
+total_front c fields rest children whole = ap total_words (ap (output c) whole ∙ output_before c fields rest) ∙ total-before (output c fields) (output c rest)
 
 -- a list in the form that is written
-take_even : (d : ℕ) (rows : List (List ℕ)) → AreEven d rows → map (take d) rows ≡ rows
+take_even : (d : ℕ) (elements : List (List ℕ)) → AreEven d elements → map (take d) elements ≡ elements
 take_even d [] even = refl
-take_even d (row ∷ rows) even =
-    let wide : length row ≡ d = (All-head (λ r. (length r ≡ d) × All (λ w. w < 2 ^ 64) r) row rows even).0 in
-    let one : take d row ≡ row = take_all d row (omega (arith, wide)) in
-    let rest : map (take d) rows ≡ rows = take_even d rows (All-tail (λ r. (length r ≡ d) × All (λ w. w < 2 ^ 64) r) row rows even) in
-    ap (λ (l : List ℕ). l ∷ map (take d) rows) one ∙ ap (λ (l : List (List ℕ)). row ∷ l) rest
+take_even d (element ∷ elements) even =
+    let wide : length element ≡ d = (All-head (λ r. (length r ≡ d) × All (λ w. w < 2 ^ 64) r) element elements even).0 in
+    let one : take d element ≡ element = take_all d element (omega (arith, wide)) in
+    let rest : map (take d) elements ≡ elements = take_even d elements (All-tail (λ r. (length r ≡ d) × All (λ w. w < 2 ^ 64) r) element elements even) in
+    ap (λ (l : List ℕ). l ∷ map (take d) elements) one ∙ ap (λ (l : List (List ℕ)). element ∷ l) rest
 
-narrowed_all : (p : ℕ) (rows : List (List ℕ)) (children : Trees) → count children ≡ length rows * p → narrowed p p rows children ≡ children
+narrowed_all : (p : ℕ) (elements : List (List ℕ)) (children : Trees) → count children ≡ length elements * p → narrowed p p elements children ≡ children
 narrowed_all p [] none long = refl
 narrowed_all p [] (tree form children rest) long = absurd (omega arith)
-narrowed_all p (row ∷ rows) children long =
-    let split : suc (length rows) * p ≡ p + length rows * p = omega arith in
+narrowed_all p (element ∷ elements) children long =
+    let split : suc (length elements) * p ≡ p + length elements * p = omega arith in
     let many : count (first p children) ≡ p = omega (arith, count-first p children (omega arith)) in
-    let rest : narrowed p p rows (following p children) ≡ following p children = narrowed_all p rows (following p children) (omega (arith, count-following p children (omega arith))) in
-    ap (λ (t : Trees). before t (narrowed p p rows (following p children))) (first_all p (first p children) many)
+    let rest : narrowed p p elements (following p children) ≡ following p children = narrowed_all p elements (following p children) (omega (arith, count-following p children (omega arith))) in
+    ap (λ (t : Trees). before t (narrowed p p elements (following p children))) (first_all p (first p children) many)
     ∙ ap (λ (t : Trees). before (first p children) t) rest ∙ before_chunks p children
 
-pub structs_output : (c : Bool) (d p : ℕ) (rows : List (List ℕ)) (children : Trees) → AreEven d rows → count children ≡ length rows * p
-    → output c (tree (structs d p rows) children none)
-    ≡ tree (structs (element_data c d rows) (element_pointers c p rows children) (map (take (element_data c d rows)) rows)) (shown c (element_pointers c p rows children) p rows children) none
-structs_output true d p rows children even long = refl
-structs_output false d p rows children even long =
-    ap (λ (l : List (List ℕ)). tree (structs d p l) children none) (sym (take_even d rows even))
-    ∙ ap (λ (t : Trees). tree (structs d p (map (take d) rows)) t none) (sym (narrowed_all p rows children long))
+pub structs_output : (c : Bool) (d p : ℕ) (elements : List (List ℕ)) (children : Trees) → AreEven d elements → count children ≡ length elements * p
+    → output c (tree (structs d p elements) children none)
+    ≡ tree (structs (element_data c d elements) (element_pointers c p elements children) (map (take (element_data c d elements)) elements)) (shown c (element_pointers c p elements children) p elements children) none
+structs_output true d p elements children even long = refl
+structs_output false d p elements children even long =
+    ap (λ (l : List (List ℕ)). tree (structs d p l) children none) (sym (take_even d elements even))
+    ∙ ap (λ (t : Trees). tree (structs d p (map (take d) elements)) t none) (sym (narrowed_all p elements children long))
 
-pub total_shown : (c : Bool) (p : ℕ) (rows : List (List ℕ)) (children : Trees) → AllHaveRoom children → count children ≡ length rows * p
-    → total_words (shown c (element_pointers c p rows children) p rows children) ≡ total_words (output c children)
-total_shown true p rows children rooms long =
-    total_narrowed (least_pointers p rows (trim children)) p rows (trim children) (room_trim children rooms) (omega (arith, count_output true children, long)) (omega arith)
-total_shown false p rows children rooms long = ap total_words (narrowed_all p rows children long)
+pub total_shown : (c : Bool) (p : ℕ) (elements : List (List ℕ)) (children : Trees) → AllHaveRoom children → count children ≡ length elements * p
+    → total_words (shown c (element_pointers c p elements children) p elements children) ≡ total_words (output c children)
+total_shown true p elements children rooms long =
+    total_narrowed (least_pointers p elements (trim children)) p elements (trim children) (room_trim children rooms) (omega (arith, count_output true children, long)) (omega arith)
+total_shown false p elements children rooms long = ap total_words (narrowed_all p elements children long)
 
-pub structs_total : (c : Bool) (d p : ℕ) (rows : List (List ℕ)) (children : Trees) → AllHaveRoom children → count children ≡ length rows * p
-    → total_words (output c (tree (structs d p rows) children none)) ≡ 1 + length rows * (element_data c d rows + element_pointers c p rows children) + total_words (output c children)
-structs_total true d p rows children rooms long =
-    let same : length (map (take (element_data true d rows)) rows) ≡ length rows = length-map rows (take (element_data true d rows)) in
-    let size : length (map (take (element_data true d rows)) rows) * (element_data true d rows + element_pointers true p rows children) ≡ length rows * (element_data true d rows + element_pointers true p rows children) =
-    ap (λ (n : ℕ). n * (element_data true d rows + element_pointers true p rows children)) same in
-    omega (arith, size, total_shown true p rows children rooms long)
-structs_total false d p rows children rooms long = omega arith
+pub structs_total : (c : Bool) (d p : ℕ) (elements : List (List ℕ)) (children : Trees) → AllHaveRoom children → count children ≡ length elements * p
+    → total_words (output c (tree (structs d p elements) children none)) ≡ 1 + length elements * (element_data c d elements + element_pointers c p elements children) + total_words (output c children)
+structs_total true d p elements children rooms long =
+    let same : length (map (take (element_data true d elements)) elements) ≡ length elements = length-map elements (take (element_data true d elements)) in
+    let size : length (map (take (element_data true d elements)) elements) * (element_data true d elements + element_pointers true p elements children) ≡ length elements * (element_data true d elements + element_pointers true p elements children) =
+    ap (λ (n : ℕ). n * (element_data true d elements + element_pointers true p elements children)) same in
+    omega (arith, size, total_shown true p elements children rooms long)
+structs_total false d p elements children rooms long = omega arith

@@ -8,16 +8,16 @@ use Rattle.capnp_frame.specs.declared.error.ErrorKind.{ErrorKind}
 use Rattle.capnp_frame.specs.declared.error.ErrorKind.TheVariants.{AllocationTooLarge}
 use Rattle.capnp_layout.specs.Prelude.{structs, Trees, none, tree, count, total_words, output, AllHaveRoom}
 use Rattle.capnp_layout.proofs.words.CutLemmas.{least_data_within}
-use Rattle.capnp_layout.proofs.layouts.SizeLemmas.{rows_even}
+use Rattle.capnp_layout.proofs.layouts.SizeLemmas.{elements_even}
 use Rattle.capnp_wire.proofs.views.PartWordLemmas.{same_tree_words}
 use Rattle.capnp_values.specs.Measured.{tree_words, Measures}
 use Rattle.capnp_values.specs.Fields.{IsSettled}
 use Rattle.capnp_wire.specs.declared.traits.TreeWords.{TreeWords}
-use Rattle.capnp_values.specs.StructLists.{AreRows, IsStructList, TooManyStructs, StructListError, element_data, element_pointers, AreEven, MeasuresRows}
+use Rattle.capnp_values.specs.StructLists.{AreElements, IsStructList, TooManyStructs, StructListError, element_data, element_pointers, AreEven, MeasuresElements}
 use Rattle.capnp_values.specs.StructListPlaces.{AreDeclared, IsDeclared}
 use Rattle.capnp_values.proofs.lists.ItemLemmas.{measured_few}
-use Rattle.capnp_values.proofs.struct_lists.StructListLemmas.{rows_settled, structs_total}
-use Rattle.capnp_values.proofs.struct_lists.StructRowLemmas.{pointers_within}
+use Rattle.capnp_values.proofs.struct_lists.StructListLemmas.{elements_settled, structs_total}
+use Rattle.capnp_values.proofs.struct_lists.ElementWriteLemmas.{pointers_within}
 
 -- what can be declared of it
 pub told : (n d p x y : ℕ) → x ≡ d → y ≡ min p (2 ^ 16) → x < 2 ^ 16 → y < 2 ^ 16 → n < 2 ^ 29 → n * (x + y) < 2 ^ 29 → AreDeclared n d p
@@ -37,14 +37,14 @@ not_too_many n d p kind t (inl (inr many, is)) = absurd (omega (arith, many, t.f
 not_too_many n d p kind t (inr (inl many)) = absurd (omega (arith, many.2, t.few))
 not_too_many n d p kind t (inr (inr many)) = absurd (omega (arith, many.3, t.small))
 
-data_within : (c : Bool) (d : ℕ) (rows : List (List ℕ)) → AreEven d rows → element_data c d rows ≤ d
-data_within true d rows even = least_data_within d rows (rows_even d rows even)
-data_within false d rows even = omega arith
+data_within : (c : Bool) (d : ℕ) (elements : List (List ℕ)) → AreEven d elements → element_data c d elements ≤ d
+data_within true d elements even = least_data_within d elements (elements_even d elements even)
+data_within false d elements even = omega arith
 
-pub size_declared : (c : Bool) (n d p e m : ℕ) (rows : List (List ℕ)) (children : Trees) → AreDeclared n d p → AreEven d rows → e ≡ element_data c d rows → m ≡ element_pointers c p rows children → IsDeclared n d p e m
-size_declared c n d p e m rows children t even e_is m_is =
-    let a : e ≤ d = omega (arith, e_is, data_within c d rows even) in
-    let b : m ≤ p = omega (arith, m_is, pointers_within c p rows children) in
+pub size_declared : (c : Bool) (n d p e m : ℕ) (elements : List (List ℕ)) (children : Trees) → AreDeclared n d p → AreEven d elements → e ≡ element_data c d elements → m ≡ element_pointers c p elements children → IsDeclared n d p e m
+size_declared c n d p e m elements children t even e_is m_is =
+    let a : e ≤ d = omega (arith, e_is, data_within c d elements even) in
+    let b : m ≤ p = omega (arith, m_is, pointers_within c p elements children) in
     let area : n * (e + m) ≤ n * (d + p) = mul-le-mul_left n (omega (arith, a, b)) in
     record { words_within = a; pointers_within = b; elements = omega (arith, area, t.small) }
 
@@ -53,10 +53,10 @@ declared_kept n d p x y e m x_is y_is t k =
     record { words_within = omega (arith, k.words_within, x_is); pointers_within = omega (arith, k.pointers_within, y_is, t.few_pointers); elements = k.elements }
 
 -- its words
-pub list_total : {V : Type 0} (w : V → List ℕ) (h : V → Trees → Type 0) (c : Bool) (d p e m : ℕ) → ((v : V) (t : Trees) → h v t → IsSettled p t) → (vs : List V) (children : Trees) → AreRows h vs children
+pub list_total : {V : Type 0} (w : V → List ℕ) (h : V → Trees → Type 0) (c : Bool) (d p e m : ℕ) → ((v : V) (t : Trees) → h v t → IsSettled p t) → (vs : List V) (children : Trees) → AreElements h vs children
     → e ≡ element_data c d (map w vs) → m ≡ element_pointers c p (map w vs) children → total_words (output c (tree (structs d p (map w vs)) children none)) ≡ 1 + length vs * (e + m) + total_words (output c children)
 list_total w h c d p e m s vs children is e_is m_is =
-    let settled = rows_settled h p s vs children is in
+    let settled = elements_settled h p s vs children is in
     let same : length (map w vs) ≡ length vs = length-map vs w in
     let many : count children ≡ length (map w vs) * p = settled.many ∙ ap (λ (n : ℕ). n * p) (sym same) in
     structs_total c d p (map w vs) children settled.rooms many
@@ -64,10 +64,10 @@ list_total w h c d p e m s vs children is e_is m_is =
     ∙ ap (λ (k : ℕ). 1 + length vs * (k + element_pointers c p (map w vs) children) + total_words (output c children)) (sym e_is)
     ∙ ap (λ (k : ℕ). 1 + length vs * (e + k) + total_words (output c children)) (sym m_is)
 
-pub list_rooms : {V : Type 0} (w : V → List ℕ) (h : V → Trees → Type 0) (d p : ℕ) → ((v : V) (t : Trees) → h v t → IsSettled p t) → (vs : List V) (children : Trees) → AreRows h vs children → AreDeclared (length vs) d p
+pub list_rooms : {V : Type 0} (w : V → List ℕ) (h : V → Trees → Type 0) (d p : ℕ) → ((v : V) (t : Trees) → h v t → IsSettled p t) → (vs : List V) (children : Trees) → AreElements h vs children → AreDeclared (length vs) d p
     → AreEven d (map w vs) → AllHaveRoom (tree (structs d p (map w vs)) children none)
 list_rooms w h d p s vs children is t even =
-    let settled = rows_settled h p s vs children is in
+    let settled = elements_settled h p s vs children is in
     let same : length (map w vs) ≡ length vs = length-map vs w in
     let many : count children ≡ length (map w vs) * p = settled.many ∙ ap (λ (n : ℕ). n * p) (sym same) in
     let area : length (map w vs) * (d + p) ≡ length vs * (d + p) = ap (λ (n : ℕ). n * (d + p)) same in
@@ -75,7 +75,7 @@ list_rooms w h d p s vs children is t even =
 
 -- what is measured of it
 list_words : {V : Type 0} (w : V → List ℕ) (h : V → Trees → Type 0) (c : Bool) (d p e m : ℕ) → ((v : V) (t : Trees) → h v t → IsSettled p t) → (vs : List V) (children trees : Trees) (words : TreeWords)
-    → AreRows h vs children → e ≡ element_data c d (map w vs) → m ≡ element_pointers c p (map w vs) children → words ≡ tree_words c children → trees ≡ tree (structs d p (map w vs)) children none
+    → AreElements h vs children → e ≡ element_data c d (map w vs) → m ≡ element_pointers c p (map w vs) children → words ≡ tree_words c children → trees ≡ tree (structs d p (map w vs)) children none
     → record { as_is = 1 + length vs * (d + p) + words.as_is; output = 1 + length vs * (e + m) + words.output } ≡ tree_words c trees
 list_words w h c d p e m s vs children trees words is e_is m_is words_is whole =
     let a : words.output ≡ total_words (output c children) = ap (λ (x : TreeWords). x.output) words_is in
@@ -87,15 +87,15 @@ list_words w h c d p e m s vs children trees words is e_is m_is words_is whole =
 
 -- what each of some structs keeps
 pub record KeepsOf {V : Type 0} (w : V → List ℕ) (h : V → Trees → Type 0) (c : Bool) (d p e m : ℕ) (vs : List V) : Type 0 where
-  pub words : (children : Trees) → AreRows h vs children → e ≡ element_data c d (map w vs)
-  pub pointers : (children : Trees) → AreRows h vs children → m ≡ element_pointers c p (map w vs) children
+  pub words : (children : Trees) → AreElements h vs children → e ≡ element_data c d (map w vs)
+  pub pointers : (children : Trees) → AreElements h vs children → m ≡ element_pointers c p (map w vs) children
 
 pub list_measured : {V : Type 0} (w : V → List ℕ) (h : V → Trees → Type 0) (r : V → ErrorKind → Type 0) (c : Bool) (d p e m : ℕ) → ((v : V) (t : Trees) → h v t → IsSettled p t) → (vs : List V)
-    (words : TreeWords) (returned : Result TreeWords Error) (as_is output_words : ℕ) → AreDeclared (length vs) d p → returned ≡ Ok words → MeasuresRows w h r c d vs returned → KeepsOf w h c d p e m vs
+    (words : TreeWords) (returned : Result TreeWords Error) (as_is output_words : ℕ) → AreDeclared (length vs) d p → returned ≡ Ok words → MeasuresElements w h r c d vs returned → KeepsOf w h c d p e m vs
     → as_is ≡ 1 + length vs * (d + p) + words.as_is → output_words ≡ 1 + length vs * (e + m) + words.output
     → Measures (λ t. IsStructList w h d p vs t) (λ k. StructListError h r d p vs k) c (Ok (record { as_is = as_is; output = output_words }))
-list_measured w h r c d p e m s vs words returned as_is output_words t was rows kept as_is_same output_is =
-    let ok : MeasuresRows w h r c d vs (Ok words) = subst (λ (x : Result TreeWords Error). MeasuresRows w h r c d vs x) was rows in
+list_measured w h r c d p e m s vs words returned as_is output_words t was elements kept as_is_same output_is =
+    let ok : MeasuresElements w h r c d vs (Ok words) = subst (λ (x : Result TreeWords Error). MeasuresElements w h r c d vs x) was elements in
     let a = ok.measured.returned in
     let own : record { as_is = as_is; output = output_words } ≡ record { as_is = 1 + length vs * (d + p) + words.as_is; output = 1 + length vs * (e + m) + words.output } =
     same_tree_words (record { as_is = as_is; output = output_words })
@@ -119,7 +119,7 @@ list_measured w h r c d p e m s vs words returned as_is output_words t was rows 
       ];
     }
 
--- it fails: by its size, or by one of its rows
+-- it fails: by its size, or by one of its elements
 too_wide : (d p : ℕ) → (2 ^ 16 ≤ d ⊎ 2 ^ 16 ≤ p) → d < 2 ^ 16 → p < 2 ^ 16 → ⊥
 too_wide d p (inl many) a b = omega (arith, many, a)
 too_wide d p (inr many) a b = omega (arith, many, b)
@@ -153,14 +153,14 @@ list_too_large w h r c d p vs error many = record {
   found = λ trees is. absurd (not_too_many (length vs) d p error.kind (record { few_words = is.few_words; few_pointers = is.few_pointers; few = is.few; small = is.small }) many);
   exact = λ kind errors. elim errors [
     | inl others ↦ same_kind (length vs) d p error.kind kind many others
-    | inr rows ↦ absurd (not_too_many (length vs) d p error.kind (record { few_words = rows.0; few_pointers = rows.1; few = rows.2; small = rows.3 }) many)
+    | inr elements ↦ absurd (not_too_many (length vs) d p error.kind (record { few_words = elements.0; few_pointers = elements.1; few = elements.2; small = elements.3 }) many)
   ];
 }
 
 pub list_error : {V : Type 0} (w : V → List ℕ) (h : V → Trees → Type 0) (r : V → ErrorKind → Type 0) (c : Bool) (d p : ℕ) (vs : List V) (returned : Result TreeWords Error) (error : Error)
-    → AreDeclared (length vs) d p → returned ≡ Err error → MeasuresRows w h r c d vs returned → Measures (λ t. IsStructList w h d p vs t) (λ k. StructListError h r d p vs k) c (Err error)
-list_error w h r c d p vs returned error t was rows =
-    let m = (subst (λ (x : Result TreeWords Error). MeasuresRows w h r c d vs x) was rows).measured in
+    → AreDeclared (length vs) d p → returned ≡ Err error → MeasuresElements w h r c d vs returned → Measures (λ t. IsStructList w h d p vs t) (λ k. StructListError h r d p vs k) c (Err error)
+list_error w h r c d p vs returned error t was elements =
+    let m = (subst (λ (x : Result TreeWords Error). MeasuresElements w h r c d vs x) was elements).measured in
     record {
       returned = inr (t.few_words, t.few_pointers, t.few, t.small, m.returned);
       found = λ trees is. let ok : Err error ≡ Ok (tree_words c is.children) = m.found is.children is.children_is in absurd (cc);
@@ -171,9 +171,9 @@ list_error w h r c d p vs returned error t was rows =
     }
 
 -- what its elements lead to has few words
-pub rows_few : {V : Type 0} (w : V → List ℕ) (h : V → Trees → Type 0) (r : V → ErrorKind → Type 0) (c : Bool) (d p n : ℕ) → ((v : V) (t : Trees) → h v t → IsSettled p t) → (vs : List V) (words : TreeWords)
-    → MeasuresRows w h r c d vs (Ok words) → n ≡ length vs → n * (d + p) < 2 ^ 29 → words.as_is + words.output < 2 ^ 59
-rows_few w h r c d p n s vs words rows same few =
-    let one = measured_few (λ t. AreRows h vs t) c (length vs * p) words (rows_settled h p s vs) rows.measured.returned in
+pub elements_few : {V : Type 0} (w : V → List ℕ) (h : V → Trees → Type 0) (r : V → ErrorKind → Type 0) (c : Bool) (d p n : ℕ) → ((v : V) (t : Trees) → h v t → IsSettled p t) → (vs : List V) (words : TreeWords)
+    → MeasuresElements w h r c d vs (Ok words) → n ≡ length vs → n * (d + p) < 2 ^ 29 → words.as_is + words.output < 2 ^ 59
+elements_few w h r c d p n s vs words elements same few =
+    let one = measured_few (λ t. AreElements h vs t) c (length vs * p) words (elements_settled h p s vs) elements.measured.returned in
     let area : n * (d + p) ≡ length vs * (d + p) = ap (λ (k : ℕ). k * (d + p)) same in
     omega (arith, one.0, one.1, area, few)

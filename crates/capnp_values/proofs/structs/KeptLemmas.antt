@@ -1,8 +1,8 @@
--- How many pointers of a row are kept.
+-- How many pointers of a struct are kept.
 use Rattle.std.proofs.Common.{◌≡◌, ℕ, zero, suc, ◌+◌, ◌<◌, ◌≤◌, Bool, true, false, refl, sym, ◌∙◌, ap, arith}
 use Rattle.capnp_layout.specs.Tree.{is_null}
 use Rattle.capnp_layout.specs.Prelude.{Form, null, struct, numbers, pointers, structs, Trees, none, tree, count, keep_tree, cut_nulls, trim, trim_form, trim_children}
-use Rattle.capnp_values.specs.Fields.{kept_row, is_left_out}
+use Rattle.capnp_values.specs.Fields.{kept_fields, is_left_out}
 use Rattle.capnp_values.proofs.values.PartLemmas.{no_trees}
 
 kept_null : (form : Form) (children others : Trees) → count (cut_nulls (trim others)) ≡ 0 → is_null form ≡ true → cut_nulls (trim (tree form children others)) ≡ none
@@ -10,7 +10,7 @@ kept_null null children others e n = ap (λ (t : Trees). keep_tree t null (trim 
 kept_null (struct ws) children others e n = absurd (cc)
 kept_null (numbers c values) children others e n = absurd (cc)
 kept_null pointers children others e n = absurd (cc)
-kept_null (structs d p rows) children others e n = absurd (cc)
+kept_null (structs d p elements) children others e n = absurd (cc)
 
 keep_some : (rest : Trees) (form : Form) (children : Trees) → (count rest ≡ 0 → is_null form ≡ true → ⊥) → keep_tree rest form children ≡ tree form children rest
 keep_some (tree f h r) form children some = refl
@@ -18,14 +18,14 @@ keep_some none null children some = absurd (some refl refl)
 keep_some none (struct ws) children some = refl
 keep_some none (numbers c values) children some = refl
 keep_some none pointers children some = refl
-keep_some none (structs d p rows) children some = refl
+keep_some none (structs d p elements) children some = refl
 
 still_null : (form : Form) (children : Trees) → is_null (trim_form form children) ≡ true → is_null form ≡ true
 still_null null children e = refl
 still_null (struct ws) children e = e
 still_null (numbers c values) children e = e
 still_null pointers children e = e
-still_null (structs d p rows) children e = e
+still_null (structs d p elements) children e = e
 
 -- as many pointers are kept
 pub kept_of_null : (form : Form) (children others : Trees) → count (cut_nulls (trim others)) ≡ 0 → is_null form ≡ true → count (cut_nulls (trim (tree form children others))) ≡ 0
@@ -36,8 +36,8 @@ kept_some : (form : Form) (children others : Trees) → (count (cut_nulls (trim 
 kept_some form children others some =
     keep_some (cut_nulls (trim others)) (trim_form form (trim children)) (trim_children form (trim children)) (λ z n. some z (still_null form (trim children) n))
 
-pub kept_of_some : (c : Bool) (form : Form) (children others : Trees) (kept : ℕ) → kept ≡ count (kept_row c others) → (c ≡ true → kept ≡ 0 → is_null form ≡ true → ⊥)
-    → kept + 1 ≡ count (kept_row c (tree form children others))
+pub kept_of_some : (c : Bool) (form : Form) (children others : Trees) (kept : ℕ) → kept ≡ count (kept_fields c others) → (c ≡ true → kept ≡ 0 → is_null form ≡ true → ⊥)
+    → kept + 1 ≡ count (kept_fields c (tree form children others))
 kept_of_some true form children others kept is some =
     let whole = ap count (kept_some form children others (λ z n. some refl (is ∙ z) n)) in omega (arith, is, whole)
 kept_of_some false form children others kept is some = omega (arith, is)
@@ -67,14 +67,14 @@ null_last true zero form b e last is = is
 null_last true (suc n) form b e last is = absurd (omega (arith, last))
 null_last false n form b e last is = absurd (cc)
 
-pub kept_left_out : (c : Bool) (form : Form) (children others trees : Trees) (n : ℕ) → trees ≡ tree form children others → n ≡ count (kept_row c others) → is_left_out c n form ≡ true
-    → 0 ≡ count (kept_row c trees)
+pub kept_left_out : (c : Bool) (form : Form) (children others trees : Trees) (n : ℕ) → trees ≡ tree form children others → n ≡ count (kept_fields c others) → is_left_out c n form ≡ true
+    → 0 ≡ count (kept_fields c trees)
 kept_left_out false form children others trees n whole is e = absurd (cc)
 kept_left_out true form children others trees n whole is e =
     let l = left_out true n form e in
     sym (ap (λ (t : Trees). count (cut_nulls (trim t))) whole ∙ kept_of_null form children others (sym is ∙ l.1) l.2)
 
-pub kept_left_in : (c : Bool) (form : Form) (children others trees : Trees) (n : ℕ) → trees ≡ tree form children others → n ≡ count (kept_row c others) → is_left_out c n form ≡ false
-    → n + 1 ≡ count (kept_row c trees)
+pub kept_left_in : (c : Bool) (form : Form) (children others trees : Trees) (n : ℕ) → trees ≡ tree form children others → n ≡ count (kept_fields c others) → is_left_out c n form ≡ false
+    → n + 1 ≡ count (kept_fields c trees)
 kept_left_in c form children others trees n whole is e =
-    kept_of_some c form children others n is (left_in c n form e) ∙ sym (ap (λ (t : Trees). count (kept_row c t)) whole)
+    kept_of_some c form children others n is (left_in c n form e) ∙ sym (ap (λ (t : Trees). count (kept_fields c t)) whole)

@@ -8,7 +8,7 @@ use Rattle.capnp_wire.specs.Prelude.{HasWords, HasPart}
 use Rattle.capnp_wire.specs.declared.traits.TreeWords.{TreeWords}
 use Rattle.capnp_wire.proofs.views.PartWordLemmas.{as_is_words, same_tree_words}
 use Rattle.capnp_values.specs.Measured.{Measures}
-use Rattle.capnp_values.specs.Fields.{IsRow, IsSettled, HasTotal}
+use Rattle.capnp_values.specs.Fields.{IsValueInFront, IsSettled, HasTotal}
 use Rattle.capnp_values.proofs.values.PartLemmas.{words_of_part, has_part, part_of}
 
 -- the words of a part, and what is measured of it
@@ -31,29 +31,29 @@ pub part_error : (measured : Result ℕ Error) (kind : ErrorKind) → IsErrAnd m
 part_error (Ok words) kind errors = errors
 part_error (Err error) kind errors = errors
 
--- the words of a row, and what is measured of it
-pub row_measured : (h : Trees → Type 0) (r : ErrorKind → Type 0) (p : ℕ) (measured : Result ℕ Error) → ((trees : Trees) → h trees → IsSettled p trees)
+-- the words of fields, and what is measured of them
+pub fields_measured : (h : Trees → Type 0) (r : ErrorKind → Type 0) (p : ℕ) (measured : Result ℕ Error) → ((trees : Trees) → h trees → IsSettled p trees)
     → MatchResult measured (λ words. HasTotal h words) (λ error. r error.kind) → ((trees : Trees) → h trees → measured ≡ Ok (total_words trees))
     → ((kind : ErrorKind) → r kind → IsErrAnd measured (λ e. e.kind ≡ kind)) → Measures h r false (as_parts measured)
-row_measured h r p (Ok words) settled has found exact = record {
+fields_measured h r p (Ok words) settled has found exact = record {
   returned = (has.0, has.1, (settled has.0 has.1).rooms, ap as_part has.2);
   found = λ trees is. ap as_parts (found trees is);
   exact = exact;
 }
-row_measured h r p (Err error) settled errors found exact = record { returned = errors; found = λ trees is. ap as_parts (found trees is); exact = exact }
+fields_measured h r p (Err error) settled errors found exact = record { returned = errors; found = λ trees is. ap as_parts (found trees is); exact = exact }
 
 same_ok : (r : Result ℕ Error) (x y : ℕ) → r ≡ Ok x → r ≡ Ok y → x ≡ y
 same_ok r x y a b = cc
 
--- the words of a value in front of a row
-pub front_total : (h hs : Trees → Type 0) (own rest : ℕ) → ((trees : Trees) → h trees → count trees ≡ 1) → HasWords h false own → HasTotal hs rest → HasTotal (λ t. IsRow h hs t) (own + rest)
+-- the words of a value in front of others
+pub front_total : (h hs : Trees → Type 0) (own rest : ℕ) → ((trees : Trees) → h trees → count trees ≡ 1) → HasWords h false own → HasTotal hs rest → HasTotal (λ t. IsValueInFront h hs t) (own + rest)
 front_total h hs own rest one w total =
     let p = part_of h false (as_part own) one (as_is_part h own w) in
-    let is : IsRow h hs (tree p.form p.children total.0) = record { form = p.form; children = p.children; rest = total.0; whole = refl; part = p.part; others = total.1 } in
+    let is : IsValueInFront h hs (tree p.form p.children total.0) = record { form = p.form; children = p.children; rest = total.0; whole = refl; part = p.part; others = total.1 } in
     (tree p.form p.children total.0, is, omega (arith, p.as_is_same, total.2))
 
 pub front_found : (h hs : Trees → Type 0) (measured others : Result ℕ Error) (own rest : ℕ) → measured ≡ Ok own → others ≡ Ok rest → ((n : ℕ) → HasWords h false n → measured ≡ Ok n)
-    → ((trees : Trees) → hs trees → others ≡ Ok (total_words trees)) → (trees : Trees) → IsRow h hs trees → own + rest ≡ total_words trees
+    → ((trees : Trees) → hs trees → others ≡ Ok (total_words trees)) → (trees : Trees) → IsValueInFront h hs trees → own + rest ≡ total_words trees
 front_found h hs measured others own rest was was_rest found found_rest trees is =
     let w = as_is_words h false (words_of_part false is.form is.children) (has_part h false is.form is.children is.part) in
     let a : own ≡ total_words (tree is.form is.children none) = same_ok measured own (total_words (tree is.form is.children none)) was (found (total_words (tree is.form is.children none)) w) in

@@ -1,4 +1,4 @@
--- Values as parts of rows: their trees as they are or in canonical form, and their words.
+-- Values as parts of structs and lists: their trees as they are or in canonical form, and their words.
 use Rattle.std.proofs.Common.{◌≡◌, ℕ, ◌+◌, ◌≤◌, Bool, true, false, refl, ◌∙◌, ap, subst, arith}
 use Rattle.capnp_layout.specs.Prelude.{Form, Trees, none, tree, count, total_words, trim, trim_form, trim_children, output, AllHaveRoom}
 use Rattle.capnp_wire.specs.Prelude.{HasPart}

@@ -18,7 +18,7 @@ err_kind {X = X} r error kind is e = subst (λ (a : Result X Error). IsErrAnd a 
 pub same_words : (r : Result TreeWords Error) (x y : TreeWords) → r ≡ Ok x → r ≡ Ok y → x ≡ y
 same_words r x y a b = cc
 
--- the first value of a row fails, or the row after it
+-- the first value fails, or the values after it
 pub error_first : (h : Trees → Type 0) (r rr : ErrorKind → Type 0) (c : Bool) (returned : Result TreeWords Error) (error : Error) (kind : ErrorKind) → returned ≡ Err error
     → ((words : TreeWords) → HasPart h c words → returned ≡ Ok words) → ((k : ErrorKind) → WordsError h r false k → IsErrAnd returned (λ e. e.kind ≡ k)) → FieldsError h r rr kind
     → error.kind ≡ kind

@@ -7,7 +7,7 @@ use Rattle.capnp_layout.specs.Prelude.{Trees}
 use Rattle.capnp_wire.specs.Prelude.{WordsError, HasPart, HasRoomAt}
 use Rattle.capnp_wire.specs.declared.traits.TreeWords.{TreeWords}
 use Rattle.capnp_values.specs.Measured.{Measures}
-use Rattle.capnp_values.specs.Fields.{CanWriteRow, IsRowWritten}
+use Rattle.capnp_values.specs.Fields.{CanWriteFields, AreFieldsWritten}
 use Rattle.capnp_values.specs.Sources.{IsAsDeclared}
 
 -- a part
@@ -28,24 +28,24 @@ words_error_made m c kind (inr (trees, is, many, kind_is)) = inr (trees, m.trees
 pub room_made : {a b : Trees → Type 0} {r s : ErrorKind → Type 0} → IsAsDeclared a b r s → (c : Bool) (next room : ℕ) → HasRoomAt b c next room → HasRoomAt a c next room
 room_made m c next room p = record { trees = p.trees; tree_is = m.trees_are p.trees p.tree_is; rooms = p.rooms; fits = p.fits }
 
--- a row
-pub row_measured : {a b : Trees → Type 0} {r s : ErrorKind → Type 0} → IsAsDeclared a b r s → (c : Bool) (res : Result TreeWords Error) → Measures a r c res → Measures b s c res
-row_measured m c (Ok words) x =
+-- fields
+pub fields_measured : {a b : Trees → Type 0} {r s : ErrorKind → Type 0} → IsAsDeclared a b r s → (c : Bool) (res : Result TreeWords Error) → Measures a r c res → Measures b s c res
+fields_measured m c (Ok words) x =
     let t = x.returned in
     record { returned = (t.0, m.trees_declared t.0 t.1, t.2, t.3); found = λ trees is. x.found trees (m.trees_are trees is); exact = λ kind is. x.exact kind (m.reasons_are kind is) }
-row_measured m c (Err error) x =
+fields_measured m c (Err error) x =
     record { returned = m.reasons_declared error.kind x.returned; found = λ trees is. x.found trees (m.trees_are trees is); exact = λ kind is. x.exact kind (m.reasons_are kind is) }
 
-pub row_made : {a b : Trees → Type 0} {r s : ErrorKind → Type 0} → IsAsDeclared a b r s → (c : Bool) (n next room : ℕ) → CanWriteRow b c n next room → CanWriteRow a c n next room
-row_made m c n next room p = record { trees = p.trees; trees_are = m.trees_are p.trees p.trees_are; some = p.some; fits = p.fits }
+pub fields_made : {a b : Trees → Type 0} {r s : ErrorKind → Type 0} → IsAsDeclared a b r s → (c : Bool) (n next room : ℕ) → CanWriteFields b c n next room → CanWriteFields a c n next room
+fields_made m c n next room p = record { trees = p.trees; trees_are = m.trees_are p.trees p.trees_are; some = p.some; fits = p.fits }
 
-pub row_declared : {a b : Trees → Type 0} {r s : ErrorKind → Type 0} → IsAsDeclared a b r s → (c : Bool) (slot n next : ℕ) (old new : List ℕ) (free : ℕ) → IsRowWritten a c slot n next old new free
-    → IsRowWritten b c slot n next old new free
-row_declared m c slot n next old new free w = record { words_are = λ t is. w.words_are t (m.trees_are t is); next_is = λ t is. w.next_is t (m.trees_are t is) }
+pub fields_declared : {a b : Trees → Type 0} {r s : ErrorKind → Type 0} → IsAsDeclared a b r s → (c : Bool) (slot n next : ℕ) (old new : List ℕ) (free : ℕ) → AreFieldsWritten a c slot n next old new free
+    → AreFieldsWritten b c slot n next old new free
+fields_declared m c slot n next old new free w = record { words_are = λ t is. w.words_are t (m.trees_are t is); next_is = λ t is. w.next_is t (m.trees_are t is) }
 
 -- the trees of a value in a slice are its own
 pub itself : {V : Type 0} (h : V → Trees → Type 0) (r : V → ErrorKind → Type 0) (value : V) → IsAsDeclared (h value) (λ t. h value t) (r value) (λ k. r value k)
 itself h r value = record { trees_are = λ t is. is; trees_declared = λ t is. is; reasons_are = λ k is. is; reasons_declared = λ k is. is }
 
-pub stands_at : {V : Type 0} (values : List V) (i : ℕ) (value there : V) → value ≡ there → there ≡ get_or values i there → value ≡ get_or values i value
-stands_at {V = V} values i value there same is = subst (λ (v : V). v ≡ get_or values i v) (sym same) is
+pub value_is_at : {V : Type 0} (values : List V) (i : ℕ) (value there : V) → value ≡ there → there ≡ get_or values i there → value ≡ get_or values i value
+value_is_at {V = V} values i value there same is = subst (λ (v : V). v ≡ get_or values i v) (sym same) is

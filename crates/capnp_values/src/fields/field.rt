@@ -1,4 +1,4 @@
-//! A field in front of the other fields of a row.
+//! A field in front of the other fields of a struct.
 ghost use Rattle.std.specs.Prelude.{◌≡◌};
 ghost use Rattle.capnp_layout.specs.Prelude.{Form, Trees};
 ghost use Rattle.capnp_values.specs.Fields.{IsPart, is_left_out};
@@ -39,19 +39,19 @@ impl<T, V, F> Field<T, V, F> {
 
 impl<T, V: SetterInput<T>, F: Fields> Fields for Field<T, V, F> {
     ghost use Rattle.std.specs.Prelude.{◌+◌};
-    ghost use Rattle.capnp_values.specs.Fields.{IsRow, FieldsError};
+    ghost use Rattle.capnp_values.specs.Fields.{IsValueInFront, FieldsError};
     ghost use Rattle.capnp_values.specs.FieldLaws.{settled_more};
 
     ghost size = { F.size + 1 };
 
-    ghost has_trees = { λ row trees. IsRow (V.has_tree row.value) (F.has_trees row.rest) trees };
+    ghost has_trees = { λ fields trees. IsValueInFront (V.has_tree fields.value) (F.has_trees fields.rest) trees };
 
-    ghost fails = { λ row kind.
-        FieldsError (V.has_tree row.value) (V.fails row.value) (F.fails row.rest) kind };
+    ghost fails = { λ fields kind.
+        FieldsError (V.has_tree fields.value) (V.fails fields.value) (F.fails fields.rest) kind };
 
-    ghost settled = { λ row trees is.
-        settled_more F.size trees (V.has_tree row.value) (F.has_trees row.rest) is
-        (F.settled row.rest is.rest is.others) };
+    ghost settled = { λ fields trees is.
+        settled_more F.size trees (V.has_tree fields.value) (F.has_trees fields.rest) is
+        (F.settled fields.rest is.rest is.others) };
 
     fn count() -> u32 {
         let more = F::count() + 1;
@@ -96,7 +96,7 @@ impl<T, V: SetterInput<T>, F: Fields> Fields for Field<T, V, F> {
     }
 }
 
-// Whether a value is left out in front of a row that keeps this many pointers.
+// Whether a value is left out in front of fields that keep this many pointers.
 fn is_left_out<T, V: SetterInput<T>>(value: &V, canonical: bool, after: u32) -> bool
     ensures { (form : Form) (children : Trees) → IsPart (V.has_tree value.now) form children →
         result ≡ is_left_out canonical after form }

@@ -1,11 +1,11 @@
-//! The end of a row.
+//! The end of a struct's fields.
 ghost use Rattle.std.specs.Prelude.{◌≡◌};
 
 use crate::fields::Fields;
 use capnp_frame::Result;
 use capnp_wire::traits::TreeWords;
 
-/// A row of no fields.
+/// No fields.
 #[derive(Clone, Copy)]
 pub struct NoFields;
 
@@ -15,11 +15,11 @@ impl Fields for NoFields {
 
     ghost size = { 0 };
 
-    ghost has_trees = { λ row trees. trees ≡ none };
+    ghost has_trees = { λ fields trees. trees ≡ none };
 
-    ghost fails = { λ row kind. ⊥ };
+    ghost fails = { λ fields kind. ⊥ };
 
-    ghost settled = { λ row trees is. settled_none trees is };
+    ghost settled = { λ fields trees is. settled_none trees is };
 
     fn count() -> u32 {
         0

@@ -13,7 +13,7 @@ use Rattle.capnp_layout.specs.Prelude.{words_of, Form, Trees, none, tree, depth,
 use Rattle.capnp_wire.specs.Prelude.{IsInPreorder, IsCanonical, Passes, Ends, fails_with, not_canonical, CanonicityError, no_first_segment, on_the_walk}
 use Rattle.capnp_layout.proofs.objects.ObjectLemmas.{one_tree}
 use Rattle.capnp_wire.proofs.walks.WalkErrorLemmas.{walk_error_has_no_trees}
-use Rattle.capnp_wire.proofs.layouts.LaidOutLemmas.{word_stands}
+use Rattle.capnp_wire.proofs.layouts.LaidOutLemmas.{word_is_there}
 use Rattle.capnp_wire.proofs.walks.EndLemmas.{ends_error, ends_not}
 use Rattle.capnp_wire.proofs.forms.ExactnessLemmas.{tests_are_exact}
 
@@ -24,19 +24,19 @@ root_tree m trees traversed (at {shape = s} {children = h} object inner nowhere)
 pub passes_is_canonical : (segment : List ℕ) (nesting traversed after : ℕ) → All (λ w. w < 2 ^ 64) segment → Passes segment (root ∷ []) nesting traversed 1 after → after ≡ length segment
     → IsCanonical (segment ∷ [])
 passes_is_canonical segment nesting traversed after all p whole =
-    let t = root_tree (segment ∷ []) p.trees traversed p.stand in
-    let stand : Root (segment ∷ []) t.0 t.1 traversed = subst (λ (x : Trees). At (segment ∷ []) (root ∷ []) x traversed) t.2 p.stand in
+    let t = root_tree (segment ∷ []) p.trees traversed p.are_at in
+    let are_at : Root (segment ∷ []) t.0 t.1 traversed = subst (λ (x : Trees). At (segment ∷ []) (root ∷ []) x traversed) t.2 p.are_at in
     let in_preorder : IsInPreorder segment (root ∷ []) 1 (tree t.0 t.1 none) = subst (λ (x : Trees). IsInPreorder segment (root ∷ []) 1 x) t.2 p.in_preorder in
     let trimmed : Trimmed (tree t.0 t.1 none) = subst (λ (x : Trees). Trimmed x) t.2 p.trimmed in
     let long : length segment ≡ 1 + total_words (tree t.0 t.1 none) = sym whole ∙ p.after_is ∙ ap (λ (x : Trees). 1 + total_words x) t.2 in
-    (tests_are_exact segment t.0 t.1 traversed all stand).0 (in_preorder, trimmed, long)
+    (tests_are_exact segment t.0 t.1 traversed all are_at).0 (in_preorder, trimmed, long)
 
 -- what a canonical message passes
 record Whole (segment : List ℕ) : Type 0 where
   form : Form
   children : Trees
   traversed : ℕ
-  stand : Root (segment ∷ []) form children traversed
+  are_at : Root (segment ∷ []) form children traversed
   in_preorder : IsInPreorder segment (root ∷ []) 1 (tree form children none)
   trimmed : Trimmed (tree form children none)
   long : length segment ≡ 1 + total_words (tree form children none)
@@ -44,21 +44,21 @@ record Whole (segment : List ℕ) : Type 0 where
 whole_of : (segment : List ℕ) → All (λ w. w < 2 ^ 64) segment → IsCanonical (segment ∷ []) → Whole segment
 whole_of segment all c =
     let same : segment ≡ c.0 = cc in
-    let stand : Root (segment ∷ []) c.2 c.3 c.4 = c.5 in
-    let t = (tests_are_exact segment c.2 c.3 c.4 all stand).1 c in
-    record { form = c.2; children = c.3; traversed = c.4; stand = stand; in_preorder = t.0; trimmed = t.1; long = t.2 }
+    let are_at : Root (segment ∷ []) c.2 c.3 c.4 = c.5 in
+    let t = (tests_are_exact segment c.2 c.3 c.4 all are_at).1 c in
+    record { form = c.2; children = c.3; traversed = c.4; are_at = are_at; in_preorder = t.0; trimmed = t.1; long = t.2 }
 
 pub ended_is_not : (segment : List ℕ) (nesting : ℕ) (limit : Option ℕ) → All (λ w. w < 2 ^ 64) segment → 1 ≤ length segment → Ends segment (root ∷ []) nesting limit 1 not_canonical
     → IsCanonical (segment ∷ []) → ⊥
 ended_is_not segment nesting limit all some ends c =
     let w = whole_of segment all c in
-    ends_not segment (root ∷ []) nesting 1 limit (tree w.form w.children none) w.traversed all ends w.stand (refl, omega arith, tt) some w.in_preorder w.trimmed
+    ends_not segment (root ∷ []) nesting 1 limit (tree w.form w.children none) w.traversed all ends w.are_at (refl, omega arith, tt) some w.in_preorder w.trimmed
 
 pub longer_is_not : (segment : List ℕ) (nesting traversed after : ℕ) → All (λ w. w < 2 ^ 64) segment → Passes segment (root ∷ []) nesting traversed 1 after → (after ≡ length segment → ⊥)
     → IsCanonical (segment ∷ []) → ⊥
 longer_is_not segment nesting traversed after all p longer c =
     let w = whole_of segment all c in
-    let same = one_tree (segment ∷ []) (root ∷ []) p.trees (tree w.form w.children none) traversed w.traversed p.stand w.stand in
+    let same = one_tree (segment ∷ []) (root ∷ []) p.trees (tree w.form w.children none) traversed w.traversed p.are_at w.are_at in
     longer (p.after_is ∙ ap (λ (x : Trees). 1 + total_words x) same.0 ∙ sym w.long)
 
 -- the segments of a message
@@ -125,9 +125,9 @@ said_exactly m segment nesting limit r kind one exact (on_the_walk {segment = s}
 
 pub said_where_found : (m : List (List ℕ)) (nesting : ℕ) (limit : Option ℕ) (r : Result Bool Error) → MatchResult r (λ is. IsTrue is ↔ IsCanonical m) (λ error. CanonicityError m nesting limit error.kind)
     → (form : Form) (children : Trees) (traversed : ℕ) → Root m form children traversed → depth (tree form children none) ≤ nesting → Within limit traversed → IsOk r
-said_where_found m nesting limit (Ok is) returned form children traversed stand shallow fits = refl
-said_where_found m nesting limit (Err e) returned form children traversed stand shallow fits =
-    absurd (walk_error_has_no_trees m (root ∷ []) nesting traversed limit e.kind (tree form children none) (unsaid_error m nesting limit e.kind returned) stand shallow fits)
+said_where_found m nesting limit (Ok is) returned form children traversed are_at shallow fits = refl
+said_where_found m nesting limit (Err e) returned form children traversed are_at shallow fits =
+    absurd (walk_error_has_no_trees m (root ∷ []) nesting traversed limit e.kind (tree form children none) (unsaid_error m nesting limit e.kind returned) are_at shallow fits)
 
 pub said_error : (m : List (List ℕ)) (nesting : ℕ) (limit : Option ℕ) (r : Result Bool Error) → MatchResult r (λ is. IsTrue is ↔ IsCanonical m) (λ error. CanonicityError m nesting limit error.kind)
     → IfErr r (λ error. WalkError m (root ∷ []) nesting limit error.kind)
@@ -171,6 +171,6 @@ root_some m segment word one there =
 
 pub none_has_no_root : (m : List (List ℕ)) (form : Form) (children : Trees) (traversed : ℕ) → m ≡ [] → Root m form children traversed → ⊥
 none_has_no_root m form children traversed none_there (at {shape = s} object inner tail) =
-    let w = word_stands m root s object in
+    let w = word_is_there m root s object in
     let here : word_at [] root ≡ Some w.0 = subst (λ (x : List (List ℕ)). word_at x root ≡ Some w.0) none_there w.1 in
     cc

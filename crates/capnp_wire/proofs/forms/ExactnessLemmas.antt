@@ -43,7 +43,7 @@ canon_of_preorder segment form children traversed all root in_preorder trimmed l
     let room : AllHaveRoom (tree form children none) = read_has_room (segment ∷ []) (record { segment = 0; word = 0 } ∷ []) (tree form children none) traversed (one_segment segment all) root in
     let laid = laid_of_preorder segment 0 (0 ∷ []) 1 (tree form children none) traversed root room refl (omega arith, tt) (omega arith) in_preorder in
     let first : Holds segment 0 (pointer form (count children) 0 ∷ []) = holds_one segment 0 (pointer form (count children) 0) laid.linked.0 in
-    let there : Holds segment 0 (layout (tree form children none)) = holds_join segment 0 1 (pointer form (count children) 0 ∷ []) (body (tree form children none)) refl first laid.stand in
+    let there : Holds segment 0 (layout (tree form children none)) = holds_join segment 0 1 (pointer form (count children) 0 ∷ []) (body (tree form children none)) refl first laid.are_at in
     let is : segment ≡ layout (tree form children none) = holds_whole segment (layout (tree form children none)) there (omega (arith, length-body (tree form children none) room)) in
     let same : trim (tree form children none) ≡ tree form children none = trim_trimmed (tree form children none) trimmed in
     (is ∙ sym (trim_same form children same), subst (λ (t : Trees). AllReach (0 ∷ []) 1 t) (sym same) (reach_of_preorder segment 0 (0 ∷ []) 1 (tree form children none) in_preorder))
@@ -61,10 +61,10 @@ preorder_of_canon segment form children traversed all root canonical =
     let reach : AllReach (0 ∷ []) 1 (tree form children none) = subst (λ (t : Trees). AllReach (0 ∷ []) 1 t) same canonical.1 in
     let there : Holds (layout (tree form children none)) 1 (body (tree form children none)) =
     holds_right (layout (tree form children none)) 0 1 (pointer form (count children) 0 ∷ []) (body (tree form children none)) refl (holds_all (layout (tree form children none))) in
-    let stand : Holds segment 1 (body (tree form children none)) = subst (λ (words : List ℕ). Holds words 1 (body (tree form children none))) (sym is) there in
+    let are_at : Holds segment 1 (body (tree form children none)) = subst (λ (words : List ℕ). Holds words 1 (body (tree form children none))) (sym is) there in
     let word : slice_get segment 0 ≡ Some (pointer form (count children) 0) = rw is refl in
     let long : length segment ≡ length (layout (tree form children none)) = ap length is in (
-      preorder_of_laid segment 0 (0 ∷ []) 1 (tree form children none) reach room refl (omega arith, tt) (word, refl) stand,
+      preorder_of_laid segment 0 (0 ∷ []) 1 (tree form children none) reach room refl (omega arith, tt) (word, refl) are_at,
       subst (λ (t : Trees). Trimmed t) same (trimmed_trim (tree form children none) room),
       omega (arith, length-body (tree form children none) room),
     )

@@ -1,7 +1,7 @@
 -- The tests of a walk hold exactly where the words are those of a layout.
 use Rattle.std.proofs.Common.{◌≡◌, ℕ, ◌+◌, ◌-◌, ◌*◌, ◌^◌, ◌<◌, ◌≤◌, List, [], ◌∷◌, length, Some, slice_get, refl, sym, ◌∙◌, ap, subst, arith}
 use Rattle.std.proofs.lemmas.List.{nil_from_length}
-use Rattle.capnp_layout.specs.Prelude.{pointer_kind, offset, struct_pointer, list_pointer, minus_one, pointer, HasRoom, Reaches, Form, null, struct, numbers, pointers, structs, Trees, tree, Shape, ShapeStands, PointsTo, is_null, is_object, At, at}
+use Rattle.capnp_layout.specs.Prelude.{pointer_kind, offset, struct_pointer, list_pointer, minus_one, pointer, HasRoom, Reaches, Form, null, struct, numbers, pointers, structs, Trees, tree, Shape, ShapeIsAt, PointsTo, is_null, is_object, At, at}
 use Rattle.capnp_layout.specs.declared.place.Place.{Place}
 use Rattle.capnp_wire.specs.Prelude.{Padded}
 use Rattle.capnp_layout.proofs.words.SubsliceLemmas.{Holds, holds_none}
@@ -28,7 +28,7 @@ at_parts m place others form children rest traversed (at {shape = s} {inside = i
 
 null_object : (segment : List ℕ) (word : ℕ) (shape : Shape) → slice_get segment word ≡ Some 0 → PointsTo (segment ∷ []) (record { segment = 0; word = word }) shape → shape.children ≡ []
 null_object segment word shape here (is_null e) = refl
-null_object segment word shape here (is_object {landing = c} lands w begins stands) = absurd (null_lands_nowhere (segment ∷ []) (record { segment = 0; word = word }) c here lands)
+null_object segment word shape here (is_object {landing = c} lands w begins is_at) = absurd (null_lands_nowhere (segment ∷ []) (record { segment = 0; word = word }) c here lands)
 
 -- an object with a pointer whose offset leads to the next free word
 local_exactly : (segment : List ℕ) (word next tag : ℕ) (form : Form) (children : List Place) (traversed : ℕ) → word < next → next - (word + 1) < 2 ^ 29
@@ -37,9 +37,9 @@ local_exactly : (segment : List ℕ) (word next tag : ℕ) (form : Form) (childr
 local_exactly segment word next tag form children traversed before small there positive is_local offset_is padded object =
     let n = local_object segment word tag (record { form = form; children = children; traversed = traversed }) there positive is_local object in
     let at_next : n.start ≡ next = omega (arith, n.target) in
-    let stands : ShapeStands segment (record { segment = 0; word = next }) tag n.shape = subst (λ (x : ℕ). ShapeStands segment (record { segment = 0; word = x }) tag n.shape) at_next n.stands in
+    let is_at : ShapeIsAt segment (record { segment = 0; word = next }) tag n.shape = subst (λ (x : ℕ). ShapeIsAt segment (record { segment = 0; word = x }) tag n.shape) at_next n.is_at in
     let exact : Exactly segment next n.shape.form n.shape.children (length children) =
-    exactly segment next tag n.shape (length children) stands (ap (λ (l : List Place). length l) n.children_is) (subst (λ (f : Form). Padded segment next f) (sym n.form_is) padded) in
+    exactly segment next tag n.shape (length children) is_at (ap (λ (l : List Place). length l) n.children_is) (subst (λ (f : Form). Padded segment next f) (sym n.form_is) padded) in
     subst (λ (f : Form). Exactly segment next f children (length children)) n.form_is (subst (λ (l : List Place). Exactly segment next n.shape.form l (length children)) n.children_is exact)
 
 struct_exactly : (segment : List ℕ) (word next : ℕ) (words : List ℕ) (children : List Place) (traversed : ℕ) → word < next → 0 < length words + length children → HasRoom (struct words) (length children)
@@ -83,5 +83,5 @@ preorder_object segment word next (numbers c values) children traversed before w
     list_exactly segment word next c (length values) (numbers c values) children traversed before (omega (arith, room.0)) there reach padded object
 preorder_object segment word next pointers children traversed before within room there reach padded object =
     list_exactly segment word next 6 (length children) pointers children traversed before (omega arith) there reach padded object
-preorder_object segment word next (structs d p rows) children traversed before within room there reach padded object =
-    list_exactly segment word next 7 (length rows * (d + p)) (structs d p rows) children traversed before (omega arith) there reach padded object
+preorder_object segment word next (structs d p elements) children traversed before within room there reach padded object =
+    list_exactly segment word next 7 (length elements * (d + p)) (structs d p elements) children traversed before (omega arith) there reach padded object

@@ -5,10 +5,10 @@ use Rattle.std.proofs.lemmas.Option.{slice_get_within}
 use Rattle.std.proofs.Common.{◌≡◌, ◌≢◌, inl, inr, ℕ, zero, suc, ◌+◌, ◌-◌, ◌*◌, ◌<◌, ◌≤◌, List, [], ◌∷◌, ◌++◌, length, take, Some, None, slice_get, slice_index_or, refl, sym, ◌∙◌, ap}
 use Rattle.std.proofs.Common.{subst, arith}
 use Rattle.std.specs.Prelude.{◌↔◌}
-use Rattle.capnp_layout.specs.Prelude.{words_from, places, row_places, rows_from}
+use Rattle.capnp_layout.specs.Prelude.{words_from, places, pointer_places, elements_from}
 use Rattle.capnp_wire.specs.Prelude.{EndsFull, NeedData, NeedPointers, links_at}
 use Rattle.capnp_layout.specs.declared.place.Place.{Place}
-use Rattle.capnp_layout.proofs.trees.RoomLemmas.{length-rows_from}
+use Rattle.capnp_layout.proofs.trees.RoomLemmas.{length-elements_from}
 use Rattle.capnp_layout.proofs.forms.TruncatedLemmas.{drop_first, length-subslice}
 
 pub or_zero : (words : List ℕ) (i : ℕ) → slice_get words i ≡ None → slice_index_or words i 0 ≡ 0
@@ -48,36 +48,36 @@ stretch_ends_full words s n last room some at =
     let e = ends_full_last (words_from words s n) (n - 1) long in
     (λ full is. e.0 full (same ∙ is), λ set. e.1 (λ is. set (sym same ∙ is)))
 
--- one of some rows
-pub row_room : (s w n i most : ℕ) → i < n → s + n * w ≤ most → s + i * w + w ≤ most
-row_room s w n i most less room =
+-- one of some elements
+pub element_room : (s w n i most : ℕ) → i < n → s + n * w ≤ most → s + i * w + w ≤ most
+element_room s w n i most less room =
     let h : w * suc i ≤ w * n = mul-le-mul_left w less in
     omega arith
 
-rows_at : (words : List ℕ) (s d p n i : ℕ) → i < n → slice_get (rows_from words s d p n) i ≡ Some (words_from words (s + i * (d + p)) d)
-rows_at words s d p zero i less = absurd (omega arith)
-rows_at words s d p (suc n) zero less = let here : s ≡ s + 0 * (d + p) = omega arith in ap (λ (k : ℕ). Some (words_from words k d)) here
-rows_at words s d p (suc n) (suc i) less =
+elements_at : (words : List ℕ) (s d p n i : ℕ) → i < n → slice_get (elements_from words s d p n) i ≡ Some (words_from words (s + i * (d + p)) d)
+elements_at words s d p zero i less = absurd (omega arith)
+elements_at words s d p (suc n) zero less = let here : s ≡ s + 0 * (d + p) = omega arith in ap (λ (k : ℕ). Some (words_from words k d)) here
+elements_at words s d p (suc n) (suc i) less =
     let next : s + d + p + i * (d + p) ≡ s + suc i * (d + p) = omega arith in
-    rows_at words (s + d + p) d p n i (omega arith) ∙ ap (λ (k : ℕ). Some (words_from words k d)) next
+    elements_at words (s + d + p) d p n i (omega arith) ∙ ap (λ (k : ℕ). Some (words_from words k d)) next
 
 pub need_data : (words : List ℕ) (s d p n first : ℕ) → s + n * (d + p) ≤ length words → 0 < d → first + 1 ≡ s + d
-    → NeedData d (rows_from words s d p n) ↔ ((i : ℕ) × (i < n) × (slice_index_or words (first + i * (d + p)) 0 ≢ 0))
+    → NeedData d (elements_from words s d p n) ↔ ((i : ℕ) × (i < n) × (slice_index_or words (first + i * (d + p)) 0 ≢ 0))
 need_data words s d p n first room some at = (
   λ need. elim need [
     | inl none ↦ absurd (omega arith)
     | inr found ↦
-        let within : found.0 < n = omega (arith, slice_get_within (rows_from words s d p n) found.0 found.1 found.2, length-rows_from words s d p n) in
-        let there = rows_at words s d p n found.0 within in
+        let within : found.0 < n = omega (arith, slice_get_within (elements_from words s d p n) found.0 found.1 found.2, length-elements_from words s d p n) in
+        let there = elements_at words s d p n found.0 within in
         let same : found.1 ≡ words_from words (s + found.0 * (d + p)) d = cc in
-        let fits = row_room s (d + p) n found.0 (length words) within room in
+        let fits = element_room s (d + p) n found.0 (length words) within room in
         let e = stretch_ends_full words (s + found.0 * (d + p)) d (first + found.0 * (d + p)) (omega arith) some (omega arith) in
         (found.0, within, e.0 (subst (λ (l : List ℕ). EndsFull l) same found.3))
   ],
   λ found.
-      let fits = row_room s (d + p) n found.0 (length words) found.1 room in
+      let fits = element_room s (d + p) n found.0 (length words) found.1 room in
       let e = stretch_ends_full words (s + found.0 * (d + p)) d (first + found.0 * (d + p)) (omega arith) some (omega arith) in
-      inr (found.0, words_from words (s + found.0 * (d + p)) d, rows_at words s d p n found.0 found.1, e.1 found.2),
+      inr (found.0, words_from words (s + found.0 * (d + p)) d, elements_at words s d p n found.0 found.1, e.1 found.2),
 )
 
 -- pointer words
@@ -102,34 +102,34 @@ link_in words number s (suc n) (suc j) less =
     let here : s + 1 + j ≡ s + suc j = omega arith in
     link_in words number (s + 1) n j (omega arith) ∙ ap (λ (k : ℕ). slice_index_or words k 0) here
 
-pub row_link : (words : List ℕ) (number s d p n i j k : ℕ) → i < n → j < p → k ≡ i * p + j
-    → slice_index_or (links_at words (row_places number s d p n)) k 0 ≡ slice_index_or words (s + i * (d + p) + d + j) 0
-row_link words number s d p zero i j k less few is = absurd (omega arith)
-row_link words number s d p (suc n) zero j k less few is =
+pub link_of_element : (words : List ℕ) (number s d p n i j k : ℕ) → i < n → j < p → k ≡ i * p + j
+    → slice_index_or (links_at words (pointer_places number s d p n)) k 0 ≡ slice_index_or words (s + i * (d + p) + d + j) 0
+link_of_element words number s d p zero i j k less few is = absurd (omega arith)
+link_of_element words number s d p (suc n) zero j k less few is =
     let own = links_at words (places number (s + d) p) in
-    let others = links_at words (row_places number (s + d + p) d p n) in
+    let others = links_at words (pointer_places number (s + d + p) d p n) in
     let long : length own ≡ p = length-links words number (s + d) p in
     let at : k ≡ j = omega arith in
     let here : s + d + j ≡ s + 0 * (d + p) + d + j = omega arith in
-    ap (λ (l : List ℕ). slice_index_or l k 0) (links-append words (places number (s + d) p) (row_places number (s + d + p) d p n))
+    ap (λ (l : List ℕ). slice_index_or l k 0) (links-append words (places number (s + d) p) (pointer_places number (s + d + p) d p n))
     ∙ get_or_append_left own others 0 k (omega arith) ∙ ap (λ (i : ℕ). slice_index_or own i 0) at
     ∙ link_in words number (s + d) p j few ∙ ap (λ (i : ℕ). slice_index_or words i 0) here
-row_link words number s d p (suc n) (suc i) j k less few is =
+link_of_element words number s d p (suc n) (suc i) j k less few is =
     let own = links_at words (places number (s + d) p) in
-    let others = links_at words (row_places number (s + d + p) d p n) in
+    let others = links_at words (pointer_places number (s + d + p) d p n) in
     let long : length own ≡ p = length-links words number (s + d) p in
     let at : k ≡ length own + (i * p + j) = omega arith in
     let here : s + d + p + i * (d + p) + d + j ≡ s + suc i * (d + p) + d + j = omega arith in
-    ap (λ (l : List ℕ). slice_index_or l k 0) (links-append words (places number (s + d) p) (row_places number (s + d + p) d p n))
+    ap (λ (l : List ℕ). slice_index_or l k 0) (links-append words (places number (s + d) p) (pointer_places number (s + d + p) d p n))
     ∙ ap (λ (i : ℕ). slice_index_or (own ++ others) i 0) at ∙ get_or-append-add own others (i * p + j) 0
-    ∙ row_link words number (s + d + p) d p n i j (i * p + j) (omega arith) few refl ∙ ap (λ (i : ℕ). slice_index_or words i 0) here
+    ∙ link_of_element words number (s + d + p) d p n i j (i * p + j) (omega arith) few refl ∙ ap (λ (i : ℕ). slice_index_or words i 0) here
 
 pub need_pointers : (words : List ℕ) (number s d p n first : ℕ) → 0 < p → first + 1 ≡ s + d + p
-    → NeedPointers p n (links_at words (row_places number s d p n)) ↔ ((i : ℕ) × (i < n) × (slice_index_or words (first + i * (d + p)) 0 ≢ 0))
+    → NeedPointers p n (links_at words (pointer_places number s d p n)) ↔ ((i : ℕ) × (i < n) × (slice_index_or words (first + i * (d + p)) 0 ≢ 0))
 need_pointers words number s d p n first some at =
-    let same : (i : ℕ) → i < n → slice_index_or (links_at words (row_places number s d p n)) (i * p + p - 1) 0 ≡ slice_index_or words (first + i * (d + p)) 0 = λ i less.
+    let same : (i : ℕ) → i < n → slice_index_or (links_at words (pointer_places number s d p n)) (i * p + p - 1) 0 ≡ slice_index_or words (first + i * (d + p)) 0 = λ i less.
     let here : s + i * (d + p) + d + (p - 1) ≡ first + i * (d + p) = omega arith in
-    row_link words number s d p n i (p - 1) (i * p + p - 1) less (omega arith) (omega arith) ∙ ap (λ (k : ℕ). slice_index_or words k 0) here in (
+    link_of_element words number s d p n i (p - 1) (i * p + p - 1) less (omega arith) (omega arith) ∙ ap (λ (k : ℕ). slice_index_or words k 0) here in (
       λ need. elim need [
         | inl none ↦ absurd (omega arith)
         | inr found ↦ (found.0, found.1, λ is. found.2 (same found.0 found.1 ∙ is))

@@ -1,7 +1,7 @@
 -- What a pointer leads to that is copied.
 use Rattle.std.proofs.Common.{◌≡◌, ℕ, zero, suc, ◌+◌, ◌-◌, ◌*◌, ◌≤◌, Bool, true, false, List, [], ◌∷◌, ◌++◌, ◌<◌, ◌^◌, length, Some, slice_get, refl, sym, ◌∙◌, ap, subst, arith, length-append}
 use Rattle.std.proofs.lemmas.List.{append-nil}
-use Rattle.capnp_layout.specs.Prelude.{words_of, words_from, null, Trees, none, tree, total_words, nothing, places, word_at, is_null as null_there, IsObject, words_in, At, body, run, pointer_to, output, put, fill, row_size, row_count, first_row, kept_places, kept_in, slots_of, IsNarrower, output_body_of, pointer_of_body, local_struct_of}
+use Rattle.capnp_layout.specs.Prelude.{words_of, words_from, null, Trees, none, tree, total_words, nothing, places, word_at, is_null as null_there, IsObject, words_in, At, body, run, pointer_to, output, put, fill, section_sizes, section_count, first_section, kept_places, kept_in, slots_of, IsNarrower, output_body_of, pointer_of_body, local_struct_of}
 use Rattle.capnp_wire.specs.Prelude.{CanCopy, IsCopied, Copies, IsCopyable, Begins, BeginsRun, put_own}
 use Rattle.capnp_layout.specs.declared.place.Place.{Place}
 use Rattle.capnp_layout.specs.declared.fast_path.LocalStruct.{LocalStruct}
@@ -31,8 +31,8 @@ opened_here {m} {place} {object} {copied} {nesting} {c} {next} {room} can is cop
     )) is.elements in
     subst (λ (b : Body). Opened m (words_of object.segment.now) object.start object.body b (nesting - 1) c next room can.trees) (sym copied_is) o
 
--- a copy has as many rows, with no more pointers in each
-pub fewer_pointers : (from copied : Body) → IsNarrower from copied → ((row_size copied).pointers ≤ (row_size from).pointers) × (row_count copied ≡ row_count from)
+-- a copy has as many sections, with no more pointers in each
+pub fewer_pointers : (from copied : Body) → IsNarrower from copied → ((section_sizes copied).pointers ≤ (section_sizes from).pointers) × (section_count copied ≡ section_count from)
 fewer_pointers (Struct from) (Struct size) is = (is.1, refl)
 fewer_pointers (Numbers from n) (Numbers size k) is = (omega arith, refl)
 fewer_pointers (Pointers n) (Pointers k) is = (omega arith, refl)
@@ -58,10 +58,10 @@ kept_many segment start d p q (suc n) =
 
 pub as_many : (start begin : Place) (from copied : Body) (q : ℕ) → IsNarrower from copied → length (kept_in start from q) ≡ length (kept_in begin copied q)
 as_many start begin from copied q is =
-    let rows : row_count copied ≡ row_count from = (fewer_pointers from copied is).1 in
-    kept_many start.segment (first_row from start.word) (row_size from).data_words (row_size from).pointers q (row_count from)
-    ∙ ap (λ (n : ℕ). n * q) (sym rows)
-    ∙ sym (kept_many begin.segment (first_row copied begin.word) (row_size copied).data_words (row_size copied).pointers q (row_count copied))
+    let same_count : section_count copied ≡ section_count from = (fewer_pointers from copied is).1 in
+    kept_many start.segment (first_section from start.word) (section_sizes from).data_words (section_sizes from).pointers q (section_count from)
+    ∙ ap (λ (n : ℕ). n * q) (sym same_count)
+    ∙ sym (kept_many begin.segment (first_section copied begin.word) (section_sizes copied).data_words (section_sizes copied).pointers q (section_count copied))
 
 -- null, and what no copyable pointer is
 null_output : (c : Bool) → output c (tree null none none) ≡ tree null none none
@@ -69,9 +69,9 @@ null_output true = refl
 null_output false = refl
 
 null_copied : (m : List (List ℕ)) (place : Place) (c : Bool) (trees : Trees) (traversed : ℕ) → word_at m place ≡ Some 0 → At m (place ∷ []) trees traversed → output c trees ≡ tree null none none
-null_copied m place c trees traversed word stand =
-    let u = under m place nothing trees traversed stand (null_there word) in
-    let children_is : u.children ≡ none = none_at m u.children u.inside u.stand in
+null_copied m place c trees traversed word are_at =
+    let u = under m place nothing trees traversed are_at (null_there word) in
+    let children_is : u.children ≡ none = none_at m u.children u.inside u.are_at in
     let whole : trees ≡ tree null none none = u.whole ∙ ap (λ (t : Trees). tree null t none) children_is in
     ap (output c) whole ∙ null_output c
 
@@ -79,8 +79,8 @@ null_copied m place c trees traversed word stand =
 pub null_is_copied : {m : List (List ℕ)} {place : Place} {gap next : ℕ} {block : List ℕ} (c : Bool) → word_at m place ≡ Some 0
     → Copies m place c gap next block block (record { pointer = 0; next = next })
 null_is_copied {m} {place} {gap} {next} {block} c word = record {
-  is = λ trees traversed stand.
-      let is = null_copied m place c trees traversed word stand in
+  is = λ trees traversed are_at.
+      let is = null_copied m place c trees traversed word are_at in
       record {
         words_are = sym (ap (λ (t : Trees). put next (body t) block) is ∙ put_none next block);
         pointer_is = sym (ap (λ (t : Trees). pointer_to t gap) is);
@@ -93,18 +93,18 @@ pub object_begins : {m : List (List ℕ)} {place : Place} {words : List ℕ} {st
     {old mid : List ℕ} (can : CanCopy m (place ∷ []) nesting c next (length old))
     → Opened m words start from copied (nesting - 1) c next (length old) can.trees → mid ≡ put_own words start.word from copied next old → length mid ≡ length old
     → pointer ≡ pointer_of_body copied gap
-    → Begins m place (kept_in start from (row_size copied).pointers) (slots_of next copied) nesting c gap next (next + words_in copied) old mid pointer
+    → Begins m place (kept_in start from (section_sizes copied).pointers) (slots_of next copied) nesting c gap next (next + words_in copied) old mid pointer
 object_begins {m} {place} {words} {start} {from} {copied} {nesting} {c} {gap} {next} {pointer} {old} {mid} can o mid_is mid_long pointer_is =
     let k = o.kept in
     record {
-      there = subst (λ (n : ℕ). CanCopy m (kept_in start from (row_size copied).pointers) (nesting - 1) c (next + words_in copied) n) (sym mid_long) k;
+      there = subst (λ (n : ℕ). CanCopy m (kept_in start from (section_sizes copied).pointers) (nesting - 1) c (next + words_in copied) n) (sym mid_long) k;
       ends = λ new free done. record {
-        is = λ trees traversed stand.
-            let same = one_tree m (place ∷ []) can.trees trees can.traversed traversed can.stand stand in
+        is = λ trees traversed are_at.
+            let same = one_tree m (place ∷ []) can.trees trees can.traversed traversed can.are_at are_at in
             subst (λ (t : Trees). IsCopied (output c t) gap next old new (record { pointer = pointer; next = free })) same.0 (record {
-              words_are = done.words_are k.trees k.traversed k.stand ∙ ap (λ (b : List ℕ). fill (slots_of next copied) (next + words_in copied) (output c k.trees) b) mid_is ∙ o.fills old refl;
+              words_are = done.words_are k.trees k.traversed k.are_at ∙ ap (λ (b : List ℕ). fill (slots_of next copied) (next + words_in copied) (output c k.trees) b) mid_is ∙ o.fills old refl;
               pointer_is = pointer_is ∙ o.pointers_are gap;
-              next_is = omega (arith, done.next_is k.trees k.traversed k.stand, o.totals);
+              next_is = omega (arith, done.next_is k.trees k.traversed k.are_at, o.totals);
             });
       };
     }
@@ -145,7 +145,7 @@ copyable {m} {place} {object} {nesting} can is = record { m = m; place = place; 
 
 -- The pointers of a list of pointers are consecutive, and so are their slots.
 pub record AreInRun (start : Place) (from copied : Body) (next n : ℕ) : Type 0 where
-  pub places_are : kept_in start from (row_size copied).pointers ≡ places start.segment start.word n
+  pub places_are : kept_in start from (section_sizes copied).pointers ≡ places start.segment start.word n
   pub slots_are : slots_of next copied ≡ run next n
   pub words_are : words_in copied ≡ n
 
@@ -160,7 +160,7 @@ in_run start from copied next n from_is narrower =
     let copied_is : copied ≡ Pointers n = list_narrower n copied (subst (λ (b : Body). IsNarrower b copied) from_is narrower) in
     let here : next + 0 ≡ next = omega arith in
     record {
-      places_are = ap (λ (b : Body). kept_in start b (row_size copied).pointers) from_is ∙ ap (λ (b : Body). kept_in start (Pointers n) (row_size b).pointers) copied_is
+      places_are = ap (λ (b : Body). kept_in start b (section_sizes copied).pointers) from_is ∙ ap (λ (b : Body). kept_in start (Pointers n) (section_sizes b).pointers) copied_is
           ∙ kept_children [] start (Pointers n);
       slots_are = ap (slots_of next) copied_is ∙ append-nil (run (next + 0) n) ∙ ap (λ (k : ℕ). run k n) here;
       words_are = ap words_in copied_is;

@@ -3,15 +3,15 @@ use Rattle.std.proofs.Common.{◌≡◌, ℕ, zero, suc, ◌+◌, ◌*◌, ◌^�
 use Rattle.std.proofs.Common.{length-drop, append_assoc}
 use Rattle.std.proofs.lemmas.List.{take-append-drop, drop_at}
 use Rattle.std.proofs.lemmas.Option.{slice_get_within}
-use Rattle.capnp_layout.specs.Prelude.{digits, number_of, words_from, pointer_kind, offset, data_words, pointer_words, code, list_count, struct_pointer, run, row_run, slots, woven, own, placed, width, words_for, Form, struct, numbers, pointers, structs, Shape, ShapeStands, places, row_places, rows_from, a_struct, some_numbers, some_pointers, some_structs}
+use Rattle.capnp_layout.specs.Prelude.{digits, number_of, words_from, pointer_kind, offset, data_words, pointer_words, code, list_count, struct_pointer, run, element_runs, slots, woven, own, placed, width, words_for, Form, struct, numbers, pointers, structs, Shape, ShapeIsAt, places, pointer_places, elements_from, a_struct, some_numbers, some_pointers, some_structs}
 use Rattle.capnp_layout.specs.declared.place.Place.{Place}
 use Rattle.capnp_wire.specs.Prelude.{Padded}
 use Rattle.capnp_layout.proofs.words.SubsliceLemmas.{Holds, holds_none, holds_same}
 use Rattle.capnp_layout.proofs.words.DigitLemmas.{length-digits}
 use Rattle.capnp_layout.proofs.layouts.SizeLemmas.{length-run}
-use Rattle.capnp_layout.proofs.pointers.SlotLemmas.{Linked, placed-run, placed-row_run}
+use Rattle.capnp_layout.proofs.pointers.SlotLemmas.{Linked, placed-run, placed-element_runs}
 use Rattle.capnp_layout.proofs.objects.FieldLemmas.{length-places}
-use Rattle.capnp_layout.proofs.trees.RoomLemmas.{length-row_places, length-rows_from}
+use Rattle.capnp_layout.proofs.trees.RoomLemmas.{length-pointer_places, length-elements_from}
 
 holds_rest : (segment : List ℕ) (start : ℕ) (words : List ℕ) (h : Holds segment start words) → drop (start + length words) segment ≡ h.rest
 holds_rest segment start words h =
@@ -67,25 +67,25 @@ linked_cut segment base (x ∷ s) t (l ∷ links) linked =
     let rest = linked_cut segment base s t links linked.1 in
     record { left = (linked.0, rest.left); right = rest.right; long = omega (arith, rest.long) }
 
-rows_linked : (segment : List ℕ) (base at start d p n : ℕ) (links : List ℕ) → base + start ≡ at → at + n * (d + p) ≤ length segment
-    → Linked segment base (row_run start d p (rows_from segment at d p n)) links → Holds segment at (woven p (rows_from segment at d p n) links)
-rows_linked segment base at start d p zero links here room linked = holds_none segment at (omega arith)
-rows_linked segment base at start d p (suc n) links here room linked =
+elements_linked : (segment : List ℕ) (base at start d p n : ℕ) (links : List ℕ) → base + start ≡ at → at + n * (d + p) ≤ length segment
+    → Linked segment base (element_runs start d p (elements_from segment at d p n)) links → Holds segment at (woven p (elements_from segment at d p n) links)
+elements_linked segment base at start d p zero links here room linked = holds_none segment at (omega arith)
+elements_linked segment base at start d p (suc n) links here room linked =
     let split : suc n * (d + p) ≡ (d + p) + n * (d + p) = omega arith in
-    let cut = linked_cut segment base (run (start + d) p) (row_run (start + d + p) d p (rows_from segment (at + d + p) d p n)) links linked in
+    let cut = linked_cut segment base (run (start + d) p) (element_runs (start + d + p) d p (elements_from segment (at + d + p) d p n)) links linked in
     let long : length (run (start + d) p) ≡ p = length-run (start + d) p in
     let enough : p ≤ length links = omega (arith, cut.long) in
     let own_long : length (take p links) ≡ p = omega (arith, length-take p links) in
     let wide : length (words_from segment at d) ≡ d = omega (arith, length-take d (drop at segment), length-drop at segment) in
     let left : Linked segment base (run (start + d) p) (take p links) = subst (λ (k : ℕ). Linked segment base (run (start + d) p) (take k links)) long cut.left in
-    let right : Linked segment base (row_run (start + d + p) d p (rows_from segment (at + d + p) d p n)) (drop p links) =
-    subst (λ (k : ℕ). Linked segment base (row_run (start + d + p) d p (rows_from segment (at + d + p) d p n)) (drop k links)) long cut.right in
+    let right : Linked segment base (element_runs (start + d + p) d p (elements_from segment (at + d + p) d p n)) (drop p links) =
+    subst (λ (k : ℕ). Linked segment base (element_runs (start + d + p) d p (elements_from segment (at + d + p) d p n)) (drop k links)) long cut.right in
     let own : Holds segment (at + d) (take p links) =
     run_linked segment base (at + d) (start + d) (take p links) (omega arith) (omega arith) (subst (λ (k : ℕ). Linked segment base (run (start + d) k) (take p links)) (sym own_long) left) in
-    let others = rows_linked segment base (at + d + p) (start + d + p) d p n (drop p links) (omega arith) (omega arith) right in
+    let others = elements_linked segment base (at + d + p) (start + d + p) d p n (drop p links) (omega arith) (omega arith) right in
     let front : Holds segment at (words_from segment at d ++ take p links) =
     holds_join segment at (at + d) (words_from segment at d) (take p links) (omega arith) (holds_from segment at d (omega arith)) own in
-    holds_join segment at (at + d + p) (words_from segment at d ++ take p links) (woven p (rows_from segment (at + d + p) d p n) (drop p links))
+    holds_join segment at (at + d + p) (words_from segment at d ++ take p links) (woven p (elements_from segment (at + d + p) d p n) (drop p links))
     (omega (arith, length-append (words_from segment at d) (take p links))) front others
 
 -- the pointers are where they belong, and then so are the object's own words
@@ -126,26 +126,26 @@ exactly_pointers segment next p room =
     }
 
 exactly_structs : (segment : List ℕ) (next inner d p k : ℕ) → next + 1 + k * (d + p) ≤ length segment → slice_get segment next ≡ Some inner → inner ≡ struct_pointer k d p
-    → Exactly segment next (structs d p (rows_from segment (next + 1) d p k)) (row_places 0 (next + 1) d p k) (k * p)
+    → Exactly segment next (structs d p (elements_from segment (next + 1) d p k)) (pointer_places 0 (next + 1) d p k) (k * p)
 exactly_structs segment next inner d p k room there is =
-    let many : length (rows_from segment (next + 1) d p k) ≡ k = length-rows_from segment (next + 1) d p k in
-    let stand : placed 0 next (row_run 1 d p (rows_from segment (next + 1) d p k)) ≡ row_places 0 (next + 1) d p (length (rows_from segment (next + 1) d p k)) =
-    placed-row_run 0 next (next + 1) 1 d p (rows_from segment (next + 1) d p k) refl in
-    let stand_k : placed 0 next (row_run 1 d p (rows_from segment (next + 1) d p k)) ≡ row_places 0 (next + 1) d p k = stand ∙ ap (row_places 0 (next + 1) d p) many in
+    let many : length (elements_from segment (next + 1) d p k) ≡ k = length-elements_from segment (next + 1) d p k in
+    let are_at : placed 0 next (element_runs 1 d p (elements_from segment (next + 1) d p k)) ≡ pointer_places 0 (next + 1) d p (length (elements_from segment (next + 1) d p k)) =
+    placed-element_runs 0 next (next + 1) 1 d p (elements_from segment (next + 1) d p k) refl in
+    let are_at_k : placed 0 next (element_runs 1 d p (elements_from segment (next + 1) d p k)) ≡ pointer_places 0 (next + 1) d p k = are_at ∙ ap (pointer_places 0 (next + 1) d p) many in
     record {
-      children_is = sym stand_k;
+      children_is = sym are_at_k;
       holds = λ links long linked.
-          let tag_is : inner ≡ struct_pointer (length (rows_from segment (next + 1) d p k)) d p = is ∙ ap (λ (n : ℕ). struct_pointer n d p) (sym many) in
-          let front : Holds segment next (struct_pointer (length (rows_from segment (next + 1) d p k)) d p ∷ []) =
+          let tag_is : inner ≡ struct_pointer (length (elements_from segment (next + 1) d p k)) d p = is ∙ ap (λ (n : ℕ). struct_pointer n d p) (sym many) in
+          let front : Holds segment next (struct_pointer (length (elements_from segment (next + 1) d p k)) d p ∷ []) =
           subst (λ (w : ℕ). Holds segment next (w ∷ [])) tag_is (holds_one segment next inner there) in
-          let back = rows_linked segment next (next + 1) 1 d p k links refl room linked in
-          holds_join segment next (next + 1) (struct_pointer (length (rows_from segment (next + 1) d p k)) d p ∷ []) (woven p (rows_from segment (next + 1) d p k) links) refl front back;
+          let back = elements_linked segment next (next + 1) 1 d p k links refl room linked in
+          holds_join segment next (next + 1) (struct_pointer (length (elements_from segment (next + 1) d p k)) d p ∷ []) (woven p (elements_from segment (next + 1) d p k) links) refl front back;
     }
 
 struct_parts : (word : ℕ) → pointer_kind word ≡ 0 → word ≡ struct_pointer (offset word) (data_words word) (pointer_words word)
 struct_parts word k = omega arith
 
-pub exactly : (segment : List ℕ) (next tag : ℕ) (shape : Shape) (n : ℕ) → ShapeStands segment (record { segment = 0; word = next }) tag shape → length shape.children ≡ n → Padded segment next shape.form
+pub exactly : (segment : List ℕ) (next tag : ℕ) (shape : Shape) (n : ℕ) → ShapeIsAt segment (record { segment = 0; word = next }) tag shape → length shape.children ≡ n → Padded segment next shape.form
     → Exactly segment next shape.form shape.children n
 exactly segment next tag shape n (a_struct k room) long padded =
     let same : pointer_words tag ≡ n = omega (arith, length-places 0 (next + data_words tag) (pointer_words tag)) in
@@ -163,7 +163,7 @@ exactly segment next tag shape n (some_pointers k c room) long padded =
     subst (λ (i : ℕ). Exactly segment next pointers (places 0 next (list_count tag)) i) same (exactly_pointers segment next (list_count tag) room)
 exactly segment next tag shape n (some_structs {tag = inner} k c room there l fits) long padded =
     let tag_is : inner ≡ struct_pointer (offset inner) (data_words inner) (pointer_words inner) = struct_parts inner l in
-    let same : offset inner * pointer_words inner ≡ n = omega (arith, length-row_places 0 (next + 1) (data_words inner) (pointer_words inner) (offset inner)) in
-    subst (λ (i : ℕ). Exactly segment next (structs (data_words inner) (pointer_words inner) (rows_from segment (next + 1) (data_words inner) (pointer_words inner) (offset inner)))
-    (row_places 0 (next + 1) (data_words inner) (pointer_words inner) (offset inner)) i) same
+    let same : offset inner * pointer_words inner ≡ n = omega (arith, length-pointer_places 0 (next + 1) (data_words inner) (pointer_words inner) (offset inner)) in
+    subst (λ (i : ℕ). Exactly segment next (structs (data_words inner) (pointer_words inner) (elements_from segment (next + 1) (data_words inner) (pointer_words inner) (offset inner)))
+    (pointer_places 0 (next + 1) (data_words inner) (pointer_words inner) (offset inner)) i) same
     (exactly_structs segment next inner (data_words inner) (pointer_words inner) (offset inner) (omega arith) there tag_is)

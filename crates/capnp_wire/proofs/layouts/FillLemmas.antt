@@ -2,9 +2,9 @@
 use Rattle.std.proofs.lemmas.List.{take-append-drop, append-nil}
 use Rattle.std.proofs.lemmas.List.Elements.{All-head, All-tail}
 use Rattle.std.proofs.Common.{◌≡◌, ℕ, suc, ◌+◌, ◌-◌, ◌*◌, ◌≤◌, List, [], ◌∷◌, ◌++◌, length, take, drop, refl, sym, ◌∙◌, ap, subst, arith, append_assoc, length-append, length-take, length-drop}
-use Rattle.capnp_layout.specs.Prelude.{Form, null, struct, numbers, pointers, structs, Trees, none, tree, count, object_size, total_words, pointer, run, row_run, slots, pointers_to, woven, own, body, struct_pointer, HasRoom, AllHaveRoom, put, fill, moved}
+use Rattle.capnp_layout.specs.Prelude.{Form, null, struct, numbers, pointers, structs, Trees, none, tree, count, object_size, total_words, pointer, run, element_runs, slots, pointers_to, woven, own, body, struct_pointer, HasRoom, AllHaveRoom, put, fill, moved}
 use Rattle.capnp_layout.proofs.pointers.SlotLemmas.{AllOf}
-use Rattle.capnp_layout.proofs.layouts.SizeLemmas.{Before, before_more, length-run, length-slots, slots_before, length-own, length-body, links_of, length-links, rows_even}
+use Rattle.capnp_layout.proofs.layouts.SizeLemmas.{Before, before_more, length-run, length-slots, slots_before, length-own, length-body, links_of, length-links, elements_even}
 use Rattle.capnp_layout.proofs.layouts.BlockLemmas.{put_parts, put_none, put_both, put_inside, length-put}
 use Rattle.capnp_wire.proofs.layouts.BlockLemmas.{put_apart}
 
@@ -83,32 +83,32 @@ set_run start front (o ∷ olds) (x ∷ links) rest here long =
     ap (λ (l : List ℕ). set_all (run (start + 1) (length links)) links l) (one ∙ seam (olds ++ rest))
     ∙ set_run (start + 1) (front ++ (x ∷ [])) olds links rest (omega (arith, length-append front (x ∷ []))) (omega arith) ∙ sym (seam (links ++ rest))
 
--- the slots of rows
-set_rows : (start d p : ℕ) (rows : List (List ℕ)) (front olds links rest : List ℕ) → length front ≡ start → AllOf d rows → length olds ≡ length rows * p → length links ≡ length rows * p
-    → set_all (row_run start d p rows) links (front ++ (woven p rows olds ++ rest)) ≡ front ++ (woven p rows links ++ rest)
-set_rows start d p [] front olds links rest here even long there = refl
-set_rows start d p (row ∷ rows) front olds links rest here even long there =
-    let wide : length row ≡ d = All-head (λ r. length r ≡ d) row rows even in
-    let split : suc (length rows) * p ≡ p + length rows * p = omega arith in
+-- the slots of elements
+set_elements : (start d p : ℕ) (elements : List (List ℕ)) (front olds links rest : List ℕ) → length front ≡ start → AllOf d elements → length olds ≡ length elements * p → length links ≡ length elements * p
+    → set_all (element_runs start d p elements) links (front ++ (woven p elements olds ++ rest)) ≡ front ++ (woven p elements links ++ rest)
+set_elements start d p [] front olds links rest here even long there = refl
+set_elements start d p (element ∷ elements) front olds links rest here even long there =
+    let wide : length element ≡ d = All-head (λ r. length r ≡ d) element elements even in
+    let split : suc (length elements) * p ≡ p + length elements * p = omega arith in
     let some_links : length (take p links) ≡ p = omega (arith, length-take p links) in
     let some_olds : length (take p olds) ≡ p = omega (arith, length-take p olds) in
-    let seam : (zs ws : List ℕ) → front ++ (((row ++ zs) ++ ws) ++ rest) ≡ (front ++ row) ++ (zs ++ (ws ++ rest)) =
-    λ zs ws. ap (λ (l : List ℕ). front ++ l) (append_assoc (row ++ zs) ws rest ∙ append_assoc row zs (ws ++ rest)) ∙ sym (append_assoc front row (zs ++ (ws ++ rest))) in
+    let seam : (zs ws : List ℕ) → front ++ (((element ++ zs) ++ ws) ++ rest) ≡ (front ++ element) ++ (zs ++ (ws ++ rest)) =
+    λ zs ws. ap (λ (l : List ℕ). front ++ l) (append_assoc (element ++ zs) ws rest ∙ append_assoc element zs (ws ++ rest)) ∙ sym (append_assoc front element (zs ++ (ws ++ rest))) in
     let links_are : take p links ++ drop p links ≡ links = take-append-drop p links in
-    let first : set_all (run (start + d) p) (take p links) ((front ++ row) ++ (take p olds ++ (woven p rows (drop p olds) ++ rest))) ≡ (front ++ row) ++ (take p links ++ (woven p rows
+    let first : set_all (run (start + d) p) (take p links) ((front ++ element) ++ (take p olds ++ (woven p elements (drop p olds) ++ rest))) ≡ (front ++ element) ++ (take p links ++ (woven p elements
     (drop p olds) ++ rest)) =
-    ap (λ (n : ℕ). set_all (run (start + d) n) (take p links) ((front ++ row) ++ (take p olds ++ (woven p rows (drop p olds) ++ rest)))) (sym some_links)
-    ∙ set_run (start + d) (front ++ row) (take p olds) (take p links) (woven p rows (drop p olds) ++ rest) (omega (arith, length-append front row)) (some_olds ∙ sym some_links) in
-    let join : (zs : List ℕ) → (front ++ row) ++ (take p links ++ zs) ≡ ((front ++ row) ++ take p links) ++ zs = λ zs. sym (append_assoc (front ++ row) (take p links) zs) in
-    let others = set_rows (start + d + p) d p rows ((front ++ row) ++ take p links) (drop p olds) (drop p links) rest
-    (omega (arith, length-append (front ++ row) (take p links), length-append front row)) (All-tail (λ r. length r ≡ d) row rows even) (omega (arith, length-drop p olds))
+    ap (λ (n : ℕ). set_all (run (start + d) n) (take p links) ((front ++ element) ++ (take p olds ++ (woven p elements (drop p olds) ++ rest)))) (sym some_links)
+    ∙ set_run (start + d) (front ++ element) (take p olds) (take p links) (woven p elements (drop p olds) ++ rest) (omega (arith, length-append front element)) (some_olds ∙ sym some_links) in
+    let join : (zs : List ℕ) → (front ++ element) ++ (take p links ++ zs) ≡ ((front ++ element) ++ take p links) ++ zs = λ zs. sym (append_assoc (front ++ element) (take p links) zs) in
+    let others = set_elements (start + d + p) d p elements ((front ++ element) ++ take p links) (drop p olds) (drop p links) rest
+    (omega (arith, length-append (front ++ element) (take p links), length-append front element)) (All-tail (λ r. length r ≡ d) element elements even) (omega (arith, length-drop p olds))
     (omega (arith, length-drop p links)) in
-    ap (λ (l : List ℕ). set_all (run (start + d) p ++ row_run (start + d + p) d p rows) l (front ++ (((row ++ take p olds) ++ woven p rows (drop p olds)) ++ rest))) (sym links_are)
-    ∙ set_append (run (start + d) p) (row_run (start + d + p) d p rows) (take p links) (drop p links) (front ++ (((row ++ take p olds) ++ woven p rows (drop p olds)) ++ rest)) (length-run
+    ap (λ (l : List ℕ). set_all (run (start + d) p ++ element_runs (start + d + p) d p elements) l (front ++ (((element ++ take p olds) ++ woven p elements (drop p olds)) ++ rest))) (sym links_are)
+    ∙ set_append (run (start + d) p) (element_runs (start + d + p) d p elements) (take p links) (drop p links) (front ++ (((element ++ take p olds) ++ woven p elements (drop p olds)) ++ rest)) (length-run
     (start + d) p ∙ sym some_links)
-    ∙ ap (λ (l : List ℕ). set_all (row_run (start + d + p) d p rows) (drop p links) (set_all (run (start + d) p) (take p links) l)) (seam (take p olds) (woven p rows (drop p olds)))
-    ∙ ap (λ (l : List ℕ). set_all (row_run (start + d + p) d p rows) (drop p links) l) (first ∙ join (woven p rows (drop p olds) ++ rest))
-    ∙ others ∙ sym (join (woven p rows (drop p links) ++ rest)) ∙ sym (seam (take p links) (woven p rows (drop p links)))
+    ∙ ap (λ (l : List ℕ). set_all (element_runs (start + d + p) d p elements) (drop p links) (set_all (run (start + d) p) (take p links) l)) (seam (take p olds) (woven p elements (drop p olds)))
+    ∙ ap (λ (l : List ℕ). set_all (element_runs (start + d + p) d p elements) (drop p links) l) (first ∙ join (woven p elements (drop p olds) ++ rest))
+    ∙ others ∙ sym (join (woven p elements (drop p links) ++ rest)) ∙ sym (seam (take p links) (woven p elements (drop p links)))
 
 -- an object's own words with other pointers
 own_set : (form : Form) (olds links more : List ℕ) → HasRoom form (length links) → length olds ≡ length links
@@ -121,8 +121,8 @@ own_set (struct words) olds links more room long =
 own_set (numbers code values) olds [] more room long = refl
 own_set (numbers code values) olds (x ∷ links) more room long = absurd (omega (arith, room.2))
 own_set pointers olds links more room long = set_run 0 [] olds links more refl long
-own_set (structs d p rows) olds links more room long =
-    set_rows 1 d p rows (struct_pointer (length rows) d p ∷ []) olds links more refl (rows_even d rows room.5) (long ∙ room.4) room.4
+own_set (structs d p elements) olds links more room long =
+    set_elements 1 d p elements (struct_pointer (length elements) d p ∷ []) olds links more refl (elements_even d elements room.5) (long ∙ room.4) room.4
 
 before_moved : (base next : ℕ) (slots : List ℕ) → Before next slots → Before (base + next) (moved base slots)
 before_moved base next [] before = tt

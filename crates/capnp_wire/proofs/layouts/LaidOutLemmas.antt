@@ -2,16 +2,16 @@
 use Rattle.std.proofs.Math.Nat.{mul-le-mul_left}
 use Rattle.std.proofs.Common.{◌≡◌, ◌⊎◌, inl, inr, ℕ, zero, suc, ◌+◌, ◌-◌, ◌*◌, ◌^◌, ◌<◌, ◌≤◌, false, List, [], ◌∷◌, length, Option, Some, slice_get, slice_index_or, refl, sym, ◌∙◌, ap, subst, arith}
 use Rattle.std.specs.Prelude.{All, ◌↔◌}
-use Rattle.capnp_layout.specs.Prelude.{pointer_kind, Form, null, struct, numbers, pointers, structs, Trees, none, tree, count, depth, object_size, trim_form, trim_children, word_at, local, far, double_far, Shape, ShapeStands, PointsTo, is_null as null_there, is_object, At, nowhere, at, less, pointer, Reaches, HasRoom}
+use Rattle.capnp_layout.specs.Prelude.{pointer_kind, Form, null, struct, numbers, pointers, structs, Trees, none, tree, count, depth, object_size, trim_form, trim_children, word_at, local, far, double_far, Shape, ShapeIsAt, PointsTo, is_null as null_there, is_object, At, nowhere, at, less, pointer, Reaches, HasRoom}
 use Rattle.capnp_layout.specs.Tree.{is_null}
 use Rattle.capnp_wire.specs.Prelude.{EndsFull, EndsSome, nth_form, Padded, IsInPreorder, IsFarAt, IsNext, links_at, NeedPointers, IsTruncated, IsLaidOut, MeetsObject, Passes}
 use Rattle.capnp_layout.specs.declared.place.Place.{Place}
-use Rattle.capnp_layout.proofs.trees.StandLemmas.{count_at, one_deeper}
+use Rattle.capnp_layout.proofs.trees.TreeCountLemmas.{count_at, one_deeper}
 use Rattle.capnp_wire.proofs.forms.TruncatedLemmas.{or_there, there_or}
 use Rattle.capnp_layout.proofs.forms.PreorderLemmas.{Local, local_object}
-use Rattle.capnp_layout.proofs.layouts.SizeLemmas.{rows_even}
-use Rattle.capnp_wire.proofs.forms.FullLemmas.{null_is_zero, struct_is_trimmed, structs_are_trimmed, rows_need_data}
-use Rattle.capnp_wire.proofs.forms.FullRowLemmas.{rows_need_pointers}
+use Rattle.capnp_layout.proofs.layouts.SizeLemmas.{elements_even}
+use Rattle.capnp_wire.proofs.forms.FullLemmas.{null_is_zero, struct_is_trimmed, structs_are_trimmed, elements_need_data}
+use Rattle.capnp_wire.proofs.forms.TrimmedStructListLemmas.{elements_need_pointers}
 use Rattle.capnp_layout.proofs.trees.RoomLemmas.{object_room, one_segment}
 use Rattle.capnp_wire.proofs.walks.StepLemmas.{preorder_step}
 use Rattle.capnp_wire.proofs.pointers.NextLemmas.{next_is_laid_out, next_room}
@@ -21,16 +21,16 @@ pub word_of : (segment : List ℕ) (number index word : ℕ) → word_at (segmen
 word_of segment zero index word e = or_there segment index word e
 word_of segment (suc number) index word e = absurd (cc)
 
-pub word_stands : (m : List (List ℕ)) (place : Place) (shape : Shape) → PointsTo m place shape → (word : ℕ) × (word_at m place ≡ Some word)
-word_stands m place shape (null_there e) = (0, e)
-word_stands m place shape (is_object (local {word = w} e p k) f b s) = (w, e)
-word_stands m place shape (is_object (far {word = w} e g p k) f b s) = (w, e)
-word_stands m place shape (is_object (double_far {word = w} e g p h q r k) f b s) = (w, e)
+pub word_is_there : (m : List (List ℕ)) (place : Place) (shape : Shape) → PointsTo m place shape → (word : ℕ) × (word_at m place ≡ Some word)
+word_is_there m place shape (null_there e) = (0, e)
+word_is_there m place shape (is_object (local {word = w} e p k) f b s) = (w, e)
+word_is_there m place shape (is_object (far {word = w} e g p k) f b s) = (w, e)
+word_is_there m place shape (is_object (double_far {word = w} e g p h q r k) f b s) = (w, e)
 
 null_link : (segment : List ℕ) (place : Place) (shape : Shape) → PointsTo (segment ∷ []) place shape → (shape.form ≡ null) ↔ (slice_index_or segment place.word 0 ≡ 0)
 null_link segment place shape object =
     let e = null_is_zero (segment ∷ []) place shape object in
-    let w = word_stands (segment ∷ []) place shape object in
+    let w = word_is_there (segment ∷ []) place shape object in
     let here : slice_index_or segment place.word 0 ≡ w.0 = word_of segment place.segment place.word w.0 w.1 in (
       λ t. word_of segment place.segment place.word 0 (e.0 t),
       λ t. let none : w.0 ≡ 0 = sym here ∙ t in e.1 (w.1 ∙ ap Some none),
@@ -53,40 +53,40 @@ length-links_at segment [] = refl
 length-links_at segment (place ∷ places) = ap (λ (k : ℕ). suc k) (length-links_at segment places)
 
 ends_some_is : (segment : List ℕ) (places : List Place) (trees : Trees) (traversed : ℕ) → At (segment ∷ []) places trees traversed → EndsSome trees ↔ EndsFull (links_at segment places)
-ends_some_is segment places trees traversed stand =
-    let many : length places ≡ count trees = sym (count_at (segment ∷ []) places trees traversed stand) in
+ends_some_is segment places trees traversed are_at =
+    let many : length places ≡ count trees = sym (count_at (segment ∷ []) places trees traversed are_at) in
     let long : length (links_at segment places) ≡ length places = length-links_at segment places in (
-      λ some k is last. some k (omega arith) ((links_null segment places trees traversed k stand (omega arith)).1 (or_there (links_at segment places) k 0 last)),
-      λ full k is last. full k (omega arith) (there_or (links_at segment places) k (omega arith) ∙ ap Some ((links_null segment places trees traversed k stand (omega arith)).0 last)),
+      λ some k is last. some k (omega arith) ((links_null segment places trees traversed k are_at (omega arith)).1 (or_there (links_at segment places) k 0 last)),
+      λ full k is last. full k (omega arith) (there_or (links_at segment places) k (omega arith) ∙ ap Some ((links_null segment places trees traversed k are_at (omega arith)).0 last)),
     )
 
--- the last pointers of rows
-row_less : (n p i : ℕ) → 0 < p → i < n → i * p + p - 1 < n * p
-row_less n p i some less =
+-- the last pointers of elements
+element_less : (n p i : ℕ) → 0 < p → i < n → i * p + p - 1 < n * p
+element_less n p i some less =
     let h : p * suc i ≤ p * n = mul-le-mul_left p less in
     omega arith
 
 need_pointers_is : (segment : List ℕ) (places : List Place) (children : Trees) (traversed p n : ℕ) → At (segment ∷ []) places children traversed → count children ≡ n * p
     → ((p ≡ 0) ⊎ ((k : ℕ) × (p ≡ k + 1) × (i : ℕ) × (i < n) × (nth_form children (i * p + k) ≡ Some null → ⊥))) ↔ NeedPointers p n (links_at segment places)
-need_pointers_is segment places children traversed zero n stand many = (λ t. inl refl, λ t. inl refl)
-need_pointers_is segment places children traversed (suc q) n stand many =
-    let long : length places ≡ count children = sym (count_at (segment ∷ []) places children traversed stand) in (
+need_pointers_is segment places children traversed zero n are_at many = (λ t. inl refl, λ t. inl refl)
+need_pointers_is segment places children traversed (suc q) n are_at many =
+    let long : length places ≡ count children = sym (count_at (segment ∷ []) places children traversed are_at) in (
       λ t. elim t [
         | inl nothing ↦ inl nothing
         | inr found ↦
-            let less = row_less n (suc q) found.2 (omega arith) found.3 in
+            let less = element_less n (suc q) found.2 (omega arith) found.3 in
             let same : found.2 * suc q + suc q - 1 ≡ found.2 * suc q + found.0 = omega (arith, found.1) in
             inr (
               found.2,
               found.3,
-              λ is. found.4 ((links_null segment places children traversed (found.2 * suc q + found.0) stand (omega arith)).1
+              λ is. found.4 ((links_null segment places children traversed (found.2 * suc q + found.0) are_at (omega arith)).1
                   (ap (λ (k : ℕ). slice_index_or (links_at segment places) k 0) (sym same) ∙ is)),
             )
       ],
       λ t. elim t [
         | inl nothing ↦ inl nothing
         | inr found ↦
-            let less = row_less n (suc q) found.0 (omega arith) found.1 in
+            let less = element_less n (suc q) found.0 (omega arith) found.1 in
             let same : found.0 * suc q + suc q - 1 ≡ found.0 * suc q + q = omega arith in
             inr (
               q,
@@ -94,25 +94,25 @@ need_pointers_is segment places children traversed (suc q) n stand many =
               found.0,
               found.1,
               λ is. found.2 (ap (λ (k : ℕ). slice_index_or (links_at segment places) k 0) same
-                  ∙ (links_null segment places children traversed (found.0 * suc q + q) stand (omega arith)).0 is),
+                  ∙ (links_null segment places children traversed (found.0 * suc q + q) are_at (omega arith)).0 is),
             )
       ],
     )
 
 pub truncated_is_trimmed : (segment : List ℕ) (form : Form) (places : List Place) (children : Trees) (traversed : ℕ) → At (segment ∷ []) places children traversed → HasRoom form (count children)
     → IsTruncated form (links_at segment places) ↔ ((trim_form form children ≡ form) × (trim_children form children ≡ children))
-truncated_is_trimmed segment null places children traversed stand room = (λ t. (refl, refl), λ t. tt)
-truncated_is_trimmed segment (struct words) places children traversed stand room =
+truncated_is_trimmed segment null places children traversed are_at room = (λ t. (refl, refl), λ t. tt)
+truncated_is_trimmed segment (struct words) places children traversed are_at room =
     let e = struct_is_trimmed words children in
-    let f = ends_some_is segment places children traversed stand in
+    let f = ends_some_is segment places children traversed are_at in
     (λ t. e.1 (t.0, f.1 t.1), λ t. let both = e.0 t in (both.0, f.0 both.1))
-truncated_is_trimmed segment (numbers c values) places children traversed stand room = (λ t. (refl, refl), λ t. tt)
-truncated_is_trimmed segment pointers places children traversed stand room = (λ t. (refl, refl), λ t. tt)
-truncated_is_trimmed segment (structs d p rows) places children traversed stand room =
-    let e = structs_are_trimmed d p rows children room in
-    let data_e = rows_need_data d rows (rows_even d rows room.5) in
-    let links_e = rows_need_pointers p rows children room.4 in
-    let f = need_pointers_is segment places children traversed p (length rows) stand room.4 in (
+truncated_is_trimmed segment (numbers c values) places children traversed are_at room = (λ t. (refl, refl), λ t. tt)
+truncated_is_trimmed segment pointers places children traversed are_at room = (λ t. (refl, refl), λ t. tt)
+truncated_is_trimmed segment (structs d p elements) places children traversed are_at room =
+    let e = structs_are_trimmed d p elements children room in
+    let data_e = elements_need_data d elements (elements_even d elements room.5) in
+    let links_e = elements_need_pointers p elements children room.4 in
+    let f = need_pointers_is segment places children traversed p (length elements) are_at room.4 in (
       λ t. e.1 (data_e.1 t.0, links_e.1 (f.1 t.1)),
       λ t. let both = e.0 t in (data_e.0 both.0, f.0 (links_e.0 both.1)),
     )
@@ -137,11 +137,11 @@ local_met segment word nesting limit shape tag meets there =
 abbrev pub IsPlaced : List ℕ → ℕ → ℕ → Form → ℕ → Type 0
 IsPlaced segment word next form n = (slice_get segment word ≡ Some (pointer form n (next - (word + 1)))) × Reaches form n (next - (word + 1))
 
-placed_as : (segment : List ℕ) (start : Place) (tag word next : ℕ) (shape : Shape) (form : Form) (children : List Place) → ShapeStands segment start tag shape → shape.form ≡ form → shape.children ≡ children
+placed_as : (segment : List ℕ) (start : Place) (tag word next : ℕ) (shape : Shape) (form : Form) (children : List Place) → ShapeIsAt segment start tag shape → shape.form ≡ form → shape.children ≡ children
     → IsNext tag word next form (length children) ↔ ((tag ≡ pointer form (length children) (next - (word + 1))) × Reaches form (length children) (next - (word + 1)))
-placed_as segment start tag word next shape form children stands f h =
+placed_as segment start tag word next shape form children is_at f h =
     let whole : Form → List Place → Type 0 = λ a b. IsNext tag word next a (length b) ↔ ((tag ≡ pointer a (length b) (next - (word + 1))) × Reaches a (length b) (next - (word + 1))) in
-    subst (λ (a : Form). whole a children) f (subst (λ (b : List Place). whole shape.form b) h (next_is_laid_out segment start tag word next shape stands))
+    subst (λ (a : Form). whole a children) f (subst (λ (b : List Place). whole shape.form b) h (next_is_laid_out segment start tag word next shape is_at))
 
 pub laid_is_placed : (segment : List ℕ) (word nesting next : ℕ) (limit : Option ℕ) (shape : Shape) → MeetsObject segment (record { segment = 0; word = word }) nesting limit shape
     → IsLaidOut segment (record { segment = 0; word = word }) next shape
@@ -149,13 +149,13 @@ pub laid_is_placed : (segment : List ℕ) (word nesting next : ℕ) (limit : Opt
 laid_is_placed segment word nesting next limit shape meets = (
   λ l.
       let n = local_met segment word nesting limit shape l.pointer meets l.there in
-      let e = placed_as segment (record { segment = 0; word = n.start }) l.pointer word next n.shape shape.form shape.children n.stands n.form_is n.children_is in
+      let e = placed_as segment (record { segment = 0; word = n.start }) l.pointer word next n.shape shape.form shape.children n.is_at n.form_is n.children_is in
       let both = e.0 l.is_next in
       ((l.there ∙ ap Some both.0, both.1), l.padded, l.truncated),
   λ t.
       let n = local_met segment word nesting limit shape (pointer shape.form (length shape.children) (next - (word + 1))) meets t.0.0 in
       let e = placed_as segment (record { segment = 0; word = n.start }) (pointer shape.form (length shape.children) (next -
-      (word + 1))) word next n.shape shape.form shape.children n.stands n.form_is n.children_is in
+      (word + 1))) word next n.shape shape.form shape.children n.is_at n.form_is n.children_is in
       record { pointer = pointer shape.form (length shape.children) (next - (word + 1)); there = t.0.0; is_next = e.1 (refl, t.0.1); padded = t.1; truncated = t.2 },
 )
 
@@ -165,7 +165,7 @@ pub laid_room : (segment : List ℕ) (word nesting next : ℕ) (limit : Option �
 laid_room segment word nesting next limit shape meets l before within =
     let n = local_met segment word nesting limit shape l.pointer meets l.there in
     let is : IsNext l.pointer word next n.shape.form (length n.shape.children) = rw (n.form_is, n.children_is) l.is_next in
-    let room = next_room segment n.start l.pointer word next n.shape n.stands before within n.target is in
+    let room = next_room segment n.start l.pointer word next n.shape n.is_at before within n.target is in
     rw (n.form_is, n.children_is) at room
 
 -- an object that passes, with the trees below it
@@ -174,20 +174,20 @@ pub passes_over : (segment : List ℕ) (word nesting next traversed after : ℕ)
     → Passes segment shape.children (nesting - 1) traversed (next + object_size shape.form (length shape.children)) after
     → Passes segment (record { segment = 0; word = word } ∷ []) nesting (shape.traversed + traversed) next after
 passes_over segment word nesting next traversed after limit shape all before within meets l p =
-    let many : length shape.children ≡ count p.trees = sym (count_at (segment ∷ []) shape.children p.trees traversed p.stand) in
+    let many : length shape.children ≡ count p.trees = sym (count_at (segment ∷ []) shape.children p.trees traversed p.are_at) in
     let t = (laid_is_placed segment word nesting next limit shape meets).0 l in
     let placed : IsPlaced segment word next shape.form (count p.trees) = subst (λ (n : ℕ). IsPlaced segment word next shape.form n) many t.0 in
     let in_preorder : IsInPreorder segment shape.children (next + object_size shape.form (count p.trees)) p.trees =
     subst (λ (n : ℕ). IsInPreorder segment shape.children (next + object_size shape.form n) p.trees) many p.in_preorder in
     let room : HasRoom shape.form (count p.trees) =
     subst (λ (n : ℕ). HasRoom shape.form n) many (object_room (segment ∷ []) (record { segment = 0; word = word }) shape (one_segment segment all) meets.object) in
-    let trims = (truncated_is_trimmed segment shape.form shape.children p.trees traversed p.stand room).0 t.2 in
+    let trims = (truncated_is_trimmed segment shape.form shape.children p.trees traversed p.are_at room).0 t.2 in
     let own : object_size shape.form (length shape.children) ≡ object_size shape.form (count p.trees) = ap (object_size shape.form) many in
     record {
       trees = tree shape.form p.trees none;
-      stand = subst (At (segment ∷ []) (record { segment = 0; word = word } ∷ []) (tree shape.form p.trees none)) (omega arith) (at meets.object p.stand nowhere);
+      are_at = subst (At (segment ∷ []) (record { segment = 0; word = word } ∷ []) (tree shape.form p.trees none)) (omega arith) (at meets.object p.are_at nowhere);
       shallow = one_deeper (is_null shape.form) (depth p.trees) nesting p.shallow meets.deep;
-      in_preorder = (preorder_step segment word next shape.children [] shape.form p.trees none shape.traversed traversed all meets.object p.stand before within).1
+      in_preorder = (preorder_step segment word next shape.children [] shape.form p.trees none shape.traversed traversed all meets.object p.are_at before within).1
           (placed.0, placed.1, t.1, in_preorder, tt);
       trimmed = ((trims.0, trims.1, p.trimmed), tt);
       after_is = omega (arith, p.after_is, own);

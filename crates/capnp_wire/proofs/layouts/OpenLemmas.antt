@@ -1,14 +1,14 @@
 -- An object that is copied: its own words, then what its pointers lead to.
 use Rattle.std.proofs.lemmas.List.{append-nil}
 use Rattle.capnp_layout.proofs.pointers.SlotLemmas.{AllOf}
-use Rattle.capnp_layout.proofs.layouts.SizeLemmas.{length-woven, rows_even}
+use Rattle.capnp_layout.proofs.layouts.SizeLemmas.{length-woven, elements_even}
 use Rattle.capnp_layout.proofs.objects.ObjectLemmas.{one_object}
 use Rattle.capnp_layout.proofs.trees.TrimLemmas.{room_trim}
 use Rattle.capnp_wire.proofs.layouts.CopyLemmas.{none_output, fill_nothing}
-use Rattle.capnp_layout.proofs.trees.RoomLemmas.{length-rows_from}
+use Rattle.capnp_layout.proofs.trees.RoomLemmas.{length-elements_from}
 use Rattle.std.proofs.Common.{◌≡◌, ℕ, ◌+◌, ◌-◌, ◌*◌, ◌<◌, ◌≤◌, ◌^◌, ◌==◌, if◌then◌else◌, Bool, true, false, List, [], ◌∷◌, ◌++◌, length, take, drop, refl, sym, ◌∙◌, ap, subst}
 use Rattle.std.proofs.Common.{arith, length-take, length-drop}
-use Rattle.capnp_layout.specs.Prelude.{number_of, words_from, code_of, width, words_for, Form, struct, numbers, pointers, structs, Trees, none, tree, count, depth, object_size, total_words, Shape, PointsTo, places, rows_from, elements as numerals, words_in, At, nowhere, at, pointer, body, own, slots, run, row_run, woven, pointer_to, output, struct_pointer, list_pointer, minus_one, AllHaveRoom, put, put_rows, fill, moved, list_length, pointer_of_body, row_size, kept_in, slots_of, kept_places, row_slots}
+use Rattle.capnp_layout.specs.Prelude.{number_of, words_from, code_of, width, words_for, Form, struct, numbers, pointers, structs, Trees, none, tree, count, depth, object_size, total_words, Shape, PointsTo, places, elements_from, elements as numerals, words_in, At, nowhere, at, pointer, body, own, slots, run, element_runs, woven, pointer_to, output, struct_pointer, list_pointer, minus_one, AllHaveRoom, put, put_data_sections, fill, moved, list_length, pointer_of_body, section_sizes, kept_in, slots_of, kept_places, section_slots}
 use Rattle.capnp_wire.specs.Prelude.{CanCopy, put_own, element_count}
 use Rattle.capnp_layout.specs.declared.place.Place.{Place}
 use Rattle.capnp_layout.specs.declared.element_size.ElementSize.{ElementSize}
@@ -19,13 +19,13 @@ use Rattle.capnp_layout.specs.declared.object.Body.TheVariants.{Struct, Numbers,
 use Rattle.capnp_layout.proofs.layouts.BlockLemmas.{put_both, length-put, put_none}
 use Rattle.capnp_wire.proofs.layouts.FillLemmas.{fill_is}
 use Rattle.capnp_layout.proofs.words.DigitLemmas.{length-digits}
-use Rattle.capnp_wire.proofs.layouts.BlockRowLemmas.{moved_run, moved_rows, put_short, put_rows_woven}
+use Rattle.capnp_wire.proofs.layouts.BlockElementLemmas.{moved_run, moved_elements, put_short, put_data_sections_woven}
 use Rattle.capnp_layout.proofs.trees.PlacedLemmas.{no_trees}
 
 -- what an object opens to: the places of the pointers that are copied, and what is still to be put
 -- into the block
 pub record Opened (m : List (List ℕ)) (words : List ℕ) (start : Place) (from copied : Body) (nesting : ℕ) (c : Bool) (next room : ℕ) (trees : Trees) : Type 0 where
-  pub kept : CanCopy m (kept_in start from (row_size copied).pointers) nesting c (next + words_in copied) room
+  pub kept : CanCopy m (kept_in start from (section_sizes copied).pointers) nesting c (next + words_in copied) room
   pub fills : (block : List ℕ) → length block ≡ room
       → fill (slots_of next copied) (next + words_in copied) (output c kept.trees) (put_own words start.word from copied next block)
       ≡ put next (body (output c trees)) block
@@ -39,7 +39,7 @@ pub record Under (m : List (List ℕ)) (shape : Shape) (trees : Trees) : Type 0 
   pub children : Trees
   pub inside : ℕ
   pub whole : trees ≡ tree shape.form children none
-  pub stand : At m shape.children children inside
+  pub are_at : At m shape.children children inside
 
 pub under : (m : List (List ℕ)) (place : Place) (shape : Shape) (trees : Trees) (traversed : ℕ) → At m (place ∷ []) trees traversed → PointsTo m place shape → Under m shape trees
 under m place shape trees traversed (at {shape = s} {children = h} {inside = i} object inner nowhere) there =
@@ -48,7 +48,7 @@ under m place shape trees traversed (at {shape = s} {children = h} {inside = i} 
       children = h;
       inside = i;
       whole = ap (λ (x : Shape). tree x.form h none) same;
-      stand = subst (λ (x : Shape). At m x.children h i) same inner;
+      are_at = subst (λ (x : Shape). At m x.children h i) same inner;
     }
 
 -- a tree's fields have room as it is copied
@@ -61,7 +61,7 @@ pub struct_opens : (m : List (List ℕ)) (words : List ℕ) (start : Place) (d p
     → output c trees ≡ tree (struct (words_from words start.word e)) children none → output c kept ≡ children → At m (places start.segment (start.word + d) q) kept traversed
     → depth kept ≤ nesting → AllHaveRoom kept → AllHaveRoom (output c trees) → start.word + e ≤ length words → count children ≡ q → next + total_words (output c trees) ≤ room
     → Opened m words start (Struct (record { data_words = d; pointers = p })) (Struct (record { data_words = e; pointers = q })) nesting c next room trees
-struct_opens m words start d p e q nesting c next room trees kept children traversed form_is kept_is stand shallow rooms all there many fits =
+struct_opens m words start d p e q nesting c next room trees kept children traversed form_is kept_is are_at shallow rooms all there many fits =
     let form : Form = struct (words_from words start.word e) in
     let rooms_there : AllHaveRoom (tree form children none) = subst AllHaveRoom form_is all in
     let wide : length (words_from words start.word e) ≡ e = omega (arith, length-take e (drop start.word words), length-drop start.word words) in
@@ -75,7 +75,7 @@ struct_opens m words start d p e q nesting c next room trees kept children trave
       kept = record {
         trees = kept;
         traversed = traversed;
-        stand = subst (λ (l : List Place). At m l kept traversed) (sym (append-nil (places start.segment (start.word + d) q))) stand;
+        are_at = subst (λ (l : List Place). At m l kept traversed) (sym (append-nil (places start.segment (start.word + d) q))) are_at;
         shallow = shallow;
         rooms = rooms;
         fits = omega arith;
@@ -109,7 +109,7 @@ pub pointers_open : (m : List (List ℕ)) (words : List ℕ) (start : Place) (n 
     → output c trees ≡ tree pointers children none → output c kept ≡ children → At m (places start.segment start.word n) kept traversed
     → depth kept ≤ nesting → AllHaveRoom kept → AllHaveRoom (output c trees) → count children ≡ n → next + total_words (output c trees) ≤ room
     → Opened m words start (Pointers n) (Pointers n) nesting c next room trees
-pointers_open m words start n nesting c next room trees kept children traversed form_is kept_is stand shallow rooms all many fits =
+pointers_open m words start n nesting c next room trees kept children traversed form_is kept_is are_at shallow rooms all many fits =
     let rooms_there : AllHaveRoom (tree pointers children none) = subst AllHaveRoom form_is all in
     let small : count children < 2 ^ 29 = rooms_there.0 in
     let total_is : total_words (output c trees) ≡ count children + total_words children = ap total_words form_is ∙ omega arith in
@@ -121,7 +121,7 @@ pointers_open m words start n nesting c next room trees kept children traversed 
       kept = record {
         trees = kept;
         traversed = traversed;
-        stand = subst (λ (l : List Place). At m l kept traversed) (ap (λ (k : ℕ). places start.segment k n) first ∙ sym (append-nil (places start.segment (start.word + 0) n))) stand;
+        are_at = subst (λ (l : List Place). At m l kept traversed) (ap (λ (k : ℕ). places start.segment k n) first ∙ sym (append-nil (places start.segment (start.word + 0) n))) are_at;
         shallow = shallow;
         rooms = rooms;
         fits = omega arith;
@@ -159,7 +159,7 @@ numbers_open m words start n nesting size c next room trees children form_is all
     let nothing_total : total_words (output c none) ≡ 0 = ap total_words nothing_output in
     let small : n < 2 ^ 29 = subst (λ (k : ℕ). k < 2 ^ 29) long_values rooms_there.0.1 in
     record {
-      kept = record { trees = none; traversed = 0; stand = nowhere; shallow = omega arith; rooms = tt; fits = omega arith };
+      kept = record { trees = none; traversed = 0; are_at = nowhere; shallow = omega arith; rooms = tt; fits = omega arith };
       fills = λ block long.
           let words_are : body (tree form children none) ≡ own form [] = ap (λ (t : Trees). body (tree form t none)) empty ∙ append-nil (own form [] ++ []) ∙ append-nil (own form []) in
           fill_nothing (next + words_for n (width (code_of size))) (output c none) (put next (own form []) block)
@@ -171,12 +171,12 @@ numbers_open m words start n nesting size c next room trees children form_is all
     }
 
 -- what consecutive structs from a word of a segment on open to: the pointers that are copied, in
--- rows, and what is still to be put into the block, after a tag
-pub record OpenedRows (m : List (List ℕ)) (words : List ℕ) (segment begin : ℕ) (from size : StructSize) (n nesting : ℕ) (c : Bool) (next room : ℕ) (trees : Trees) : Type 0 where
+-- elements, and what is still to be put into the block, after a tag
+pub record OpenedElements (m : List (List ℕ)) (words : List ℕ) (segment begin : ℕ) (from size : StructSize) (n nesting : ℕ) (c : Bool) (next room : ℕ) (trees : Trees) : Type 0 where
   pub kept : CanCopy m (kept_places segment begin from.data_words from.pointers size.pointers n) nesting c (next + (1 + n * (size.data_words + size.pointers))) room
   pub fills : (block : List ℕ) → length block ≡ room
-      → fill (row_slots (next + 1) size.data_words size.pointers n) (next + (1 + n * (size.data_words + size.pointers))) (output c kept.trees)
-      (put_rows (next + 1) size.pointers (rows_from words begin size.data_words (from.data_words + from.pointers - size.data_words) n)
+      → fill (section_slots (next + 1) size.data_words size.pointers n) (next + (1 + n * (size.data_words + size.pointers))) (output c kept.trees)
+      (put_data_sections (next + 1) size.pointers (elements_from words begin size.data_words (from.data_words + from.pointers - size.data_words) n)
       (put next (struct_pointer n size.data_words size.pointers ∷ []) block))
       ≡ put next (body (output c trees)) block
   pub totals : 1 + n * (size.data_words + size.pointers) + total_words (output c kept.trees) ≡ total_words (output c trees)
@@ -185,61 +185,61 @@ pub record OpenedRows (m : List (List ℕ)) (words : List ℕ) (segment begin : 
   pub few_elements : n < 2 ^ 30
 
 -- structs
-pub rows_open : (m : List (List ℕ)) (words : List ℕ) (segment begin d p e q n nesting : ℕ) (c : Bool) (next room : ℕ) (trees kept children : Trees) (traversed : ℕ)
+pub elements_open : (m : List (List ℕ)) (words : List ℕ) (segment begin d p e q n nesting : ℕ) (c : Bool) (next room : ℕ) (trees kept children : Trees) (traversed : ℕ)
     → e ≤ d → begin + n * (d + p) ≤ length words
-    → output c trees ≡ tree (structs e q (rows_from words begin e (d + p - e) n)) children none → output c kept ≡ children
+    → output c trees ≡ tree (structs e q (elements_from words begin e (d + p - e) n)) children none → output c kept ≡ children
     → At m (kept_places segment begin d p q n) kept traversed
     → depth kept ≤ nesting → AllHaveRoom kept → AllHaveRoom (output c trees) → next + total_words (output c trees) ≤ room
-    → OpenedRows m words segment begin (record { data_words = d; pointers = p }) (record { data_words = e; pointers = q }) n nesting c next room trees
-rows_open m words segment begin d p e q n nesting c next room trees kept children traversed less there form_is kept_is stand shallow rooms all fits =
-    let rows : List (List ℕ) = rows_from words begin e (d + p - e) n in
-    let form : Form = structs e q (rows_from words begin e (d + p - e) n) in
+    → OpenedElements m words segment begin (record { data_words = d; pointers = p }) (record { data_words = e; pointers = q }) n nesting c next room trees
+elements_open m words segment begin d p e q n nesting c next room trees kept children traversed less there form_is kept_is are_at shallow rooms all fits =
+    let sections : List (List ℕ) = elements_from words begin e (d + p - e) n in
+    let form : Form = structs e q (elements_from words begin e (d + p - e) n) in
     let rooms_there : AllHaveRoom (tree form children none) = subst AllHaveRoom form_is all in
-    let rows_long : length (rows_from words begin e (d + p - e) n) ≡ n = length-rows_from words begin e (d + p - e) n in
-    let many : count children ≡ length (rows_from words begin e (d + p - e) n) * q = rooms_there.0.4 in
-    let size : object_size form (count children) ≡ 1 + n * (e + q) = ap (λ (k : ℕ). 1 + k * (e + q)) rows_long in
+    let elements_long : length (elements_from words begin e (d + p - e) n) ≡ n = length-elements_from words begin e (d + p - e) n in
+    let many : count children ≡ length (elements_from words begin e (d + p - e) n) * q = rooms_there.0.4 in
+    let size : object_size form (count children) ≡ 1 + n * (e + q) = ap (λ (k : ℕ). 1 + k * (e + q)) elements_long in
     let total_is : total_words (output c trees) ≡ object_size form (count children) + total_words children = ap total_words form_is ∙ omega arith in
     let kept_total : total_words (output c kept) ≡ total_words children = ap total_words kept_is in
-    let wide : AllOf e (rows_from words begin e (d + p - e) n) = rows_even e (rows_from words begin e (d + p - e) n) rooms_there.0.5 in
+    let wide : AllOf e (elements_from words begin e (d + p - e) n) = elements_even e (elements_from words begin e (d + p - e) n) rooms_there.0.5 in
     let tag_long : length (struct_pointer n e q ∷ []) ≡ 1 = refl in
-    let slots_are : moved next (row_run 1 e q (rows_from words begin e (d + p - e) n)) ≡ row_slots (next + 1) e q n = moved_rows next 1 e q (rows_from words begin e
-    (d + p - e) n) ∙ ap (λ (k : ℕ). row_slots (next + 1) e q k) rows_long in
-    let few_words : length (rows_from words begin e (d + p - e) n) * (e + q) < 2 ^ 29 = rooms_there.0.3 in
-    let few_rows : length (rows_from words begin e (d + p - e) n) < 2 ^ 30 = rooms_there.0.2 in
+    let slots_are : moved next (element_runs 1 e q (elements_from words begin e (d + p - e) n)) ≡ section_slots (next + 1) e q n = moved_elements next 1 e q (elements_from words begin e
+    (d + p - e) n) ∙ ap (λ (k : ℕ). section_slots (next + 1) e q k) elements_long in
+    let few_words : length (elements_from words begin e (d + p - e) n) * (e + q) < 2 ^ 29 = rooms_there.0.3 in
+    let few_sections : length (elements_from words begin e (d + p - e) n) < 2 ^ 30 = rooms_there.0.2 in
     record {
-      kept = record { trees = kept; traversed = traversed; stand = stand; shallow = shallow; rooms = rooms; fits = omega arith };
+      kept = record { trees = kept; traversed = traversed; are_at = are_at; shallow = shallow; rooms = rooms; fits = omega arith };
       fills = λ block long.
           let tagged : List ℕ = put next (struct_pointer n e q ∷ []) block in
           let tagged_long : length (put next (struct_pointer n e q ∷ []) block) ≡ length block = length-put next (struct_pointer n e q ∷ []) block (omega arith) in
-          let rows_room : next + 1 + length (rows_from words begin e (d + p - e) n) * (e + q) ≤ length (put next (struct_pointer n e q ∷ []) block) = rw rows_long (omega arith) in
-          let w = put_rows_woven (next + 1) e q (rows_from words begin e (d + p - e) n) (put next (struct_pointer n e q ∷ []) block) wide rows_room in
-          let woven_size : length (woven q (rows_from words begin e (d + p - e) n) w.0) ≡ length (rows_from words begin e (d + p - e) n) * (e + q) = length-woven e q
-          (rows_from words begin e (d + p - e) n) w.0 wide w.1 in
-          let woven_room : next + 1 + length (woven q (rows_from words begin e (d + p - e) n) w.0) ≤ length block = rw woven_size (omega arith) in
+          let elements_room : next + 1 + length (elements_from words begin e (d + p - e) n) * (e + q) ≤ length (put next (struct_pointer n e q ∷ []) block) = rw elements_long (omega arith) in
+          let w = put_data_sections_woven (next + 1) e q (elements_from words begin e (d + p - e) n) (put next (struct_pointer n e q ∷ []) block) wide elements_room in
+          let woven_size : length (woven q (elements_from words begin e (d + p - e) n) w.0) ≡ length (elements_from words begin e (d + p - e) n) * (e + q) = length-woven e q
+          (elements_from words begin e (d + p - e) n) w.0 wide w.1 in
+          let woven_room : next + 1 + length (woven q (elements_from words begin e (d + p - e) n) w.0) ≤ length block = rw woven_size (omega arith) in
           let done = fill_is next form children w.0 block rooms_there.0 rooms_there.1 (w.1 ∙ sym many) (omega arith) in
-          let joined : put_rows (next + 1) q (rows_from words begin e (d + p - e) n) (put next (struct_pointer n e q ∷ []) block) ≡ put next (struct_pointer n e q ∷ woven q
-          (rows_from words begin e (d + p - e) n) w.0) block =
-          w.2 ∙ put_both next (struct_pointer n e q ∷ []) (woven q (rows_from words begin e (d + p - e) n) w.0) block woven_room in
-          let own_is : put next (struct_pointer n e q ∷ woven q (rows_from words begin e (d + p - e) n) w.0) block ≡ put next (own form w.0) block =
-          ap (λ (k : ℕ). put next (struct_pointer k e q ∷ woven q (rows_from words begin e (d + p - e) n) w.0) block) (sym rows_long) in
-          ap (λ (l : List ℕ). fill l (next + (1 + n * (e + q))) (output c kept) (put_rows (next + 1) q (rows_from words begin e (d + p - e) n) (put next
+          let joined : put_data_sections (next + 1) q (elements_from words begin e (d + p - e) n) (put next (struct_pointer n e q ∷ []) block) ≡ put next (struct_pointer n e q ∷ woven q
+          (elements_from words begin e (d + p - e) n) w.0) block =
+          w.2 ∙ put_both next (struct_pointer n e q ∷ []) (woven q (elements_from words begin e (d + p - e) n) w.0) block woven_room in
+          let own_is : put next (struct_pointer n e q ∷ woven q (elements_from words begin e (d + p - e) n) w.0) block ≡ put next (own form w.0) block =
+          ap (λ (k : ℕ). put next (struct_pointer k e q ∷ woven q (elements_from words begin e (d + p - e) n) w.0) block) (sym elements_long) in
+          ap (λ (l : List ℕ). fill l (next + (1 + n * (e + q))) (output c kept) (put_data_sections (next + 1) q (elements_from words begin e (d + p - e) n) (put next
           (struct_pointer n e q ∷ []) block))) (sym slots_are)
-          ∙ ap (λ (k : ℕ). fill (moved next (slots form (count children))) (next + k) (output c kept) (put_rows (next + 1) q (rows_from words begin e (d + p - e) n) (put next
+          ∙ ap (λ (k : ℕ). fill (moved next (slots form (count children))) (next + k) (output c kept) (put_data_sections (next + 1) q (elements_from words begin e (d + p - e) n) (put next
           (struct_pointer n e q ∷ []) block))) (sym size)
-          ∙ ap (λ (t : Trees). fill (moved next (slots form (count children))) (next + object_size form (count children)) t (put_rows (next + 1) q (rows_from words begin e (d + p - e) n)
+          ∙ ap (λ (t : Trees). fill (moved next (slots form (count children))) (next + object_size form (count children)) t (put_data_sections (next + 1) q (elements_from words begin e (d + p - e) n)
           (put next (struct_pointer n e q ∷ []) block))) kept_is
           ∙ ap (λ (l : List ℕ). fill (moved next (slots form (count children))) (next + object_size form (count children)) children l) (joined ∙ own_is)
           ∙ done ∙ ap (λ (t : Trees). put next (body t) block) (sym form_is);
       totals = omega arith;
-      pointers_are = λ offset. ap (λ (k : ℕ). list_pointer offset 7 (k * (e + q))) (sym rows_long) ∙ ap (λ (t : Trees). pointer_to t offset) (sym form_is);
-      few = subst (λ (k : ℕ). k * (e + q) < 2 ^ 29) rows_long few_words;
-      few_elements = subst (λ (k : ℕ). k < 2 ^ 30) rows_long few_rows;
+      pointers_are = λ offset. ap (λ (k : ℕ). list_pointer offset 7 (k * (e + q))) (sym elements_long) ∙ ap (λ (t : Trees). pointer_to t offset) (sym form_is);
+      few = subst (λ (k : ℕ). k * (e + q) < 2 ^ 29) elements_long few_words;
+      few_elements = subst (λ (k : ℕ). k < 2 ^ 30) elements_long few_sections;
     }
 
 -- the same for a list of structs, after its tag
 pub structs_open : (m : List (List ℕ)) (words : List ℕ) (start : Place) (elements kept : Elements) (following words_kept nesting : ℕ) (c : Bool) (next room : ℕ) (trees : Trees)
     → kept.count ≡ elements.count
-    → OpenedRows m words start.segment (start.word + 1) elements.size kept.size elements.count nesting c next room trees
+    → OpenedElements m words start.segment (start.word + 1) elements.size kept.size elements.count nesting c next room trees
     → Opened m words start (Structs elements following) (Structs kept words_kept) nesting c next room trees
 structs_open m words start elements kept following words_kept nesting c next room trees same o =
     subst (λ (k : ℕ). Opened m words start (Structs elements following) (Structs (record { size = kept.size; count = k }) words_kept) nesting c next room trees) (sym same)

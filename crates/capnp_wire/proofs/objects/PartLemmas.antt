@@ -45,11 +45,11 @@ pub alone : (m : List (List ℕ)) (words copied : List ℕ) (start there : Place
     }
 alone m words copied start there size part nesting limit word one none first long word_is copied_is =
     let own = own_data part (words_from words start.word size.data_words) in
-    let fields : List ℕ → List Place → Struct = λ row children. record { message = m; words = row; children = children; nesting = nesting; limit = limit } in
+    let fields : List ℕ → List Place → Struct = λ element children. record { message = m; words = element; children = children; nesting = nesting; limit = limit } in
     let own_is : own ≡ word ∷ [] = single own (length-own_data part (words_from words start.word size.data_words) ∙ long) ∙ ap (λ (k : ℕ). k ∷ []) (sym word_is) in
     let copied_one : words_from copied there.word size.data_words ≡ word ∷ [] =
     ap (λ (k : ℕ). words_from copied k size.data_words) first ∙ ap (λ (k : ℕ). words_from copied 0 k) one ∙ ap (λ (l : List ℕ). words_from l 0 1) copied_is in
-    ap (λ (row : List ℕ). fields row (places there.segment (there.word + size.data_words) size.pointers)) (copied_one ∙ sym own_is)
+    ap (λ (element : List ℕ). fields element (places there.segment (there.word + size.data_words) size.pointers)) (copied_one ∙ sym own_is)
     ∙ ap (fields own) (no_places there.segment (there.word + size.data_words) start.segment (start.word + size.data_words) size.pointers none)
 
 -- a struct that is no number is the struct at its place
@@ -62,9 +62,9 @@ pub whole : (m : List (List ℕ)) (words : List ℕ) (start : Place) (size : Str
       limit = limit;
     }
 whole m words start size part nesting limit is =
-    let fields : List ℕ → Struct = λ row. record {
+    let fields : List ℕ → Struct = λ element. record {
       message = m;
-      words = row;
+      words = element;
       children = places start.segment (start.word + size.data_words) size.pointers;
       nesting = nesting;
       limit = limit;

@@ -8,7 +8,7 @@ use Rattle.capnp_layout.specs.declared.object.Body.{Body}
 use Rattle.capnp_layout.specs.declared.object.Body.TheVariants.{Struct, Numbers, Pointers, Structs}
 use Rattle.capnp_layout.specs.declared.object.Object.{Object as ReadObject}
 use Rattle.capnp_layout.proofs.objects.FieldLemmas.{length-places}
-use Rattle.capnp_layout.proofs.trees.RoomLemmas.{length-rows_from}
+use Rattle.capnp_layout.proofs.trees.RoomLemmas.{length-elements_from}
 use Rattle.capnp_layout.proofs.pointers.NextLemmas.{lead_start}
 use Rattle.capnp_wire.proofs.pointers.NextLemmas.{next_room}
 use Rattle.capnp_layout.proofs.objects.OwnWordLemmas.{own_words_are}
@@ -27,7 +27,7 @@ next_of_is segment start (Struct size) pointer word next room =
 next_of_is segment start (Numbers size count) pointer word next room = (λ t. t, λ t. t)
 next_of_is segment start (Pointers count) pointer word next room = (λ t. t, λ t. t)
 next_of_is segment start (Structs e more) pointer word next room =
-    let many = length-rows_from segment (start.word + 1) e.size.data_words e.size.pointers e.count in
+    let many = length-elements_from segment (start.word + 1) e.size.data_words e.size.pointers e.count in
     (λ t. (t.0, rw many t.1), λ t. (t.0, rw many at t.1))
 
 padded_of_is : (segment : List ℕ) (start : Place) (body : Body) (pointer word next : ℕ) → word < next → start.word + 2 ^ 30 * (offset pointer / 2 ^ 29) ≡ word + 1 + offset pointer
@@ -47,7 +47,7 @@ pub read_room : (segment : List ℕ) (word pointer next : ℕ) (object : ReadObj
 read_room segment word pointer next object r before within is =
     let e = next_of_is segment object.start object.body pointer word next r.room in
     let form : IsNext pointer word next r.shape.form (length r.shape.children) = rw (r.form_is, r.children_is) (e.0 is) in
-    let room = next_room segment object.start.word pointer word next r.shape r.stands before within r.target form in
+    let room = next_room segment object.start.word pointer word next r.shape r.is_at before within r.target form in
     let own = own_words_are segment object.start object.body r.room in
     let here : next + object_size (shape_of segment object.start object.body).form (length (shape_of segment object.start object.body).children) ≤ length segment = rw (r.form_is, r.children_is) at room in
     omega (arith, own, here)

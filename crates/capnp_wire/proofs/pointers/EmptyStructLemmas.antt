@@ -5,14 +5,14 @@ use Rattle.capnp_layout.specs.Prelude.{struct, Trees, none, tree, total_words, i
 use Rattle.capnp_wire.specs.Prelude.{Walked, Copies}
 use Rattle.capnp_layout.specs.declared.place.Place.{Place}
 use Rattle.capnp_layout.proofs.pointers.LocalLemmas.{word_there}
-use Rattle.capnp_layout.proofs.trees.StandLemmas.{within_none, less_none}
-use Rattle.capnp_wire.proofs.trees.StandLemmas.{counts_none}
+use Rattle.capnp_layout.proofs.trees.TreeCountLemmas.{within_none, less_none}
+use Rattle.capnp_wire.proofs.trees.TreeCountLemmas.{counts_none}
 use Rattle.capnp_layout.proofs.layouts.BlockLemmas.{put_none}
 use Rattle.capnp_wire.proofs.layouts.CopyLemmas.{none_at}
 use Rattle.capnp_wire.proofs.layouts.OpenLemmas.{under}
 use Rattle.capnp_wire.proofs.layouts.CopiedLemmas.{null_is_copied}
 use Rattle.capnp_wire.proofs.walks.ProgressLemmas.{walked_null}
-use Rattle.capnp_layout.proofs.pointers.EmptyStructLemmas.{empty_output, empty_shape, empty_struct_stands, empty_tree}
+use Rattle.capnp_layout.proofs.pointers.EmptyStructLemmas.{empty_output, empty_shape, empty_struct_is_at, empty_tree}
 
 -- a walk over it counts nothing
 empty_struct_walked : {m : List (List ℕ)} {place : Place} {words : List ℕ} {nesting : ℕ} {left counted_now : Option ℕ} (c : Bool) → slice_get m place.segment ≡ Some words
@@ -20,9 +20,9 @@ empty_struct_walked : {m : List (List ℕ)} {place : Place} {words : List ℕ} {
 empty_struct_walked {nesting = nesting} {left = left} {counted_now = now} c there is deep = record {
   traversed = 0;
   words = 0;
-  stand = record {
+  are_at = record {
     trees = empty_tree;
-    stand = at (empty_struct_stands there is) nowhere nowhere;
+    are_at = at (empty_struct_is_at there is) nowhere nowhere;
     shallow = omega (arith, deep);
     rooms = ((lit< tt, lit< tt, All-nil (λ w. w < 2 ^ 64)), tt, tt);
     words_are = ap total_words (empty_output c);
@@ -36,10 +36,10 @@ empty_struct_walked {nesting = nesting} {left = left} {counted_now = now} c ther
 empty_struct_copied : {m : List (List ℕ)} {place : Place} {words : List ℕ} {gap next : ℕ} {block : List ℕ} (c : Bool) → slice_get m place.segment ≡ Some words
     → slice_get words place.word ≡ Some empty_struct → Copies m place c gap next block block (record { pointer = empty_struct; next = next })
 empty_struct_copied {m} {place} {gap = gap} {next = next} {block = block} c there is = record {
-  is = λ trees traversed stand.
-      let u = under m place empty_shape trees traversed stand (empty_struct_stands there is) in
+  is = λ trees traversed are_at.
+      let u = under m place empty_shape trees traversed are_at (empty_struct_is_at there is) in
       let whole : output c trees ≡ empty_tree =
-      ap (output c) (u.whole ∙ ap (λ (t : Trees). tree (struct []) t none) (none_at m u.children u.inside u.stand)) ∙ empty_output c in
+      ap (output c) (u.whole ∙ ap (λ (t : Trees). tree (struct []) t none) (none_at m u.children u.inside u.are_at)) ∙ empty_output c in
       record {
         words_are = sym (ap (λ (t : Trees). put next (body t) block) whole ∙ put_none next block);
         pointer_is = sym (ap (λ (t : Trees). pointer_to t gap) whole);

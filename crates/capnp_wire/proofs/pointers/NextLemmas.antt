@@ -1,12 +1,12 @@
 -- A pointer leads to the next free word exactly where its word is that of a layout.
 use Rattle.std.proofs.Common.{◌≡◌, ℕ, zero, suc, ◌+◌, ◌-◌, ◌*◌, ◌/◌, ◌^◌, ◌<◌, ◌≤◌, List, [], ◌∷◌, length, refl, sym, ◌∙◌, ap, arith, drop, length-take, length-drop}
 use Rattle.std.specs.Prelude.{◌↔◌}
-use Rattle.capnp_layout.specs.Prelude.{pointer_kind, offset, data_words, pointer_words, code, list_count, words_from, number_of, width, words_for, struct, object_size, Shape, ShapeStands, places, rows_from, elements, a_struct, some_numbers, some_pointers, some_structs, struct_pointer, list_pointer, minus_one, pointer, Reaches}
+use Rattle.capnp_layout.specs.Prelude.{pointer_kind, offset, data_words, pointer_words, code, list_count, words_from, number_of, width, words_for, struct, object_size, Shape, ShapeIsAt, places, elements_from, elements, a_struct, some_numbers, some_pointers, some_structs, struct_pointer, list_pointer, minus_one, pointer, Reaches}
 use Rattle.capnp_wire.specs.Prelude.{LeadsTo, IsNext}
 use Rattle.capnp_layout.specs.declared.place.Place.{Place}
 use Rattle.capnp_layout.proofs.layouts.LayoutLemmas.{if_positive}
 use Rattle.capnp_layout.proofs.objects.FieldLemmas.{length-places}
-use Rattle.capnp_layout.proofs.trees.RoomLemmas.{length-rows_from}
+use Rattle.capnp_layout.proofs.trees.RoomLemmas.{length-elements_from}
 use Rattle.capnp_layout.proofs.words.DigitLemmas.{length-digits}
 use Rattle.capnp_layout.proofs.pointers.TagLemmas.{struct_fields, list_fields}
 use Rattle.capnp_layout.proofs.pointers.NextLemmas.{lead_start, list_parts, struct_parts}
@@ -61,7 +61,7 @@ a_struct_next tag word next [] (suc n) k d p = some_struct tag word next [] (suc
 a_struct_next tag word next (w ∷ words) n k d p = some_struct tag word next (w ∷ words) n k d p (omega arith)
 
 -- the object says what the pointer's word is but for its offset
-pub next_is_laid_out : (segment : List ℕ) (start : Place) (tag word next : ℕ) (shape : Shape) → ShapeStands segment start tag shape
+pub next_is_laid_out : (segment : List ℕ) (start : Place) (tag word next : ℕ) (shape : Shape) → ShapeIsAt segment start tag shape
     → IsNext tag word next shape.form (length shape.children) ↔ ((tag ≡ pointer shape.form (length shape.children) (next - (word + 1))) × Reaches shape.form (length shape.children) (next - (word + 1)))
 next_is_laid_out segment start tag word next shape (a_struct k room) =
     a_struct_next tag word next (words_from segment start.word (data_words tag)) (length (places start.segment (start.word + data_words tag) (pointer_words tag)))
@@ -73,7 +73,7 @@ next_is_laid_out segment start tag word next shape (some_numbers k c room) =
 next_is_laid_out segment start tag word next shape (some_pointers k c room) =
     list_counted tag word next 6 (length (places start.segment start.word (list_count tag))) k c (omega arith) (length-places start.segment start.word (list_count tag))
 next_is_laid_out segment start tag word next shape (some_structs {tag = inner} k c room there l fits) =
-    list_next tag word next 7 (length (rows_from segment (start.word + 1) (data_words inner) (pointer_words inner) (offset inner)) * (data_words inner + pointer_words inner)) k c (omega arith)
+    list_next tag word next 7 (length (elements_from segment (start.word + 1) (data_words inner) (pointer_words inner) (offset inner)) * (data_words inner + pointer_words inner)) k c (omega arith)
 
 struct_room : (segment : List ℕ) (start tag word next : ℕ) (words : List ℕ) (n : ℕ) → start + length words + n ≤ length segment → word < next → next ≤ length segment
     → start + 2 ^ 30 * (offset tag / 2 ^ 29) ≡ word + 1 + offset tag
@@ -85,7 +85,7 @@ struct_room segment start tag word next (w ∷ words) n room before within targe
     let at : start ≡ next = lead_start word next start (offset tag) before (is.1 (omega arith)) target in omega arith
 
 -- and where it leads there, the object's words lie after that word
-pub next_room : (segment : List ℕ) (start tag word next : ℕ) (shape : Shape) → ShapeStands segment (record { segment = 0; word = start }) tag shape → word < next → next ≤ length segment
+pub next_room : (segment : List ℕ) (start tag word next : ℕ) (shape : Shape) → ShapeIsAt segment (record { segment = 0; word = start }) tag shape → word < next → next ≤ length segment
     → start + 2 ^ 30 * (offset tag / 2 ^ 29) ≡ word + 1 + offset tag
     → IsNext tag word next shape.form (length shape.children) → next + object_size shape.form (length shape.children) ≤ length segment
 next_room segment start tag word next shape (a_struct k room) before within target is =
@@ -101,5 +101,5 @@ next_room segment start tag word next shape (some_pointers k c room) before with
     omega (arith, length-places 0 start (list_count tag))
 next_room segment start tag word next shape (some_structs {tag = inner} k c room there l fits) before within target is =
     let at : start ≡ next = lead_start word next start (offset tag) before is.0 target in
-    let many = length-rows_from segment (start + 1) (data_words inner) (pointer_words inner) (offset inner) in
+    let many = length-elements_from segment (start + 1) (data_words inner) (pointer_words inner) (offset inner) in
     rw many (omega arith)

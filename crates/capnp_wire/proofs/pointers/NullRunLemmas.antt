@@ -12,9 +12,9 @@ use Rattle.capnp_layout.proofs.words.WordLemmas.{length-words_of}
 use Rattle.capnp_layout.proofs.layouts.BlockLemmas.{put_both, length-put}
 use Rattle.capnp_layout.proofs.objects.ObjectLemmas.{one_tree}
 use Rattle.capnp_wire.proofs.layouts.CopiedLemmas.{opened_here, object_begins}
-use Rattle.capnp_layout.proofs.trees.StandLemmas.{within_none, less_none}
-use Rattle.capnp_wire.proofs.trees.StandLemmas.{counts_none}
-use Rattle.capnp_layout.proofs.pointers.NullRunLemmas.{no_words, none_or_whole, nulls, nulls_filled, nulls_output, nulls_stand, roomy_nulls, seam, shallow_nulls}
+use Rattle.capnp_layout.proofs.trees.TreeCountLemmas.{within_none, less_none}
+use Rattle.capnp_wire.proofs.trees.TreeCountLemmas.{counts_none}
+use Rattle.capnp_layout.proofs.pointers.NullRunLemmas.{no_words, none_or_whole, nulls, nulls_filled, nulls_output, nulls_are_at, roomy_nulls, seam, shallow_nulls}
 
 -- a walk over them meets nothing
 pub nulls_walked : {m : List (List ℕ)} {c : Bool} {nesting : ℕ} {left counted_now : Option ℕ} (segment : ℕ) (words : List ℕ) (start n : ℕ)
@@ -22,9 +22,9 @@ pub nulls_walked : {m : List (List ℕ)} {c : Bool} {nesting : ℕ} {left counte
 nulls_walked {m} {c} {nesting} {left} {counted_now = b} segment words start n there room are = record {
   traversed = 0;
   words = 0;
-  stand = record {
+  are_at = record {
     trees = nulls n;
-    stand = nulls_stand m segment words start n there room are;
+    are_at = nulls_are_at m segment words start n there room are;
     shallow = shallow_nulls nesting n;
     rooms = roomy_nulls n;
     words_are = ap total_words (nulls_output c n) ∙ no_words n;
@@ -61,10 +61,10 @@ struct_of_nulls {m} {place} {found} {size} {nesting} {c} {gap} {next} {free} {po
     ) in
     let room_there : found.start.word + found.size.data_words + size.pointers ≤ length (words_of found.segment.now) = omega (arith, is.room, size_there, fewer) in
     let children_is : (trees : Trees) (traversed : ℕ) → At m (places found.start.segment (found.start.word + found.size.data_words) size.pointers ++ []) trees traversed → output c trees ≡ nulls size.pointers =
-    λ trees traversed stand.
-    let there = nulls_stand m found.start.segment (words_of found.segment.now) (found.start.word + found.size.data_words) size.pointers is.content room_there are in
+    λ trees traversed are_at.
+    let there = nulls_are_at m found.start.segment (words_of found.segment.now) (found.start.word + found.size.data_words) size.pointers is.content room_there are in
     let plain : At m (places found.start.segment (found.start.word + found.size.data_words) size.pointers) trees traversed =
-    subst (λ (l : List Place). At m l trees traversed) (append-nil (places found.start.segment (found.start.word + found.size.data_words) size.pointers)) stand in
+    subst (λ (l : List Place). At m l trees traversed) (append-nil (places found.start.segment (found.start.word + found.size.data_words) size.pointers)) are_at in
     ap (output c) (one_tree m (places found.start.segment (found.start.word + found.size.data_words) size.pointers) trees (nulls size.pointers) traversed 0 plain there).0 ∙ nulls_output c size.pointers in
     let put_data : length (put next (words_from (words_of found.segment.now) found.start.word size.data_words) old) ≡ length old =
     length-put next (words_from (words_of found.segment.now) found.start.word size.data_words) old (omega (arith, o.kept.fits, long_data)) in
@@ -76,8 +76,8 @@ struct_of_nulls {m} {place} {found} {size} {nesting} {c} {gap} {next} {free} {po
     ∙ ap (λ (k : ℕ). put (next + k) (words_from words (start + d) q) (put next own old)) long_data
     ∙ sym (nulls_filled words (start + d) q (next + e) (next + (e + q)) (put next own old) room_there are (omega (arith, put_data, o.kept.fits))) in
     (object_begins can o refl put_data pointer_is).ends new free (record {
-      words_are = λ trees traversed stand.
+      words_are = λ trees traversed are_at.
           filled ∙ ap (λ (l : List ℕ). fill l (next + (e + q)) (nulls q) (put next own old)) (sym (append-nil (run (next + e) q)))
-          ∙ ap (λ (t : Trees). fill (run (next + e) q ++ []) (next + (e + q)) t (put next own old)) (sym (children_is trees traversed stand));
-      next_is = λ trees traversed stand. omega (arith, free_is, ap total_words (children_is trees traversed stand), no_words size.pointers);
+          ∙ ap (λ (t : Trees). fill (run (next + e) q ++ []) (next + (e + q)) t (put next own old)) (sym (children_is trees traversed are_at));
+      next_is = λ trees traversed are_at. omega (arith, free_is, ap total_words (children_is trees traversed are_at), no_words size.pointers);
     })

@@ -19,14 +19,14 @@ use Rattle.capnp_layout.specs.declared.object.Object.{Object as ReadObject}
 pub entered_shows : (p : Pointer) (object : ReadObject) (fact : Form → Type 0) → IsEntered p object → fact (form_of object) → Shows p (λ shape. fact shape.form)
 entered_shows p object fact entered holds = (
   record (shape_of (words_of object.segment.now) object.start object.body) { traversed = object.traversed },
-  at_place entered.stands entered.object_is.object (λ not. entered.nesting),
+  at_place entered.is_at entered.object_is.object (λ not. entered.nesting),
   holds,
 )
 
 pub entered_reads : (p : Pointer) (object : ReadObject) (fact : Form → Type 0) → IsEntered p object → fact (form_of object) → Reads p fact
 entered_reads p object fact entered holds = (
   record (shape_of (words_of object.segment.now) object.start object.body) { traversed = object.traversed },
-  at_place entered.stands entered.object_is.object (λ not. entered.nesting),
+  at_place entered.is_at entered.object_is.object (λ not. entered.nesting),
   (holds, entered.within),
 )
 
@@ -43,7 +43,7 @@ pub entered_shown : (p : Pointer) (object : ReadObject) (fact : Form → List Pl
     → Shows p (λ shape. fact shape.form shape.children × Within p.limit shape.traversed)
 entered_shown p object fact entered holds = (
   record (shape_of (words_of object.segment.now) object.start object.body) { traversed = object.traversed },
-  at_place entered.stands entered.object_is.object (λ not. entered.nesting),
+  at_place entered.is_at entered.object_is.object (λ not. entered.nesting),
   (holds, entered.within),
 )
 
@@ -95,7 +95,7 @@ struct_shows p object size entered body =
     × (places object.start.segment (object.start.word + size.data_words) size.pointers ≡ (shape_of words object.start b).children) in
     let holds : fact object.body = subst fact (sym body) (refl, refl) in (
       record (shape_of words object.start object.body) { traversed = object.traversed },
-      at_place entered.stands entered.object_is.object (λ not. entered.nesting),
+      at_place entered.is_at entered.object_is.object (λ not. entered.nesting),
       (holds.0, holds.1, entered.within),
     )
 

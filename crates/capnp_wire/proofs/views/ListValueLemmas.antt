@@ -4,7 +4,7 @@ use Rattle.std.proofs.Common.{inl, inr, refl, sym, ◌∙◌, ap, subst, arith}
 use Rattle.std.specs.Prelude.{All}
 use Rattle.capnp_frame.specs.declared.error.Error.{Error}
 use Rattle.capnp_frame.specs.declared.error.ErrorKind.TheVariants.{InvalidSegmentId}
-use Rattle.capnp_layout.specs.Prelude.{Form, pointers, Trees, none, tree, count, total_words, places, row_places, rows_from, At, WalkError, no_word, no_segment, at_pointer, run, output, struct_pointer, list_pointer, HasRoom, AllHaveRoom, put, put_rows, fill, least_size, kept_places, row_slots, too_large}
+use Rattle.capnp_layout.specs.Prelude.{Form, pointers, Trees, none, tree, count, total_words, places, pointer_places, elements_from, At, WalkError, no_word, no_segment, at_pointer, run, output, struct_pointer, list_pointer, HasRoom, AllHaveRoom, put, put_data_sections, fill, least_size, kept_places, section_slots, too_large}
 use Rattle.capnp_wire.specs.Prelude.{WalkedAll, CanCopy, CopiesAll, IsCopied, HasWords, WordsError, HasRoomAt, HoldsPointers, PointerList, IsListTree, WalkErrorInList, pointers_along, pointers_of_structs, structs_along}
 use Rattle.capnp_wire.specs.declared.layout.copy.Copied.{Copied}
 use Rattle.capnp_layout.specs.declared.place.Place.{Place}
@@ -12,35 +12,35 @@ use Rattle.capnp_layout.specs.declared.pointer.Elements.{Elements}
 use Rattle.capnp_layout.specs.declared.pointer.StructSize.{StructSize}
 use Rattle.capnp_layout.specs.declared.object.Body.TheVariants.{Pointers}
 use Rattle.capnp_layout.proofs.objects.ObjectLemmas.{one_tree}
-use Rattle.capnp_layout.proofs.trees.RoomLemmas.{length-rows_from, length-row_places, rows_below}
-use Rattle.capnp_layout.proofs.trees.StandLemmas.{count_at}
+use Rattle.capnp_layout.proofs.trees.RoomLemmas.{length-elements_from, length-pointer_places, elements_below}
+use Rattle.capnp_layout.proofs.trees.TreeCountLemmas.{count_at}
 use Rattle.capnp_layout.proofs.trees.KeptLemmas.{long_places}
 use Rattle.capnp_layout.proofs.trees.TrimLemmas.{count-trim, room_trim}
-use Rattle.capnp_layout.proofs.trees.StoodLemmas.{structs_total}
+use Rattle.capnp_layout.proofs.trees.TreeSizeLemmas.{structs_total}
 use Rattle.capnp_wire.proofs.walks.WalkErrorLemmas.{walk_error_has_no_trees, one_walk_error}
 use Rattle.capnp_wire.proofs.walks.ProgressLemmas.{progress_begins, progress_done}
 use Rattle.capnp_layout.proofs.pointers.PointerSlotLemmas.{kept_nothing}
 use Rattle.capnp_wire.proofs.layouts.CopyLemmas.{split_first}
 use Rattle.capnp_layout.proofs.layouts.CopiedLemmas.{error_no_tree}
 use Rattle.capnp_wire.proofs.layouts.CopiedLemmas.{in_run}
-use Rattle.capnp_wire.proofs.layouts.OpenLemmas.{Opened, OpenedRows, pointers_open, room_output}
-use Rattle.capnp_wire.proofs.layouts.OpenedLemmas.{rows_plain, rows_trimmed}
+use Rattle.capnp_wire.proofs.layouts.OpenLemmas.{Opened, OpenedElements, pointers_open, room_output}
+use Rattle.capnp_wire.proofs.layouts.OpenedLemmas.{elements_plain, elements_trimmed}
 use Rattle.capnp_wire.proofs.views.OneValueLemmas.{IsOne}
 
 -- a list is one tree
 pub one_of_list : (form : Form) (list : PointerList) → IsOne (IsListTree form list) (WalkErrorInList list)
 one_of_list form list = record {
   same_tree = λ a b x y.
-      x.whole ∙ ap (λ (t : Trees). tree form t none) (one_tree list.message list.children x.children y.children x.traversed y.traversed x.stand y.stand).0 ∙ sym y.whole;
+      x.whole ∙ ap (λ (t : Trees). tree form t none) (one_tree list.message list.children x.children y.children x.traversed y.traversed x.are_at y.are_at).0 ∙ sym y.whole;
   same_error = one_walk_error list.message list.children list.nesting list.limit;
-  apart = λ kind trees walk_error t. walk_error_has_no_trees list.message list.children list.nesting t.traversed list.limit kind t.children walk_error t.stand t.shallow t.within;
+  apart = λ kind trees walk_error t. walk_error_has_no_trees list.message list.children list.nesting t.traversed list.limit kind t.children walk_error t.are_at t.shallow t.within;
 }
 
 -- and the same whatever the limit
 pub same_list : (form : Form) (m : List (List ℕ)) (at : List Place) (nesting : ℕ) (limit other : Option ℕ) (a b : Trees)
     → IsListTree form (record { message = m; children = at; nesting = nesting; limit = limit }) a → IsListTree form (record { message = m; children = at; nesting = nesting; limit = other }) b → a ≡ b
 same_list form m at nesting limit other a b x y =
-    x.whole ∙ ap (λ (t : Trees). tree form t none) (one_tree m at x.children y.children x.traversed y.traversed x.stand y.stand).0 ∙ sym y.whole
+    x.whole ∙ ap (λ (t : Trees). tree form t none) (one_tree m at x.children y.children x.traversed y.traversed x.are_at y.are_at).0 ∙ sym y.whole
 
 -- its own words, with those of the trees below it, and the room that its fields have
 pub record OwnWords (form : Form) (m : List (List ℕ)) (at : List Place) (c : Bool) (own : ℕ) : Type 0 where
@@ -54,18 +54,18 @@ pub list_measured : (form : Form) (m : List (List ℕ)) (at : List Place) (nesti
     → let list : PointerList = record { message = m; children = at; nesting = nesting; limit = limit } in
     MatchResult r (λ number. HasWords (IsListTree form list) c number) (λ error. WordsError (IsListTree form list) (WalkErrorInList list) c error.kind)
 list_measured form m at nesting limit left c counted_then counted_now own o w total total_is (Ok number) returned = record {
-  trees = tree form w.stand.trees none;
-  tree_is = record { children = w.stand.trees; traversed = w.traversed; stand = w.stand.stand; shallow = w.stand.shallow; within = w.within; whole = refl };
-  rooms = (o.room w.stand.trees w.traversed w.stand.stand, w.stand.rooms, tt);
-  words_are = returned.0 ∙ total_is ∙ ap (λ (k : ℕ). own + k) (sym w.stand.words_are) ∙ o.totals w.stand.trees w.traversed w.stand.stand w.stand.rooms;
+  trees = tree form w.are_at.trees none;
+  tree_is = record { children = w.are_at.trees; traversed = w.traversed; are_at = w.are_at.are_at; shallow = w.are_at.shallow; within = w.within; whole = refl };
+  rooms = (o.room w.are_at.trees w.traversed w.are_at.are_at, w.are_at.rooms, tt);
+  words_are = returned.0 ∙ total_is ∙ ap (λ (k : ℕ). own + k) (sym w.are_at.words_are) ∙ o.totals w.are_at.trees w.traversed w.are_at.are_at w.are_at.rooms;
   few = returned.1;
 }
 list_measured form m at nesting limit left c counted_then counted_now own o w total total_is (Err error) returned =
-    let whole : total ≡ total_words (output c (tree form w.stand.trees none)) =
-    total_is ∙ ap (λ (k : ℕ). own + k) (sym w.stand.words_are) ∙ o.totals w.stand.trees w.traversed w.stand.stand w.stand.rooms in
+    let whole : total ≡ total_words (output c (tree form w.are_at.trees none)) =
+    total_is ∙ ap (λ (k : ℕ). own + k) (sym w.are_at.words_are) ∙ o.totals w.are_at.trees w.traversed w.are_at.are_at w.are_at.rooms in
     inr (
-      tree form w.stand.trees none,
-      record { children = w.stand.trees; traversed = w.traversed; stand = w.stand.stand; shallow = w.stand.shallow; within = w.within; whole = refl },
+      tree form w.are_at.trees none,
+      record { children = w.are_at.trees; traversed = w.traversed; are_at = w.are_at.are_at; shallow = w.are_at.shallow; within = w.within; whole = refl },
       subst (λ (k : ℕ). 2 ^ 29 ≤ k) whole returned.0,
       returned.1 ∙ ap (too_large c) whole,
     )
@@ -78,10 +78,10 @@ pointers_total false n children many = omega (arith, many)
 pub own_pointers : (m : List (List ℕ)) (first : Place) (n : ℕ) (c : Bool) → n < 2 ^ 29 → OwnWords pointers m (places first.segment first.word n) c n
 own_pointers m first n c few =
     let many : (children : Trees) (inside : ℕ) → At m (places first.segment first.word n) children inside → count children ≡ n =
-    λ children inside stand. count_at m (places first.segment first.word n) children inside stand ∙ long_places first.segment first.word n in
+    λ children inside are_at. count_at m (places first.segment first.word n) children inside are_at ∙ long_places first.segment first.word n in
     record {
-      totals = λ children inside stand rooms. pointers_total c n children (many children inside stand);
-      room = λ children inside stand. subst (λ (k : ℕ). k < 2 ^ 29) (sym (many children inside stand)) few;
+      totals = λ children inside are_at rooms. pointers_total c n children (many children inside are_at);
+      room = λ children inside are_at. subst (λ (k : ℕ). k < 2 ^ 29) (sym (many children inside are_at)) few;
     }
 
 -- a walk over no pointers
@@ -108,9 +108,9 @@ pub pointers_opened : (m : List (List ℕ)) (first : Place) (n nesting : ℕ) (l
     (w : HasRoomAt (IsListTree pointers (pointers_along m first n nesting limit)) c next room) → Opened m [] first (Pointers n) (Pointers n) nesting c next room w.trees
 pointers_opened m first n nesting limit c next room w =
     let t = w.tree_is in
-    pointers_open m [] first n nesting c next room w.trees t.children (output c t.children) t.traversed (ap (output c) t.whole ∙ output_pointers c t.children) refl t.stand t.shallow
+    pointers_open m [] first n nesting c next room w.trees t.children (output c t.children) t.traversed (ap (output c) t.whole ∙ output_pointers c t.children) refl t.are_at t.shallow
     (subst AllHaveRoom t.whole w.rooms).1 (room_output c w.trees w.rooms)
-    (output_count c t.children ∙ count_at m (places first.segment first.word n) t.children t.traversed t.stand ∙ long_places first.segment first.word n) w.fits
+    (output_count c t.children ∙ count_at m (places first.segment first.word n) t.children t.traversed t.are_at ∙ long_places first.segment first.word n) w.fits
 
 pub pointers_copyable : {m : List (List ℕ)} {first : Place} {n nesting : ℕ} {c : Bool} {next room : ℕ} {trees : Trees} → Opened m [] first (Pointers n) (Pointers n) nesting c next room trees
     → CanCopy m (places first.segment first.word n) nesting c (next + n) room
@@ -124,7 +124,7 @@ no_pointers_there m first zero nesting c next room missing can = refl
 no_pointers_there m first (suc n) nesting c next room missing can =
     let place : Place = record { segment = first.segment; word = first.word } in
     let s = split_first m place (places first.segment (first.word + 1) n) nesting c next room can in
-    absurd (error_no_tree m place nesting _ s.first.trees s.first.traversed (no_word (no_segment missing)) s.first.stand s.first.shallow)
+    absurd (error_no_tree m place nesting _ s.first.trees s.first.traversed (no_word (no_segment missing)) s.first.are_at s.first.shallow)
 
 pub pointers_written : {m : List (List ℕ)} {first : Place} {n nesting : ℕ} {c : Bool} {gap next room : ℕ} {trees : Trees} {old new : List ℕ} {done : Copied}
     → Opened m [] first (Pointers n) (Pointers n) nesting c next room trees → length old ≡ room
@@ -132,7 +132,7 @@ pub pointers_written : {m : List (List ℕ)} {first : Place} {n nesting : ℕ} {
 pointers_written {m} {first} {n} {nesting} {c} {gap} {next} {room} {trees} {old} {new} {done} o long all pointer_is =
     let k = o.kept in
     let r = in_run first (Pointers n) (Pointers n) next n refl refl in
-    let there : At m (places first.segment first.word n) k.trees k.traversed = subst (λ (l : List Place). At m l k.trees k.traversed) r.places_are k.stand in
+    let there : At m (places first.segment first.word n) k.trees k.traversed = subst (λ (l : List Place). At m l k.trees k.traversed) r.places_are k.are_at in
     record {
       words_are = all.words_are k.trees k.traversed there ∙ ap (λ (l : List ℕ). fill l (next + n) (output c k.trees) old) (sym r.slots_are) ∙ o.fills old long;
       pointer_is = pointer_is ∙ o.pointers_are gap;
@@ -144,81 +144,81 @@ pointers_written {m} {first} {n} {nesting} {c} {gap} {next} {room} {trees} {old}
 abbrev pub kept_size : Bool → List ℕ → Place → Elements → StructSize
 kept_size c words first elements = if c then least_size words first.word elements.size elements.count else elements.size
 
-rows_total : (m : List (List ℕ)) (words : List ℕ) (first : Place) (elements : Elements) (c : Bool) (children : Trees) (inside : ℕ) → HoldsPointers m words first elements.size
-    → At m (row_places first.segment first.word elements.size.data_words elements.size.pointers elements.count) children inside → AllHaveRoom children
+elements_total : (m : List (List ℕ)) (words : List ℕ) (first : Place) (elements : Elements) (c : Bool) (children : Trees) (inside : ℕ) → HoldsPointers m words first elements.size
+    → At m (pointer_places first.segment first.word elements.size.data_words elements.size.pointers elements.count) children inside → AllHaveRoom children
     → 1 + elements.count * ((kept_size c words first elements).data_words + (kept_size c words first elements).pointers) + total_words (output c children)
     ≡ total_words (output c (tree (structs_along words first elements) children none))
-rows_total m words first elements true children inside content stand rooms =
-    structs_total m words first.segment first.word elements.size.data_words elements.size.pointers elements.count children inside content stand (room_trim children rooms)
-rows_total m words first elements false children inside content stand rooms =
-    omega (arith, ap (λ (k : ℕ). 1 + k * (elements.size.data_words + elements.size.pointers)) (length-rows_from words first.word elements.size.data_words elements.size.pointers elements.count))
+elements_total m words first elements true children inside content are_at rooms =
+    structs_total m words first.segment first.word elements.size.data_words elements.size.pointers elements.count children inside content are_at (room_trim children rooms)
+elements_total m words first elements false children inside content are_at rooms =
+    omega (arith, ap (λ (k : ℕ). 1 + k * (elements.size.data_words + elements.size.pointers)) (length-elements_from words first.word elements.size.data_words elements.size.pointers elements.count))
 
 pub own_structs : (m : List (List ℕ)) (words : List ℕ) (first : Place) (elements : Elements) (c : Bool) → HoldsPointers m words first elements.size
     → first.word + elements.count * (elements.size.data_words + elements.size.pointers) ≤ length words → All (λ w. w < 2 ^ 64) words
     → elements.size.data_words < 2 ^ 16 → elements.size.pointers < 2 ^ 16 → elements.count < 2 ^ 30 → elements.count * (elements.size.data_words + elements.size.pointers) < 2 ^ 29
-    → OwnWords (structs_along words first elements) m (row_places first.segment first.word elements.size.data_words elements.size.pointers elements.count) c
+    → OwnWords (structs_along words first elements) m (pointer_places first.segment first.word elements.size.data_words elements.size.pointers elements.count) c
     (1 + elements.count * ((kept_size c words first elements).data_words + (kept_size c words first elements).pointers))
 own_structs m words first elements c content room all few_data few_pointers few few_words =
     let d : ℕ = elements.size.data_words in
     let p : ℕ = elements.size.pointers in
     let n : ℕ = elements.count in
-    let long : length (rows_from words first.word d p n) ≡ n = length-rows_from words first.word d p n in
+    let long : length (elements_from words first.word d p n) ≡ n = length-elements_from words first.word d p n in
     record {
-      totals = λ children inside stand rooms. rows_total m words first elements c children inside content stand rooms;
-      room = λ children inside stand. (
+      totals = λ children inside are_at rooms. elements_total m words first elements c children inside content are_at rooms;
+      room = λ children inside are_at. (
         few_data,
         few_pointers,
         subst (λ (k : ℕ). k < 2 ^ 30) (sym long) few,
         subst (λ (k : ℕ). k * (d + p) < 2 ^ 29) (sym long) few_words,
-        count_at m (row_places first.segment first.word d p n) children inside stand ∙ length-row_places first.segment first.word d p n ∙ ap (λ (k : ℕ). k * p) (sym long),
-        rows_below words first.word d p n room all,
+        count_at m (pointer_places first.segment first.word d p n) children inside are_at ∙ length-pointer_places first.segment first.word d p n ∙ ap (λ (k : ℕ). k * p) (sym long),
+        elements_below words first.word d p n room all,
       );
     }
 
-rows_opened_as : (m : List (List ℕ)) (words : List ℕ) (first : Place) (elements : Elements) (nesting : ℕ) (limit : Option ℕ) (c : Bool) (next room : ℕ) → HoldsPointers m words first elements.size
+elements_opened_as : (m : List (List ℕ)) (words : List ℕ) (first : Place) (elements : Elements) (nesting : ℕ) (limit : Option ℕ) (c : Bool) (next room : ℕ) → HoldsPointers m words first elements.size
     → first.word + elements.count * (elements.size.data_words + elements.size.pointers) ≤ length words
     → (w : HasRoomAt (IsListTree (structs_along words first elements) (pointers_of_structs m first elements nesting limit)) c next room)
-    → OpenedRows m words first.segment first.word elements.size (kept_size c words first elements) elements.count nesting c next room w.trees
-rows_opened_as m words first elements nesting limit false next room content there w =
+    → OpenedElements m words first.segment first.word elements.size (kept_size c words first elements) elements.count nesting c next room w.trees
+elements_opened_as m words first elements nesting limit false next room content there w =
     let t = w.tree_is in
-    rows_plain m words first.segment first.word elements nesting next room w.trees t.children t.traversed t.whole t.stand t.shallow (subst AllHaveRoom t.whole w.rooms).1 w.rooms there w.fits
-rows_opened_as m words first elements nesting limit true next room content there w =
+    elements_plain m words first.segment first.word elements nesting next room w.trees t.children t.traversed t.whole t.are_at t.shallow (subst AllHaveRoom t.whole w.rooms).1 w.rooms there w.fits
+elements_opened_as m words first elements nesting limit true next room content there w =
     let t = w.tree_is in
-    rows_trimmed m words first.segment first.word elements nesting next room w.trees t.children t.traversed content t.whole t.stand t.shallow (subst AllHaveRoom t.whole w.rooms).1
+    elements_trimmed m words first.segment first.word elements nesting next room w.trees t.children t.traversed content t.whole t.are_at t.shallow (subst AllHaveRoom t.whole w.rooms).1
     (room_trim w.trees w.rooms) there w.fits
 
-pub rows_opened : {m : List (List ℕ)} {words : List ℕ} {first : Place} {elements kept : Elements} {nesting : ℕ} {limit : Option ℕ} {c : Bool} {next room : ℕ}
+pub elements_opened : {m : List (List ℕ)} {words : List ℕ} {first : Place} {elements kept : Elements} {nesting : ℕ} {limit : Option ℕ} {c : Bool} {next room : ℕ}
     → HoldsPointers m words first elements.size → first.word + elements.count * (elements.size.data_words + elements.size.pointers) ≤ length words
     → kept.size ≡ kept_size c words first elements → kept.count ≡ elements.count
     → (w : HasRoomAt (IsListTree (structs_along words first elements) (pointers_of_structs m first elements nesting limit)) c next room)
-    → OpenedRows m words first.segment first.word elements.size kept.size kept.count nesting c next room w.trees
-rows_opened {m} {words} {first} {elements} {kept} {nesting} {limit} {c} {next} {room} content there size_is count_is w =
-    subst (λ (k : ℕ). OpenedRows m words first.segment first.word elements.size kept.size k nesting c next room w.trees) (sym count_is)
-    (subst (λ (k : StructSize). OpenedRows m words first.segment first.word elements.size k elements.count nesting c next room w.trees) (sym size_is)
-    (rows_opened_as m words first elements nesting limit c next room content there w))
+    → OpenedElements m words first.segment first.word elements.size kept.size kept.count nesting c next room w.trees
+elements_opened {m} {words} {first} {elements} {kept} {nesting} {limit} {c} {next} {room} content there size_is count_is w =
+    subst (λ (k : ℕ). OpenedElements m words first.segment first.word elements.size kept.size k nesting c next room w.trees) (sym count_is)
+    (subst (λ (k : StructSize). OpenedElements m words first.segment first.word elements.size k elements.count nesting c next room w.trees) (sym size_is)
+    (elements_opened_as m words first elements nesting limit c next room content there w))
 
-pub rows_written : {m : List (List ℕ)} {words : List ℕ} {segment begin : ℕ} {from size : StructSize} {n nesting : ℕ} {c : Bool} {gap next room end : ℕ} {trees : Trees} {old tagged mid new : List ℕ}
-    {done : Copied} → OpenedRows m words segment begin from size n nesting c next room trees → length old ≡ room
+pub elements_written : {m : List (List ℕ)} {words : List ℕ} {segment begin : ℕ} {from size : StructSize} {n nesting : ℕ} {c : Bool} {gap next room end : ℕ} {trees : Trees} {old tagged mid new : List ℕ}
+    {done : Copied} → OpenedElements m words segment begin from size n nesting c next room trees → length old ≡ room
     → tagged ≡ put next (struct_pointer n size.data_words size.pointers ∷ []) old
-    → mid ≡ put_rows (next + 1) size.pointers (rows_from words begin size.data_words (from.data_words + from.pointers - size.data_words) n) tagged
+    → mid ≡ put_data_sections (next + 1) size.pointers (elements_from words begin size.data_words (from.data_words + from.pointers - size.data_words) n) tagged
     → end ≡ next + (1 + n * (size.data_words + size.pointers))
-    → CopiesAll m (kept_places segment begin from.data_words from.pointers size.pointers n) c (row_slots (next + 1) size.data_words size.pointers n) end mid new done.next
+    → CopiesAll m (kept_places segment begin from.data_words from.pointers size.pointers n) c (section_slots (next + 1) size.data_words size.pointers n) end mid new done.next
     → done.pointer ≡ list_pointer gap 7 (n * (size.data_words + size.pointers)) → IsCopied (output c trees) gap next old new done
-rows_written {m} {words} {segment} {begin} {from} {size} {n} {nesting} {c} {gap} {next} {room} {end} {trees} {old} {tagged} {mid} {new} {done} o long tagged_is mid_is end_is all pointer_is =
+elements_written {m} {words} {segment} {begin} {from} {size} {n} {nesting} {c} {gap} {next} {room} {end} {trees} {old} {tagged} {mid} {new} {done} o long tagged_is mid_is end_is all pointer_is =
     let k = o.kept in
-    let slots = row_slots (next + 1) size.data_words size.pointers n in
-    let rows = rows_from words begin size.data_words (from.data_words + from.pointers - size.data_words) n in
+    let slots = section_slots (next + 1) size.data_words size.pointers n in
+    let sections = elements_from words begin size.data_words (from.data_words + from.pointers - size.data_words) n in
     record {
-      words_are = all.words_are k.trees k.traversed k.stand
-          ∙ ap (λ (b : List ℕ). fill slots end (output c k.trees) b) (mid_is ∙ ap (put_rows (next + 1) size.pointers rows) tagged_is)
-          ∙ ap (λ (e : ℕ). fill slots e (output c k.trees) (put_rows (next + 1) size.pointers rows (put next (struct_pointer n size.data_words size.pointers ∷ []) old))) end_is
+      words_are = all.words_are k.trees k.traversed k.are_at
+          ∙ ap (λ (b : List ℕ). fill slots end (output c k.trees) b) (mid_is ∙ ap (put_data_sections (next + 1) size.pointers sections) tagged_is)
+          ∙ ap (λ (e : ℕ). fill slots e (output c k.trees) (put_data_sections (next + 1) size.pointers sections (put next (struct_pointer n size.data_words size.pointers ∷ []) old))) end_is
           ∙ o.fills old long;
       pointer_is = pointer_is ∙ o.pointers_are gap;
-      next_is = omega (arith, all.next_is k.trees k.traversed k.stand, o.totals, end_is);
+      next_is = omega (arith, all.next_is k.trees k.traversed k.are_at, o.totals, end_is);
     }
 
 -- structs that have pointers to keep are in a segment of the message
-pub rows_children : (m : List (List ℕ)) (words : List ℕ) (first : Place) (size : StructSize) (q n : ℕ) → HoldsPointers m words first size → q ≤ size.pointers
+pub elements_children : (m : List (List ℕ)) (words : List ℕ) (first : Place) (size : StructSize) (q n : ℕ) → HoldsPointers m words first size → q ≤ size.pointers
     → kept_places first.segment first.word size.data_words size.pointers q n ≢ [] → slice_get m first.segment ≡ Some words
-rows_children m words first size zero n holds le some = absurd (some (kept_nothing {B = ℕ} first.segment first.word size.data_words size.pointers 0 n (inl refl)))
-rows_children m words first size (suc q) n holds le some = holds (omega arith)
+elements_children m words first size zero n holds le some = absurd (some (kept_nothing {B = ℕ} first.segment first.word size.data_words size.pointers 0 n (inl refl)))
+elements_children m words first size (suc q) n holds le some = holds (omega arith)

@@ -2,8 +2,8 @@
 use Rattle.std.proofs.Common.{◌≡◌, ℕ, ◌+◌, ◌*◌, ◌/◌, ◌^◌, ◌<◌, ◌≤◌, List, length, refl, sym, ap, subst, arith}
 use Rattle.capnp_frame.specs.declared.error.ErrorKind.{ErrorKind}
 use Rattle.capnp_frame.specs.declared.error.ErrorKind.TheVariants.{WrongPointerKind}
-use Rattle.capnp_layout.specs.Prelude.{number_of, words_of, words_from, code_of, width, words_for, HasRoom, Form, null, struct, numbers, pointers, structs, places, row_places, rows_from, Within, shape_of, room_of, words_in}
-use Rattle.capnp_wire.specs.Prelude.{Pointer, at_place, Shows, Accepts, Reads, TakesNumbers, IsNumbers, IsEntered, form_of, StructList, PointerList, HasRows, IsStructList, IsPointerList, TakesStructs, TakesPointers, StructsFormError, PointersFormError, structs_in}
+use Rattle.capnp_layout.specs.Prelude.{number_of, words_of, words_from, code_of, width, words_for, HasRoom, Form, null, struct, numbers, pointers, structs, places, pointer_places, elements_from, Within, shape_of, room_of, words_in}
+use Rattle.capnp_wire.specs.Prelude.{Pointer, at_place, Shows, Accepts, Reads, TakesNumbers, IsNumbers, IsEntered, form_of, StructList, PointerList, HasElements, IsStructList, IsPointerList, TakesStructs, TakesPointers, StructsFormError, PointersFormError, structs_in}
 use Rattle.capnp_layout.specs.declared.place.Place.{Place}
 use Rattle.capnp_layout.specs.declared.element_size.ElementSize.{ElementSize}
 use Rattle.capnp_layout.specs.declared.object.Body.{Body}
@@ -12,7 +12,7 @@ use Rattle.capnp_layout.specs.declared.pointer.Elements.{Elements}
 use Rattle.capnp_layout.specs.declared.object.Object.{Object as ReadObject}
 use Rattle.capnp_layout.proofs.words.DigitLemmas.{length-digits}
 use Rattle.capnp_layout.proofs.objects.FieldLemmas.{length-places}
-use Rattle.capnp_layout.proofs.trees.RoomLemmas.{length-rows_from}
+use Rattle.capnp_layout.proofs.trees.RoomLemmas.{length-elements_from}
 use Rattle.capnp_wire.proofs.views.ViewLemmas.{Decides, wrong_kind_once, wrong_kind_unlimited}
 
 pub structs_decide : Decides TakesStructs StructsFormError
@@ -30,15 +30,15 @@ pointers_decide = record {
 }
 
 -- what a list of structs shows is of a form that it accepts
-rows_taken : (form : Form) (p : ℕ) (rows : List (List ℕ)) → HasRows form p rows → TakesStructs form
-rows_taken null p rows t = tt
-rows_taken (struct words) p rows t = t
-rows_taken (numbers code values) p rows t = t
-rows_taken pointers p rows t = t
-rows_taken (structs d q there) p rows t = tt
+elements_taken : (form : Form) (p : ℕ) (elements : List (List ℕ)) → HasElements form p elements → TakesStructs form
+elements_taken null p elements t = tt
+elements_taken (struct words) p elements t = t
+elements_taken (numbers code values) p elements t = t
+elements_taken pointers p elements t = t
+elements_taken (structs d q there) p elements t = tt
 
 pub structs_accepted : (p : Pointer) (list : StructList) → IsStructList p list → Accepts p TakesStructs
-structs_accepted p list read = (read.shown.0, read.shown.1, rows_taken read.shown.0.form list.pointer_words list.rows read.shown.2.0)
+structs_accepted p list read = (read.shown.0, read.shown.1, elements_taken read.shown.0.form list.pointer_words list.elements read.shown.2.0)
 
 pub pointers_accepted : (p : Pointer) (list : PointerList) → IsPointerList p list → Accepts p TakesPointers
 pointers_accepted p list read = (read.shown.0, read.shown.1, read.shown.2.0)
@@ -65,18 +65,18 @@ other_than_pointers object kind none is = (other_pointers (words_of object.segme
 
 -- the elements of a list of structs that was entered
 pub structs_show : (p : Pointer) (object : ReadObject) (elements : Elements) (following : ℕ) → IsEntered p object → object.body ≡ Structs elements following
-    → Shows p (λ shape. HasRows shape.form elements.size.pointers
-    (rows_from (words_of object.segment.now) (object.start.word + 1) elements.size.data_words elements.size.pointers elements.count)
-    × (row_places object.start.segment (object.start.word + 1) elements.size.data_words elements.size.pointers elements.count ≡ shape.children)
+    → Shows p (λ shape. HasElements shape.form elements.size.pointers
+    (elements_from (words_of object.segment.now) (object.start.word + 1) elements.size.data_words elements.size.pointers elements.count)
+    × (pointer_places object.start.segment (object.start.word + 1) elements.size.data_words elements.size.pointers elements.count ≡ shape.children)
     × Within p.limit shape.traversed)
 structs_show p object elements following entered body =
     let words = words_of object.segment.now in
     let size = elements.size in
-    let fact : Body → Type 0 = λ b. HasRows (shape_of words object.start b).form size.pointers (rows_from words (object.start.word + 1) size.data_words size.pointers elements.count)
-    × (row_places object.start.segment (object.start.word + 1) size.data_words size.pointers elements.count ≡ (shape_of words object.start b).children) in
+    let fact : Body → Type 0 = λ b. HasElements (shape_of words object.start b).form size.pointers (elements_from words (object.start.word + 1) size.data_words size.pointers elements.count)
+    × (pointer_places object.start.segment (object.start.word + 1) size.data_words size.pointers elements.count ≡ (shape_of words object.start b).children) in
     let holds : fact object.body = subst fact (sym body) ((refl, refl), refl) in (
       record (shape_of words object.start object.body) { traversed = object.traversed },
-      at_place entered.stands entered.object_is.object (λ not. entered.nesting),
+      at_place entered.is_at entered.object_is.object (λ not. entered.nesting),
       (holds.0, holds.1, entered.within),
     )
 
@@ -106,7 +106,7 @@ pointers_show p object n entered body =
     let fact : Body → Type 0 = λ b. TakesPointers (shape_of words object.start b).form × (places object.start.segment object.start.word n ≡ (shape_of words object.start b).children) in
     let holds : fact object.body = subst fact (sym body) (tt, refl) in (
       record (shape_of words object.start object.body) { traversed = object.traversed },
-      at_place entered.stands entered.object_is.object (λ not. entered.nesting),
+      at_place entered.is_at entered.object_is.object (λ not. entered.nesting),
       (holds.0, holds.1, entered.within),
     )
 
@@ -116,7 +116,7 @@ numbers_taken null code values t = tt
 numbers_taken (struct words) code values t = t
 numbers_taken (numbers there are) code values t = t.0
 numbers_taken pointers code values t = t
-numbers_taken (structs d p rows) code values t = t
+numbers_taken (structs d p elements) code values t = t
 
 pub numbers_accepted : (p : Pointer) (code : ℕ) (values : List ℕ) → Reads p (λ form. IsNumbers code form values) → Accepts p (TakesNumbers code)
 numbers_accepted p code values read = (read.0, read.1, numbers_taken read.0.form code values read.2.0)
@@ -133,7 +133,7 @@ pub few_structs : (p : Pointer) (object : ReadObject) (elements : Elements) (fol
 few_structs p object elements following entered body =
     let size = elements.size in
     let room = room_entered p object (Structs elements following) entered body in
-    let long = length-rows_from (words_of object.segment.now) (object.start.word + 1) size.data_words size.pointers elements.count in (
+    let long = length-elements_from (words_of object.segment.now) (object.start.word + 1) size.data_words size.pointers elements.count in (
       subst (λ (k : ℕ). k < 2 ^ 30) long room.2,
       subst (λ (k : ℕ). k * (size.data_words + size.pointers) < 2 ^ 29) long room.3,
     )

@@ -50,7 +50,7 @@ measured_found h r one c (Err error) m words w = absurd (has_or_error h r one c 
 pub one_there : (o : Option Place) (m : List (List ℕ)) (nesting : ℕ) (limit : Option ℕ) (a b : Trees) → MatchOption o (a ≡ tree null none none) (λ place. TreeAt m place nesting limit a)
     → MatchOption o (b ≡ tree null none none) (λ place. TreeAt m place nesting limit b) → a ≡ b
 one_there None m nesting limit a b x y = x ∙ sym y
-one_there (Some place) m nesting limit a b x y = (one_tree m (place ∷ []) a b x.traversed y.traversed x.stand y.stand).0
+one_there (Some place) m nesting limit a b x y = (one_tree m (place ∷ []) a b x.traversed y.traversed x.are_at y.are_at).0
 
 one_way : (p : Pointer) (a b : ErrorKind) → WalkErrorFrom p a → WalkErrorFrom p b → a ≡ b
 one_way p a b x y =
@@ -62,7 +62,7 @@ one_way p a b x y =
 error_or_leads : (p : Pointer) (kind : ErrorKind) (trees : Trees) → WalkErrorFrom p kind → LeadsToTree p trees → ⊥
 error_or_leads p kind trees walk_error leads =
     let t = from_tree p walk_error.0 trees walk_error.1 leads in
-    walk_error_has_no_trees p.message (walk_error.0 ∷ []) p.nesting t.traversed p.limit kind trees walk_error.2 t.stand t.shallow t.within
+    walk_error_has_no_trees p.message (walk_error.0 ∷ []) p.nesting t.traversed p.limit kind trees walk_error.2 t.are_at t.shallow t.within
 
 pub one_of_pointer : (p : Pointer) → IsOne (LeadsToTree p) (WalkErrorFrom p)
 one_of_pointer p = record {
@@ -75,7 +75,7 @@ one_of_pointer p = record {
 pub one_of_struct : (fields : Struct) → IsOne (IsTreeOf fields) (WalkErrorInside fields)
 one_of_struct fields = record {
   same_tree = λ a b x y.
-      x.whole ∙ ap (λ (t : Trees). tree (struct fields.words) t none) (one_tree fields.message fields.children x.children y.children x.traversed y.traversed x.stand y.stand).0 ∙ sym y.whole;
+      x.whole ∙ ap (λ (t : Trees). tree (struct fields.words) t none) (one_tree fields.message fields.children x.children y.children x.traversed y.traversed x.are_at y.are_at).0 ∙ sym y.whole;
   same_error = one_walk_error fields.message fields.children fields.nesting fields.limit;
-  apart = λ kind trees walk_error t. walk_error_has_no_trees fields.message fields.children fields.nesting t.traversed fields.limit kind t.children walk_error t.stand t.shallow t.within;
+  apart = λ kind trees walk_error t. walk_error_has_no_trees fields.message fields.children fields.nesting t.traversed fields.limit kind t.children walk_error t.are_at t.shallow t.within;
 }

@@ -4,7 +4,7 @@ use Rattle.std.specs.Prelude.{IsTrue, [], ◌∷◌, List}
 use Rattle.std.specs.Result.{result_unwrap_or}
 use Rattle.capnp_frame.specs.declared.error.Error.{Error}
 use Rattle.capnp_layout.specs.Tree.{is_null}
-use Rattle.capnp_layout.specs.Prelude.{null, Trees, none, tree, total_words, Shape, ShapeStands, a_struct, some_numbers, some_pointers, some_structs, PointsTo, is_null as null_there, is_object, nothing, At, nowhere as nothing_more, at, output, AllHaveRoom}
+use Rattle.capnp_layout.specs.Prelude.{null, Trees, none, tree, total_words, Shape, ShapeIsAt, a_struct, some_numbers, some_pointers, some_structs, PointsTo, is_null as null_there, is_object, nothing, At, nowhere as nothing_more, at, output, AllHaveRoom}
 use Rattle.capnp_wire.specs.Prelude.{Pointer, Denotes, nowhere, at_place, HasWords, HasPart, LeadsToTree, TreeAt, starts_with_null}
 use Rattle.capnp_layout.specs.declared.place.Place.{Place}
 use Rattle.capnp_wire.specs.declared.traits.TreeWords.{TreeWords}
@@ -79,7 +79,7 @@ null_there_tree p trees e t =
     subst (λ (o : Option Place). MatchOption o (trees ≡ tree null none none) (λ there. TreeAt p.message there p.nesting p.limit trees)) e t
 
 -- what has a place is null where its pointer is
-some_form : (words : List ℕ) (start : Place) (tag : ℕ) (shape : Shape) → ShapeStands words start tag shape → is_null shape.form ≡ false
+some_form : (words : List ℕ) (start : Place) (tag : ℕ) (shape : Shape) → ShapeIsAt words start tag shape → is_null shape.form ≡ false
 some_form words start tag shape (a_struct _ _) = refl
 some_form words start tag shape (some_numbers _ _ _) = refl
 some_form words start tag shape (some_pointers _ _ _) = refl
@@ -87,10 +87,10 @@ some_form words start tag shape (some_structs _ _ _ _ _ _) = refl
 
 null_form : (m : List (List ℕ)) (place : Place) (shape : Shape) → PointsTo m place shape → is_null shape.form ≡ true → PointsTo m place nothing
 null_form m place shape (null_there e) is = null_there e
-null_form m place shape (is_object {shape = s} lands e begins stands) is = let some = some_form _ _ _ s stands in absurd (cc)
+null_form m place shape (is_object {shape = s} lands e begins is_at) is = let some = some_form _ _ _ s is_at in absurd (cc)
 
-null_stands : (m : List (List ℕ)) (place : Place) (trees : Trees) (traversed : ℕ) → At m (place ∷ []) trees traversed → starts_with_null trees ≡ true → PointsTo m place nothing
-null_stands m place trees traversed (at {shape = s} object inner nothing_more) is = null_form m place s object is
+null_is_there : (m : List (List ℕ)) (place : Place) (trees : Trees) (traversed : ℕ) → At m (place ∷ []) trees traversed → starts_with_null trees ≡ true → PointsTo m place nothing
+null_is_there m place trees traversed (at {shape = s} object inner nothing_more) is = null_form m place s object is
 
 null_starts : (m : List (List ℕ)) (place : Place) (trees : Trees) (traversed : ℕ) → At m (place ∷ []) trees traversed → PointsTo m place nothing → starts_with_null trees ≡ true
 null_starts m place trees traversed (at {shape = s} object inner nothing_more) there = ap (λ (x : Shape). is_null x.form) (one_object m place s nothing object there)
@@ -109,9 +109,9 @@ null_at (Some place) p trees result e told is =
     (λ yes. elim (told.0 yes) [
       | nowhere empty ↦ absurd (cc)
       | at_place {place = other} g object deep ↦
-          (let same : other ≡ place = cc in null_starts p.message place trees is.traversed is.stand (subst (λ (x : Place). PointsTo p.message x nothing) same object))
+          (let same : other ≡ place = cc in null_starts p.message place trees is.traversed is.are_at (subst (λ (x : Place). PointsTo p.message x nothing) same object))
     ])
-    (λ null_is. told.1 (at_place e (null_stands p.message place trees is.traversed is.stand null_is) (λ not. absurd (cc))))
+    (λ null_is. told.1 (at_place e (null_is_there p.message place trees is.traversed is.are_at null_is) (λ not. absurd (cc))))
 
 pub null_reported : (p : Pointer) (trees : Trees) (result : Bool) → (IsTrue result ↔ Denotes p nothing) → LeadsToTree p trees → result ≡ starts_with_null trees
 null_reported p trees result told is = null_at p.place p trees result refl told is

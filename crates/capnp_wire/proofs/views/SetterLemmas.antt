@@ -116,7 +116,7 @@ one_root m place trees traversed (at {shape = s} {children = h} object inner now
 one_root_at : (o : Option Place) (m : List (List ℕ)) (nesting : ℕ) (limit : Option ℕ) (trees : Trees) → MatchOption o (trees ≡ tree null none none) (λ place. TreeAt m place nesting limit trees)
     → (f : Form) × (h : Trees) × (trees ≡ tree f h none)
 one_root_at None m nesting limit trees t = (null, none, t)
-one_root_at (Some place) m nesting limit trees t = one_root m place trees t.traversed t.stand
+one_root_at (Some place) m nesting limit trees t = one_root m place trees t.traversed t.are_at
 
 -- canonical forms are equal exactly where their trees are, trimmed
 pub forms_tell : (p q : Pointer) (words others : List ℕ) (a : IsCanonicalForm p words) (b : IsCanonicalForm q others) → (words ≡ others) ↔ (trim a.trees ≡ trim b.trees)

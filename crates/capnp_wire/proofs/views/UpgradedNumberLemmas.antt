@@ -1,10 +1,10 @@
 -- What lists that are read as lists of numbers show.
 use Rattle.std.proofs.lemmas.List.{length-map, get_or-map, get_or-take, get_or-drop}
 use Rattle.std.proofs.Common.{◌≡◌, ℕ, zero, suc, ◌+◌, ◌*◌, ◌/◌, ◌%◌, ◌^◌, ◌<◌, ◌≤◌, List, [], length, drop, slice_index_or, sym, ◌∙◌, ap, arith}
-use Rattle.capnp_layout.specs.Prelude.{words_from, width, Form, null, struct, numbers, pointers, structs, rows_from}
+use Rattle.capnp_layout.specs.Prelude.{words_from, width, Form, null, struct, numbers, pointers, structs, elements_from}
 use Rattle.capnp_wire.specs.Prelude.{Pointer, Accepts, Reads, first_fields, ReadsAsNumbers, TakesFields, FieldsFormError}
-use Rattle.capnp_layout.proofs.objects.RowLemmas.{row_within}
-use Rattle.capnp_layout.proofs.trees.RoomLemmas.{length-rows_from}
+use Rattle.capnp_layout.proofs.objects.StructElementLemmas.{struct_within}
+use Rattle.capnp_layout.proofs.trees.RoomLemmas.{length-elements_from}
 use Rattle.capnp_wire.proofs.views.ViewLemmas.{Decides, wrong_kind_once, wrong_kind_unlimited}
 
 pub fields_decide : (code : ℕ) → Decides (TakesFields code) (FieldsFormError code)
@@ -19,7 +19,7 @@ fields_taken null code values t = tt
 fields_taken (struct words) code values t = t
 fields_taken (numbers there are) code values t = t.0
 fields_taken pointers code values t = t
-fields_taken (structs d p rows) code values t = t.0
+fields_taken (structs d p elements) code values t = t.0
 
 pub fields_accepted : (p : Pointer) (code : ℕ) (values : List ℕ) → Reads p (λ form. ReadsAsNumbers code form values) → Accepts p (TakesFields code)
 fields_accepted p code values read = (read.0, read.1, fields_taken read.0.form code values read.2.0)
@@ -36,16 +36,16 @@ low_bits words s (suc d) w word inside is =
     let whole : word / 2 ^ (w * 0 % 64) ≡ word = ap (λ (k : ℕ). word / 2 ^ k) first ∙ omega arith in
     ap (λ (k : ℕ). k % 2 ^ w) (whole ∙ there)
 
-pub first_field_read : (words : List ℕ) (first d p n i step code word value : ℕ) → i < length (first_fields code (rows_from words first d p n)) → step ≡ d + p → width code ≤ 64 * d
+pub first_field_read : (words : List ℕ) (first d p n i step code word value : ℕ) → i < length (first_fields code (elements_from words first d p n)) → step ≡ d + p → width code ≤ 64 * d
     → word ≡ slice_index_or words (first + i * step) 0 → value ≡ word / 2 ^ (width code * 0 % 64) % 2 ^ width code
-    → value ≡ slice_index_or (first_fields code (rows_from words first d p n)) i 0
+    → value ≡ slice_index_or (first_fields code (elements_from words first d p n)) i 0
 first_field_read words first d p n i step code word value within step_is inside word_is value_is =
-    let rows = rows_from words first d p n in
-    let field : List ℕ → ℕ = λ row. slice_index_or row 0 0 % 2 ^ width code in
-    let fewer : i < length rows = omega (arith, within, length-map rows field) in
-    let is_one : i < n = omega (arith, fewer, length-rows_from words first d p n) in
+    let elements = elements_from words first d p n in
+    let field : List ℕ → ℕ = λ element. slice_index_or element 0 0 % 2 ^ width code in
+    let fewer : i < length elements = omega (arith, within, length-map elements field) in
+    let is_one : i < n = omega (arith, fewer, length-elements_from words first d p n) in
     let at : word ≡ slice_index_or words (first + i * (d + p)) 0 = word_is ∙ ap (λ (k : ℕ). slice_index_or words (first + i * k) 0) step_is in
     value_is
     ∙ low_bits words (first + i * (d + p)) d (width code) word inside at
-    ∙ ap field (sym (row_within words first d p n i is_one))
-    ∙ sym (get_or-map field rows i [] 0 fewer)
+    ∙ ap field (sym (struct_within words first d p n i is_one))
+    ∙ sym (get_or-map field elements i [] 0 fewer)

@@ -3,7 +3,7 @@ use Rattle.std.proofs.Math.Seq.{drop-append-add}
 use Rattle.std.proofs.Common.{◌≡◌, ℕ, zero, suc, ◌+◌, ◌-◌, ◌*◌, ◌<◌, ◌≤◌, List, ◌∷◌, ◌++◌, length, drop, Some, slice_get, inr, refl, sym, ◌∙◌, ap, subst, arith}
 use Rattle.capnp_frame.specs.declared.error.ErrorKind.{ErrorKind}
 use Rattle.capnp_frame.specs.declared.error.ErrorKind.TheVariants.{WrongPointerKind}
-use Rattle.capnp_layout.specs.Prelude.{words_of, Form, null, struct, numbers, pointers, structs, places, row_places, rows_from, shape_of}
+use Rattle.capnp_layout.specs.Prelude.{words_of, Form, null, struct, numbers, pointers, structs, places, pointer_places, elements_from, shape_of}
 use Rattle.capnp_wire.specs.Prelude.{Pointer, Accepts, ViewError, IsEntered, PointerList, first_pointers, ReadsAsPointers, TakesFirstPointers, FirstPointersFormError, IsUpgradedPointers, stepped_places, pointers_from}
 use Rattle.capnp_layout.specs.declared.place.Place.{Place}
 use Rattle.capnp_layout.specs.declared.object.Body.{Body}
@@ -11,7 +11,7 @@ use Rattle.capnp_layout.specs.declared.object.Body.TheVariants.{Struct, Numbers,
 use Rattle.capnp_layout.specs.declared.pointer.Elements.{Elements}
 use Rattle.capnp_layout.specs.declared.object.Object.{Object as ReadObject}
 use Rattle.capnp_layout.proofs.objects.FieldLemmas.{length-places}
-use Rattle.capnp_layout.proofs.trees.RoomLemmas.{length-rows_from}
+use Rattle.capnp_layout.proofs.trees.RoomLemmas.{length-elements_from}
 use Rattle.capnp_wire.proofs.views.FormLemmas.{entered_shown, entered_shows}
 use Rattle.capnp_wire.proofs.views.ViewLemmas.{Decides, wrong_kind_once, wrong_kind_unlimited}
 
@@ -27,7 +27,7 @@ first_pointers_taken null children there t = tt
 first_pointers_taken (struct words) children there t = t
 first_pointers_taken (numbers code values) children there t = t
 first_pointers_taken pointers children there t = tt
-first_pointers_taken (structs d p rows) children there t = t.0
+first_pointers_taken (structs d p elements) children there t = t.0
 
 pub first_pointers_accepted : (p : Pointer) (list : PointerList) → IsUpgradedPointers p list → Accepts p TakesFirstPointers
 first_pointers_accepted p list read =
@@ -61,12 +61,12 @@ one_step segment word zero = refl
 one_step segment word (suc n) = ap (λ (l : List Place). record { segment = segment; word = word } ∷ l) (one_step segment (word + 1) n)
 
 -- the first ones of structs
-first_of_each : (segment word d p n : ℕ) → 0 < p → stepped_places segment (word + d) (d + p) n ≡ first_pointers p n (row_places segment word d p n)
+first_of_each : (segment word d p n : ℕ) → 0 < p → stepped_places segment (word + d) (d + p) n ≡ first_pointers p n (pointer_places segment word d p n)
 first_of_each segment word d zero n some = absurd (omega arith)
 first_of_each segment word d (suc q) zero some = refl
 first_of_each segment word d (suc q) (suc n) some =
     let first = places segment (word + d) (suc q) in
-    let others = row_places segment (word + d + suc q) d (suc q) n in
+    let others = pointer_places segment (word + d + suc q) d (suc q) n in
     let many : suc q ≡ length first + 0 = omega (arith, length-places segment (word + d) (suc q)) in
     let next : word + d + (d + suc q) ≡ word + d + suc q + d = omega arith in
     let past : drop (suc q) (first ++ others) ≡ others = ap (λ (k : ℕ). drop k (first ++ others)) many ∙ drop-append-add first others 0 in
@@ -103,13 +103,13 @@ first_pointers_read p object there following step first list entered body some s
     let start = object.start.word + 1 in
     let wanted = pointers_from p first step n in
     let fact : Body → Type 0 = λ b. let shape = shape_of words object.start b in ReadsAsPointers shape.form shape.children wanted.children in
-    let rows = rows_from words start d q n in
-    let children_are : wanted.children ≡ first_pointers q (length rows) (row_places object.start.segment start d q n) =
+    let elements = elements_from words start d q n in
+    let children_are : wanted.children ≡ first_pointers q (length elements) (pointer_places object.start.segment start d q n) =
     ap (λ (s : ℕ). stepped_places s first.word step n) segment_is
     ∙ ap (λ (w : ℕ). stepped_places object.start.segment w step n) word_is
     ∙ ap (λ (k : ℕ). stepped_places object.start.segment (start + d) k n) step_is
     ∙ first_of_each object.start.segment start d q n some
-    ∙ ap (λ (k : ℕ). first_pointers q k (row_places object.start.segment start d q n)) (sym (length-rows_from words start d q n)) in
+    ∙ ap (λ (k : ℕ). first_pointers q k (pointer_places object.start.segment start d q n)) (sym (length-elements_from words start d q n)) in
     subst (IsUpgradedPointers p) (sym is) (upgraded p object wanted entered refl refl refl (subst fact (sym body) (some, children_are)))
 
 -- other objects, and structs that have no pointers

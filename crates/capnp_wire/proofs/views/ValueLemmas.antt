@@ -18,18 +18,18 @@ put_whole words block long =
     ap (λ (l : List ℕ). words ++ l) (drop_past (0 + length words) block (omega arith)) ∙ append-nil words
 
 tree_at : (m : List (List ℕ)) (place : Place) (nesting : ℕ) (limit left : Option ℕ) (c : Bool) (before_it now : Option ℕ) (w : Walked m c place nesting limit left before_it now)
-    → TreeAt m place nesting limit w.stand.trees
-tree_at m place nesting limit left c before_it now w = record { traversed = w.traversed; stand = w.stand.stand; shallow = w.stand.shallow; within = w.within }
+    → TreeAt m place nesting limit w.are_at.trees
+tree_at m place nesting limit left c before_it now w = record { traversed = w.traversed; are_at = w.are_at.are_at; shallow = w.are_at.shallow; within = w.within }
 
 -- the words that a walk counts from 0 on
 pub measured : (m : List (List ℕ)) (place : Place) (nesting : ℕ) (limit left : Option ℕ) (c : Bool) (now : Option ℕ) (words : ℕ) (w : Walked m c place nesting limit left (Some 0) now)
     → words ≡ 0 + w.words → words < 2 ^ 29
     → Measured m place nesting limit c words
 measured m place nesting limit left c now words w is few = record {
-  trees = w.stand.trees;
+  trees = w.are_at.trees;
   tree_is = tree_at m place nesting limit left c (Some 0) now w;
-  rooms = w.stand.rooms;
-  words_are = omega (arith, w.stand.words_are);
+  rooms = w.are_at.rooms;
+  words_are = omega (arith, w.are_at.words_are);
   few = few;
 }
 
@@ -37,8 +37,8 @@ pub unmeasured : (m : List (List ℕ)) (place : Place) (nesting : ℕ) (limit le
     (w : Walked m c place nesting limit left (Some 0) now) → 2 ^ 29 ≤ 0 + w.words → kind ≡ too_large c (0 + w.words)
     → TreeSizeError m place nesting limit c kind
 unmeasured m place nesting limit left c now kind w many is =
-    let words_are : 0 + w.words ≡ total_words (output c w.stand.trees) = omega (arith, w.stand.words_are) in
-    inr (w.stand.trees, tree_at m place nesting limit left c (Some 0) now w, omega (arith, words_are), is ∙ ap (too_large c) words_are)
+    let words_are : 0 + w.words ≡ total_words (output c w.are_at.trees) = omega (arith, w.are_at.words_are) in
+    inr (w.are_at.trees, tree_at m place nesting limit left c (Some 0) now w, omega (arith, words_are), is ∙ ap (too_large c) words_are)
 
 pub result_fits : (m : List (List ℕ)) (place : Place) (nesting : ℕ) (limit left : Option ℕ) (c : Bool) (now : Option ℕ) (w : Walked m c place nesting limit left (Some 0) now) (r : Result ℕ Error)
     → MatchResult r (λ number. (number ≡ 0 + w.words) × (number < 2 ^ 29)) (λ error. (2 ^ 29 ≤ 0 + w.words) × (error.kind ≡ too_large c (0 + w.words)))

@@ -159,7 +159,7 @@ text_is_bytes null t = tt
 text_is_bytes (struct words) t = t
 text_is_bytes (numbers code values) t = t.0
 text_is_bytes pointers t = t
-text_is_bytes (structs d p rows) t = t
+text_is_bytes (structs d p elements) t = t
 
 text_apart : (form : Form) (kind : ErrorKind) → TextFormError form kind → TakesText form → ⊥
 text_apart form kind (inl other) t = other.0 (text_is_bytes form t)
@@ -184,21 +184,21 @@ data_taken null bytes t = tt
 data_taken (struct words) bytes t = t
 data_taken (numbers code values) bytes t = t.0
 data_taken pointers bytes t = t
-data_taken (structs d p rows) bytes t = t
+data_taken (structs d p elements) bytes t = t
 
 text_taken : (form : Form) (bytes : List ℕ) → IsText form bytes → TakesText form
 text_taken null bytes t = tt
 text_taken (struct words) bytes t = t
 text_taken (numbers code values) bytes t = (t.0, (bytes, t.1))
 text_taken pointers bytes t = t
-text_taken (structs d p rows) bytes t = t
+text_taken (structs d p elements) bytes t = t
 
 struct_taken : (form : Form) (words : List ℕ) → HasData form words → TakesStruct form
 struct_taken null words t = tt
 struct_taken (struct there) words t = tt
 struct_taken (numbers code values) words t = t
 struct_taken pointers words t = t
-struct_taken (structs d p rows) words t = t
+struct_taken (structs d p elements) words t = t
 
 pub data_accepted : (p : Pointer) (bytes : List ℕ) → Reads p (λ form. IsData form bytes) → Accepts p (TakesNumbers 2)
 data_accepted p bytes read = (read.0, read.1, data_taken read.0.form bytes read.2.0)

@@ -8,7 +8,7 @@ use Rattle.capnp_layout.specs.Prelude.{Trees, none, tree, null, count, depth, ob
 use Rattle.capnp_wire.specs.Prelude.{IsInPreorder, Passes, PassesAt, MeetsPointers, Ending, fails_with, not_canonical, Ends, far, at_pointer, over_limit, elsewhere, inside, later}
 use Rattle.capnp_layout.specs.declared.place.Place.{Place}
 use Rattle.capnp_layout.specs.declared.pointer_slots.PointerSlots.{PointerSlots}
-use Rattle.capnp_layout.proofs.trees.StandLemmas.{within_none, less_none, within_both, within_first, within_rest, less_both, at_both, depth_both}
+use Rattle.capnp_layout.proofs.trees.TreeCountLemmas.{within_none, less_none, within_both, within_first, within_rest, less_both, at_both, depth_both}
 use Rattle.capnp_wire.proofs.layouts.LaidOutLemmas.{passes_over}
 use Rattle.capnp_layout.proofs.trees.ChunkLemmas.{total-before}
 
@@ -28,9 +28,9 @@ pub passes_both : (segment : List ℕ) (ps qs : List Place) (nesting x y next mi
     → Passes segment (ps ++ qs) nesting (x + y) next after
 passes_both segment ps qs nesting x y next middle after p q = record {
   trees = before p.trees q.trees;
-  stand = at_both (segment ∷ []) ps qs p.trees q.trees x y p.stand q.stand;
+  are_at = at_both (segment ∷ []) ps qs p.trees q.trees x y p.are_at q.are_at;
   shallow = depth_both p.trees q.trees nesting p.shallow q.shallow;
-  in_preorder = preorder_both segment ps qs p.trees q.trees x next middle p.stand p.in_preorder p.after_is q.in_preorder;
+  in_preorder = preorder_both segment ps qs p.trees q.trees x next middle p.are_at p.in_preorder p.after_is q.in_preorder;
   trimmed = trimmed_both p.trees q.trees p.trimmed q.trimmed;
   after_is = omega (arith, total-before p.trees q.trees, p.after_is, q.after_is);
   room = q.room;
@@ -39,7 +39,7 @@ passes_both segment ps qs nesting x y next middle after p q = record {
 passes_nowhere : (segment : List ℕ) (nesting next : ℕ) → next ≤ length segment → Passes segment [] nesting 0 next next
 passes_nowhere segment nesting next room = record {
   trees = none;
-  stand = nowhere;
+  are_at = nowhere;
   shallow = omega arith;
   in_preorder = tt;
   trimmed = tt;
@@ -54,7 +54,7 @@ null_passes {segment} {word} {nesting} {next} {after} {limit} {left} met room = 
   traversed = 0;
   passes = record {
     trees = tree null none none;
-    stand = at {shape = nothing} (is_null met.0) nowhere nowhere;
+    are_at = at {shape = nothing} (is_null met.0) nowhere nowhere;
     shallow = omega arith;
     in_preorder = (met.0, tt, tt, tt, tt);
     trimmed = ((refl, refl, tt), tt);
@@ -138,7 +138,7 @@ ends_after segment front rest trees nesting traversed next after limit ending (a
     let middle = next + object_size s.form (count h) + total_words h in
     let one : Passes segment (p ∷ []) nesting (s.traversed + i) next (next + object_size s.form (count h) + total_words h) = record {
       trees = tree s.form h none;
-      stand = subst (At (segment ∷ []) (p ∷ []) (tree s.form h none)) (omega arith) (at o inner nowhere);
+      are_at = subst (At (segment ∷ []) (p ∷ []) (tree s.form h none)) (omega arith) (at o inner nowhere);
       shallow = omega arith;
       in_preorder = (in_preorder.0, in_preorder.1, in_preorder.2, in_preorder.3, tt);
       trimmed = (trimmed.0, tt);
@@ -161,7 +161,7 @@ going_ends {segment} {children} {rest} {others} {place} {nesting} {limit} {left}
     subst (λ (l : Option ℕ). Ends segment (place ∷ others) nesting l now ending) g.left_is (ends_more segment place others nesting now left ending ends) in
     subst (λ (l : List Place). Ends segment l nesting limit next ending) (sym (g.children_is ∙ ap (λ (l : List Place). g.front ++ l) is))
     (ends_after segment g.front (place ∷ others) g.passes.trees nesting g.traversed next now limit ending
-    g.passes.stand g.passes.shallow g.passes.in_preorder g.passes.trimmed g.passes.after_is g.passes.room g.within there)
+    g.passes.are_at g.passes.shallow g.passes.in_preorder g.passes.trimmed g.passes.after_is g.passes.room g.within there)
 
 -- An object is met, and then what its pointers lead to.
 pub met_passes : {segment : List ℕ} {word nesting : ℕ} {limit left left_after : Option ℕ} {next now after : ℕ} {pointers : PointerSlots} → All (λ w. w < 2 ^ 64) segment → word < next

@@ -31,20 +31,20 @@ walked_as m place nesting limit limit_is left counted counted_is now now_is e f 
     (subst (λ (x : Option ℕ). Walked m false place nesting limit_is left x now) f
     (subst (λ (x : Option ℕ). Walked m false place nesting x left counted now) e w))
 
-as_stood : (m : List (List ℕ)) (place : Place) (nesting traversed words : ℕ) → TreesWithRoom m (place ∷ []) nesting traversed false words → TreesAt m (place ∷ []) nesting traversed words
-as_stood m place nesting traversed words s = record { trees = s.trees; stand = s.stand; shallow = s.shallow; words_are = s.words_are }
+untrimmed_at : (m : List (List ℕ)) (place : Place) (nesting traversed words : ℕ) → TreesWithRoom m (place ∷ []) nesting traversed false words → TreesAt m (place ∷ []) nesting traversed words
+untrimmed_at m place nesting traversed words s = record { trees = s.trees; are_at = s.are_at; shallow = s.shallow; words_are = s.words_are }
 
 pub walk_measures : (p : Pointer) (place : Place) (words : ℕ) (left : Option ℕ) → p.place ≡ Some place → Walked p.message false place p.nesting p.limit left (Some 0) (Some words) → Measures p words
 walk_measures p place words left e w =
     let counted : words ≡ 0 + w.words = w.counted 0 refl in
     let same : w.words ≡ words = omega arith in
-    measures_at p place words w.traversed e (subst (λ (n : ℕ). TreesAt p.message (place ∷ []) p.nesting w.traversed n) same (as_stood p.message place p.nesting w.traversed w.words w.stand)) w.within
+    measures_at p place words w.traversed e (subst (λ (n : ℕ). TreesAt p.message (place ∷ []) p.nesting w.traversed n) same (untrimmed_at p.message place p.nesting w.traversed w.words w.are_at)) w.within
 
 pub walk_overflows : (p : Pointer) (place : Place) (left : Option ℕ) (kind : ErrorKind) → p.place ≡ Some place → Walked p.message false place p.nesting p.limit left (Some 0) None
     → kind ≡ AllocationTooLarge (2 ^ 32 - 1) → MeasuringError p kind
 walk_overflows p place left kind e w is =
     let counted : 2 ^ 64 ≤ 0 + w.words = w.counted 0 refl in
-    (place, e, inr (w.words, measures_at p place w.words w.traversed e (as_stood p.message place p.nesting w.traversed w.words w.stand) w.within, omega arith, is))
+    (place, e, inr (w.words, measures_at p place w.words w.traversed e (untrimmed_at p.message place p.nesting w.traversed w.words w.are_at) w.within, omega arith, is))
 
 pub walk_fails : (p : Pointer) (place : Place) (kind : ErrorKind) → p.place ≡ Some place → WalkError p.message (place ∷ []) p.nesting p.limit kind → MeasuringError p kind
 walk_fails p place kind e walk_error = (place, e, inl walk_error)
@@ -53,13 +53,13 @@ same_words : (p : Pointer) (place : Place) (v w : ℕ) → p.place ≡ Some plac
 same_words p place v w e a b =
     let x = measured_there p place v e a in
     let y = measured_there p place w e b in
-    let same = one_tree p.message (place ∷ []) x.1.trees y.1.trees x.0 y.0 x.1.stand y.1.stand in
+    let same = one_tree p.message (place ∷ []) x.1.trees y.1.trees x.0 y.0 x.1.are_at y.1.are_at in
     sym x.1.words_are ∙ ap total_words same.0 ∙ y.1.words_are
 
 error_unmeasured : (p : Pointer) (place : Place) (words : ℕ) (kind : ErrorKind) → p.place ≡ Some place → Measures p words → WalkError p.message (place ∷ []) p.nesting p.limit kind → ⊥
 error_unmeasured p place words kind e m walk_error =
     let x = measured_there p place words e m in
-    walk_error_has_no_trees p.message (place ∷ []) p.nesting x.0 p.limit kind x.1.trees walk_error x.1.stand x.1.shallow x.2
+    walk_error_has_no_trees p.message (place ∷ []) p.nesting x.0 p.limit kind x.1.trees walk_error x.1.are_at x.1.shallow x.2
 
 error_or_measures : (p : Pointer) (place : Place) (words : ℕ) (kind : ErrorKind) → p.place ≡ Some place → Measures p words → words < 2 ^ 64
     → WalkError p.message (place ∷ []) p.nesting p.limit kind ⊎ ((n : ℕ) × Measures p n × (2 ^ 64 ≤ n) × (kind ≡ AllocationTooLarge (2 ^ 32 - 1))) → ⊥

@@ -15,13 +15,13 @@ use Rattle.capnp_wire.proofs.walks.EndLemmas.{AllBefore, ends_error, ends_not, c
 pub error_passes : (segment : List ℕ) (places : List Place) (nesting traversed next start after : ℕ) (limit : Option ℕ) (kind : ErrorKind) → Ends segment places nesting limit next (fails_with kind)
     → Passes segment places nesting traversed start after → Within limit traversed → ⊥
 error_passes segment places nesting traversed next start after limit kind ends p fits =
-    walk_error_has_no_trees (segment ∷ []) places nesting traversed limit kind p.trees (ends_error segment places nesting next limit kind ends) p.stand p.shallow fits
+    walk_error_has_no_trees (segment ∷ []) places nesting traversed limit kind p.trees (ends_error segment places nesting next limit kind ends) p.are_at p.shallow fits
 
 -- nor does one that meets what is not canonical
 pub not_passes : (segment : List ℕ) (places : List Place) (nesting traversed next after : ℕ) (limit : Option ℕ) → All (λ w. w < 2 ^ 64) segment → AllBefore next places → next ≤ length segment
     → Ends segment places nesting limit next not_canonical → Passes segment places nesting traversed next after → ⊥
 not_passes segment places nesting traversed next after limit all before within ends p =
-    ends_not segment places nesting next limit p.trees traversed all ends p.stand before within p.in_preorder p.trimmed
+    ends_not segment places nesting next limit p.trees traversed all ends p.are_at before within p.in_preorder p.trimmed
 
 within_or_past : (most traversed : ℕ) → most < traversed → Within (Some most) traversed → ⊥
 within_or_past most traversed past fits = omega arith
@@ -66,7 +66,7 @@ one_way_to_end segment places nesting next limit kind all before within (later {
 one_way_to_end segment places nesting next limit kind all before within (later {place = place} {traversed = traversed} {after = after} p w e) (inside meets laid f) =
     not_passes segment (place ∷ []) nesting traversed next after limit all (before.0, before.1, tt) within (inside meets laid f) p
 one_way_to_end segment places nesting next limit kind all before within (later {place = place} {others = others} {traversed = x} {after = after} p w e) (later {traversed = y} {after = end} q v f) =
-    let same = one_tree (segment ∷ []) (place ∷ []) q.trees p.trees y x q.stand p.stand in
+    let same = one_tree (segment ∷ []) (place ∷ []) q.trees p.trees y x q.are_at p.are_at in
     let ends_same : end ≡ after = q.after_is ∙ ap (λ t. next + total_words t) same.0 ∙ sym p.after_is in
     let there : Ends segment others nesting (less limit x) after not_canonical =
     subst (λ (k : ℕ). Ends segment others nesting (less limit x) k not_canonical) ends_same (subst (λ (k : ℕ). Ends segment others nesting (less limit k) end not_canonical) same.1 f) in

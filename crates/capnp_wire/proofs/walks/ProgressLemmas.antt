@@ -8,10 +8,10 @@ use Rattle.capnp_wire.specs.Prelude.{CountsMore, EntersObject, Walked, WalkedAll
 use Rattle.capnp_layout.specs.declared.place.Place.{Place}
 use Rattle.capnp_layout.specs.declared.pointer_slots.PointerSlots.{PointerSlots}
 use Rattle.capnp_layout.specs.declared.object.Object.{Object as ReadObject}
-use Rattle.capnp_layout.proofs.trees.StandLemmas.{within_none, less_none, within_both, less_both}
-use Rattle.capnp_wire.proofs.trees.StandLemmas.{counts_none, counts_both}
-use Rattle.capnp_layout.proofs.trees.StoodLemmas.{OwnOf, own_output}
-use Rattle.capnp_wire.proofs.trees.StoodLemmas.{stood_nowhere, stood_both, stood_over, stood_null, plain_stand}
+use Rattle.capnp_layout.proofs.trees.TreeCountLemmas.{within_none, less_none, within_both, less_both}
+use Rattle.capnp_wire.proofs.trees.TreeCountLemmas.{counts_none, counts_both}
+use Rattle.capnp_layout.proofs.trees.TreeSizeLemmas.{OwnOf, own_output}
+use Rattle.capnp_wire.proofs.trees.TreeSizeLemmas.{placed_nowhere, placed_both, placed_over, placed_null, plain_trees_at}
 use Rattle.capnp_wire.proofs.walks.WalkErrorLemmas.{walk_error_more, walk_error_after}
 
 -- How far a walk over the pointers of an object has come: which are done, and what is left of the
@@ -21,7 +21,7 @@ pub record Progress (m : List (List ℕ)) (c : Bool) (children rest : List Place
   pub children_is : children ≡ front ++ rest
   pub traversed : ℕ
   pub words : ℕ
-  pub stand : TreesWithRoom m front nesting traversed c words
+  pub are_at : TreesWithRoom m front nesting traversed c words
   pub within : Within limit traversed
   pub left_is : left ≡ less limit traversed
   pub counted : CountsMore words_before words_now words
@@ -32,7 +32,7 @@ progress_begins m c children nesting limit words = record {
   children_is = refl;
   traversed = 0;
   words = 0;
-  stand = stood_nowhere m c nesting;
+  are_at = placed_nowhere m c nesting;
   within = within_none limit;
   left_is = sym (less_none limit);
   counted = counts_none words;
@@ -52,7 +52,7 @@ progress_over {m} {c} {children} {rest} {front} {others} {nesting} {limit} {left
       children_is = p.children_is ∙ ap (λ (l : List Place). p.front ++ l) is ∙ sym (append_assoc p.front front others);
       traversed = p.traversed + w.traversed;
       words = p.words + w.words;
-      stand = stood_both m c p.front front nesting p.traversed w.traversed p.words w.words p.stand w.stand;
+      are_at = placed_both m c p.front front nesting p.traversed w.traversed p.words w.words p.are_at w.are_at;
       within = within_both limit p.traversed w.traversed p.within fits;
       left_is = w.left_is ∙ ap (λ (l : Option ℕ). less l w.traversed) p.left_is ∙ less_both limit p.traversed w.traversed;
       counted = counts_both counted_then counted_now counted_after p.words w.words p.counted w.counted;
@@ -69,7 +69,7 @@ pub progress_fails_there : {m : List (List ℕ)} {c : Bool} {children rest : Lis
     → Progress m c children rest nesting limit left counted_then counted_now → WalkError m rest nesting left kind → WalkError m children nesting limit kind
 progress_fails_there {m} {c} {children} {rest} {nesting} {limit} {left} {kind = kind} p walk_error =
     subst (λ (l : List Place). WalkError m l nesting limit kind) (sym p.children_is)
-    (walk_error_after m p.front rest nesting p.traversed (total_words p.stand.trees) limit kind (plain_stand m p.front nesting p.traversed c p.words p.stand) p.within
+    (walk_error_after m p.front rest nesting p.traversed (total_words p.are_at.trees) limit kind (plain_trees_at m p.front nesting p.traversed c p.words p.are_at) p.within
     (subst (λ (l : Option ℕ). WalkError m rest nesting l kind) p.left_is walk_error))
 
 pub progress_error : {m : List (List ℕ)} {c : Bool} {children rest others : List Place} {place : Place} {nesting : ℕ} {limit left counted_then counted_now : Option ℕ} {kind : ErrorKind}
@@ -80,7 +80,7 @@ progress_error {m} {others = others} {place = place} {nesting = nesting} {left =
 -- what it is over
 pub progress_front : {m : List (List ℕ)} {c : Bool} {children rest : List Place} {nesting : ℕ} {limit left counted_then counted_now : Option ℕ}
     (p : Progress m c children rest nesting limit left counted_then counted_now) → WalkedAll m c p.front nesting limit left counted_then counted_now
-progress_front p = record { traversed = p.traversed; words = p.words; stand = p.stand; within = p.within; left_is = p.left_is; counted = p.counted }
+progress_front p = record { traversed = p.traversed; words = p.words; are_at = p.are_at; within = p.within; left_is = p.left_is; counted = p.counted }
 
 pub progress_done : {m : List (List ℕ)} {c : Bool} {children rest : List Place} {nesting : ℕ} {limit left counted_then counted_now : Option ℕ}
     → rest ≡ [] → Progress m c children rest nesting limit left counted_then counted_now → WalkedAll m c children nesting limit left counted_then counted_now
@@ -89,22 +89,22 @@ progress_done {m} {c} {children} {rest} {nesting} {limit} {left} {counted_then} 
     subst (λ (l : List Place). WalkedAll m c l nesting limit left counted_then counted_now) (sym all) (progress_front p)
 
 -- The walk is over some of an object's pointers in a segment, and so are those that are left.
-pub record Going (m : List (List ℕ)) (segment : List ℕ) (c : Bool) (whole rows : PointerSlots) (nesting : ℕ) (limit left words_before words_now : Option ℕ) : Type 0 where
-  pub progress : Progress m c (places_in whole) (places_in rows) nesting limit left words_before words_now
-  pub content : places_in rows ≢ [] → slice_get m rows.next.segment ≡ Some segment
-  pub same_segment : rows.next.segment ≡ whole.next.segment
+pub record Going (m : List (List ℕ)) (segment : List ℕ) (c : Bool) (whole elements : PointerSlots) (nesting : ℕ) (limit left words_before words_now : Option ℕ) : Type 0 where
+  pub progress : Progress m c (places_in whole) (places_in elements) nesting limit left words_before words_now
+  pub content : places_in elements ≢ [] → slice_get m elements.next.segment ≡ Some segment
+  pub same_segment : elements.next.segment ≡ whole.next.segment
 
-pub going_begins : {m : List (List ℕ)} {segment : List ℕ} {c : Bool} {rows : PointerSlots} {nesting : ℕ} {limit words : Option ℕ} → (places_in rows ≢ [] → slice_get m rows.next.segment ≡ Some segment)
-    → Going m segment c rows rows nesting limit limit words words
-going_begins {m} {segment} {c} {rows} {nesting} {limit} {words} content =
-    record { progress = progress_begins m c (places_in rows) nesting limit words; content = content; same_segment = refl }
+pub going_begins : {m : List (List ℕ)} {segment : List ℕ} {c : Bool} {elements : PointerSlots} {nesting : ℕ} {limit words : Option ℕ} → (places_in elements ≢ [] → slice_get m elements.next.segment ≡ Some segment)
+    → Going m segment c elements elements nesting limit limit words words
+going_begins {m} {segment} {c} {elements} {nesting} {limit} {words} content =
+    record { progress = progress_begins m c (places_in elements) nesting limit words; content = content; same_segment = refl }
 
-pub going_there : {m : List (List ℕ)} {segment : List ℕ} {c : Bool} {whole rows others : PointerSlots} {place : Place} {nesting : ℕ} {limit left words_before words_now : Option ℕ}
-    → Going m segment c whole rows nesting limit left words_before words_now → Takes rows others place → place.segment ≡ rows.next.segment → slice_get m place.segment ≡ Some segment
+pub going_there : {m : List (List ℕ)} {segment : List ℕ} {c : Bool} {whole elements others : PointerSlots} {place : Place} {nesting : ℕ} {limit left words_before words_now : Option ℕ}
+    → Going m segment c whole elements nesting limit left words_before words_now → Takes elements others place → place.segment ≡ elements.next.segment → slice_get m place.segment ≡ Some segment
 going_there {m} going takes segment_is = ap (slice_get m) segment_is ∙ going.content (some_left takes.places_are)
 
-pub going_on : {m : List (List ℕ)} {segment : List ℕ} {c : Bool} {whole rows others : PointerSlots} {place : Place} {nesting : ℕ} {limit left after words_before words_now words_after : Option ℕ}
-    → Going m segment c whole rows nesting limit left words_before words_now → Takes rows others place → others.next.segment ≡ rows.next.segment
+pub going_on : {m : List (List ℕ)} {segment : List ℕ} {c : Bool} {whole elements others : PointerSlots} {place : Place} {nesting : ℕ} {limit left after words_before words_now words_after : Option ℕ}
+    → Going m segment c whole elements nesting limit left words_before words_now → Takes elements others place → others.next.segment ≡ elements.next.segment
     → Walked m c place nesting left after words_now words_after → Going m segment c whole others nesting limit after words_before words_after
 going_on {m} going takes same walked = record {
   progress = progress_next takes.places_are going.progress walked;
@@ -112,16 +112,16 @@ going_on {m} going takes same walked = record {
   same_segment = same ∙ going.same_segment;
 }
 
-pub going_done : {m : List (List ℕ)} {segment : List ℕ} {c : Bool} {whole rows : PointerSlots} {nesting : ℕ} {limit left after words_before words_now words_after : Option ℕ}
-    → Going m segment c whole rows nesting limit left words_before words_now → WalkedAll m c (places_in rows) nesting left after words_now words_after
+pub going_done : {m : List (List ℕ)} {segment : List ℕ} {c : Bool} {whole elements : PointerSlots} {nesting : ℕ} {limit left after words_before words_now words_after : Option ℕ}
+    → Going m segment c whole elements nesting limit left words_before words_now → WalkedAll m c (places_in elements) nesting left after words_now words_after
     → WalkedAll m c (places_in whole) nesting limit after words_before words_after
-going_done {rows = rows} going walked = progress_done refl (progress_over (sym (append-nil (places_in rows))) going.progress walked)
+going_done {elements = elements} going walked = progress_done refl (progress_over (sym (append-nil (places_in elements))) going.progress walked)
 
 pub walked_null : (m : List (List ℕ)) (c : Bool) (place : Place) (nesting : ℕ) (limit words : Option ℕ) → PointsTo m place nothing → Walked m c place nesting limit limit words words
 walked_null m c place nesting limit words object = record {
   traversed = 0;
   words = 0;
-  stand = stood_null m c place nesting object;
+  are_at = placed_null m c place nesting object;
   within = within_none limit;
   left_is = sym (less_none limit);
   counted = counts_none words;
@@ -157,7 +157,7 @@ pub walked_over : (m : List (List ℕ)) (c : Bool) (place : Place) (shape : Shap
 walked_over m c place shape nesting limit left after counted_then counted_now counted_after e w = record {
   traversed = shape.traversed + w.traversed;
   words = e.own + w.words;
-  stand = stood_over m c place shape nesting w.traversed e.own w.words e.object e.deep e.own_is w.stand;
+  are_at = placed_over m c place shape nesting w.traversed e.own w.words e.object e.deep e.own_is w.are_at;
   within = within_both limit shape.traversed w.traversed e.within (subst (λ (l : Option ℕ). Within l w.traversed) e.left_is w.within);
   left_is = w.left_is ∙ ap (λ (l : Option ℕ). less l w.traversed) e.left_is ∙ less_both limit shape.traversed w.traversed;
   counted = counts_both counted_then counted_now counted_after e.own w.words e.counted w.counted;

@@ -4,7 +4,7 @@ use Rattle.capnp_layout.specs.Prelude.{pointer, slots, HasRoom, Reaches, placed,
 use Rattle.capnp_layout.specs.declared.place.Place.{Place}
 use Rattle.capnp_wire.specs.Prelude.{Padded, IsInPreorder}
 use Rattle.capnp_wire.proofs.forms.PreorderLemmas.{preorder_object}
-use Rattle.capnp_layout.proofs.trees.StandLemmas.{count_at}
+use Rattle.capnp_layout.proofs.trees.TreeCountLemmas.{count_at}
 use Rattle.capnp_layout.proofs.trees.RoomLemmas.{object_room, one_segment}
 use Rattle.std.specs.Prelude.{All, ◌↔◌}
 

@@ -8,7 +8,7 @@ use Rattle.capnp_layout.specs.declared.place.Place.{Place}
 use Rattle.capnp_layout.proofs.objects.ObjectLemmas.{one_object, one_tree}
 use Rattle.capnp_layout.proofs.pointers.PointerErrorLemmas.{invalid_pointer_has_no_object, not_null}
 use Rattle.capnp_layout.proofs.pointers.OneErrorLemmas.{one_error}
-use Rattle.capnp_layout.proofs.trees.StandLemmas.{less_none, within_first, within_rest, less_both}
+use Rattle.capnp_layout.proofs.trees.TreeCountLemmas.{less_none, within_first, within_rest, less_both}
 
 -- a walk that stops at the first of some places stops
 pub walk_error_more : (m : List (List ℕ)) (place : Place) (rest : List Place) (nesting : ℕ) (limit : Option ℕ) (kind : ErrorKind)
@@ -26,7 +26,7 @@ walk_error_following m front rest trees nesting traversed limit kind nowhere sha
 walk_error_following m front rest trees nesting traversed limit kind (at {place = p} {others = others} {shape = s} {children = h} {rest = r} {inside = i} {following = n} o inner after) shallow fits walk_error =
     let one : TreesAt m (p ∷ []) nesting (s.traversed + i) (total_words (tree s.form h none)) = record {
       trees = tree s.form h none;
-      stand = subst (At m (p ∷ []) (tree s.form h none)) (omega arith) (at o inner nowhere);
+      are_at = subst (At m (p ∷ []) (tree s.form h none)) (omega arith) (at o inner nowhere);
       shallow = omega arith;
       words_are = refl;
     } in
@@ -38,7 +38,7 @@ walk_error_following m front rest trees nesting traversed limit kind (at {place 
 
 pub walk_error_after : (m : List (List ℕ)) (front rest : List Place) (nesting traversed words : ℕ) (limit : Option ℕ) (kind : ErrorKind)
     → TreesAt m front nesting traversed words → Within limit traversed → WalkError m rest nesting (less limit traversed) kind → WalkError m (front ++ rest) nesting limit kind
-walk_error_after m front rest nesting traversed words limit kind s fits walk_error = walk_error_following m front rest s.trees nesting traversed limit kind s.stand s.shallow fits walk_error
+walk_error_after m front rest nesting traversed words limit kind s fits walk_error = walk_error_following m front rest s.trees nesting traversed limit kind s.are_at s.shallow fits walk_error
 
 -- where a walk stops, no trees are within the nesting depth left and the limit
 null_or_deeper : (b : Bool) (d e nesting : ℕ) → max (if b then 0 else d + 1) e ≤ nesting → b ≡ false → 0 < nesting
@@ -55,8 +55,8 @@ record Split (m : List (List ℕ)) (place : Place) (others : List Place) (nestin
   rest : Trees
   inner : ℕ
   following : ℕ
-  children_stands : At m shape.children children inner
-  rest_stands : At m others rest following
+  children_are_at : At m shape.children children inner
+  rest_is_at : At m others rest following
   total : shape.traversed + inner + following ≡ traversed
   rest_shallow : depth rest ≤ nesting
   children_shallow : is_null shape.form ≡ false → depth children ≤ nesting - 1
@@ -72,8 +72,8 @@ split m place others nesting traversed trees (at {shape = s} {children = h} {res
     rest = r;
     inner = i;
     following = n;
-    children_stands = inner;
-    rest_stands = after;
+    children_are_at = inner;
+    rest_is_at = after;
     total = refl;
     rest_shallow = omega arith;
     children_shallow = deeper_children (is_null s.form) (depth h) (depth r) nesting shallow;
@@ -84,7 +84,7 @@ split m place others nesting traversed trees (at {shape = s} {children = h} {res
 
 holds_not_null : (m : List (List ℕ)) (place : Place) (shape : Shape) → PointsTo m place shape → (shape.children ≡ [] → ⊥) → is_null shape.form ≡ false
 holds_not_null m place shape (null_there e) some = absurd (some refl)
-holds_not_null m place shape (is_object {landing = c} {words = w} {start = i} {shape = s} _ _ _ stands) some = not_null w (record { segment = c.segment; word = i }) c.tag s stands
+holds_not_null m place shape (is_object {landing = c} {words = w} {start = i} {shape = s} _ _ _ is_at) some = not_null w (record { segment = c.segment; word = i }) c.tag s is_at
 
 walk_error_somewhere : (m : List (List ℕ)) (places : List Place) (nesting : ℕ) (limit : Option ℕ) (kind : ErrorKind) → WalkError m places nesting limit kind → places ≡ [] → ⊥
 walk_error_somewhere m places nesting limit kind (at_pointer _) e = cc
@@ -94,32 +94,32 @@ walk_error_somewhere m places nesting limit kind (later _ _ _) e = cc
 
 pub walk_error_has_no_trees : (m : List (List ℕ)) (places : List Place) (nesting traversed : ℕ) (limit : Option ℕ) (kind : ErrorKind) (trees : Trees)
     → WalkError m places nesting limit kind → At m places trees traversed → depth trees ≤ nesting → Within limit traversed → ⊥
-walk_error_has_no_trees m places nesting traversed limit kind trees (at_pointer {place = p} {others = others} invalid) stand shallow fits =
-    let s = split m p others nesting traversed trees stand shallow in
+walk_error_has_no_trees m places nesting traversed limit kind trees (at_pointer {place = p} {others = others} invalid) are_at shallow fits =
+    let s = split m p others nesting traversed trees are_at shallow in
     invalid_pointer_has_no_object m p nesting kind s.0 invalid s.1.object s.1.deep
-walk_error_has_no_trees m places nesting traversed limit kind trees (over_limit {place = p} {others = others} {most = most} {shape = t} o deep past) stand shallow fits =
-    let s = split m p others nesting traversed trees stand shallow in
+walk_error_has_no_trees m places nesting traversed limit kind trees (over_limit {place = p} {others = others} {most = most} {shape = t} o deep past) are_at shallow fits =
+    let s = split m p others nesting traversed trees are_at shallow in
     let same : t ≡ s.0 = one_object m p t s.0 o s.1.object in
     let traversal : t.traversed ≡ s.0.traversed = ap (λ (x : Shape). x.traversed) same in
     omega (arith, s.1.total, fits)
-walk_error_has_no_trees m places nesting traversed limit kind trees (inside {place = p} {others = others} {shape = t} o deep within walk_error) stand shallow fits =
-    let s = split m p others nesting traversed trees stand shallow in
+walk_error_has_no_trees m places nesting traversed limit kind trees (inside {place = p} {others = others} {shape = t} o deep within walk_error) are_at shallow fits =
+    let s = split m p others nesting traversed trees are_at shallow in
     let same : t ≡ s.0 = one_object m p t s.0 o s.1.object in
-    let children : At m t.children s.1.children s.1.inner = subst (λ (x : Shape). At m x.children s.1.children s.1.inner) (sym same) s.1.children_stands in
+    let children : At m t.children s.1.children s.1.inner = subst (λ (x : Shape). At m x.children s.1.children s.1.inner) (sym same) s.1.children_are_at in
     let not_null = holds_not_null m p t o (walk_error_somewhere m t.children (nesting - 1) (less limit t.traversed) kind walk_error) in
     let form : is_null s.0.form ≡ false = ap (λ (x : Shape). is_null x.form) (sym same) ∙ not_null in
     let traversal : t.traversed + s.1.inner + s.1.following ≡ traversed = ap (λ (x : Shape). x.traversed + s.1.inner + s.1.following) same ∙ s.1.total in
     let fits_all : Within limit (t.traversed + s.1.inner + s.1.following) = subst (Within limit) (sym traversal) fits in
     let fits_inner : Within (less limit t.traversed) s.1.inner = within_rest limit t.traversed s.1.inner (within_first limit (t.traversed + s.1.inner) s.1.following fits_all) in
     walk_error_has_no_trees m t.children (nesting - 1) s.1.inner (less limit t.traversed) kind s.1.children walk_error children (s.1.children_shallow form) fits_inner
-walk_error_has_no_trees m places nesting traversed limit kind trees (later {place = p} {others = others} {traversed = c} {words = w} one within walk_error) stand shallow fits =
-    let s = split m p others nesting traversed trees stand shallow in
+walk_error_has_no_trees m places nesting traversed limit kind trees (later {place = p} {others = others} {traversed = c} {words = w} one within walk_error) are_at shallow fits =
+    let s = split m p others nesting traversed trees are_at shallow in
     let alone : At m (p ∷ []) (tree s.0.form s.1.children none) (s.0.traversed + s.1.inner) =
-    subst (At m (p ∷ []) (tree s.0.form s.1.children none)) (omega arith) (at s.1.object s.1.children_stands nowhere) in
-    let same : s.0.traversed + s.1.inner ≡ c = (one_tree m (p ∷ []) (tree s.0.form s.1.children none) one.trees (s.0.traversed + s.1.inner) c alone one.stand).1 in
+    subst (At m (p ∷ []) (tree s.0.form s.1.children none)) (omega arith) (at s.1.object s.1.children_are_at nowhere) in
+    let same : s.0.traversed + s.1.inner ≡ c = (one_tree m (p ∷ []) (tree s.0.form s.1.children none) one.trees (s.0.traversed + s.1.inner) c alone one.are_at).1 in
     let all : c + s.1.following ≡ traversed = omega (arith, s.1.total) in
     let fits_all : Within limit (c + s.1.following) = subst (Within limit) (sym all) fits in
-    walk_error_has_no_trees m others nesting s.1.following (less limit c) kind s.1.rest walk_error s.1.rest_stands s.1.rest_shallow (within_rest limit c s.1.following fits_all)
+    walk_error_has_no_trees m others nesting s.1.following (less limit c) kind s.1.rest walk_error s.1.rest_is_at s.1.rest_shallow (within_rest limit c s.1.following fits_all)
 
 -- an object past the limit
 pub past_limit_error : (m : List (List ℕ)) (place : Place) (shape : Shape) (nesting : ℕ) (limit : Option ℕ) (kind : ErrorKind) → PointsTo m place shape → 0 < nesting
@@ -140,25 +140,25 @@ one_walk_error m places nesting limit a b (at_pointer {place = p} invalid) (at_p
 one_walk_error m places nesting limit a b (at_pointer {place = p} invalid) (over_limit {shape = t} o deep _) = absurd (invalid_pointer_has_no_object m p nesting a t invalid o (λ _. deep))
 one_walk_error m places nesting limit a b (at_pointer {place = p} invalid) (inside {shape = t} o deep _ _) = absurd (invalid_pointer_has_no_object m p nesting a t invalid o (λ _. deep))
 one_walk_error m places nesting limit a b (at_pointer {place = p} invalid) (later {traversed = d} one fits _) =
-    absurd (walk_error_has_no_trees m (p ∷ []) nesting d limit a one.trees (at_pointer invalid) one.stand one.shallow fits)
+    absurd (walk_error_has_no_trees m (p ∷ []) nesting d limit a one.trees (at_pointer invalid) one.are_at one.shallow fits)
 one_walk_error m places nesting limit a b (over_limit {place = p} {shape = s} o deep _) (at_pointer other) = absurd (invalid_pointer_has_no_object m p nesting b s other o (λ _. deep))
 one_walk_error m places nesting limit a b (over_limit _ _ _) (over_limit _ _ _) = refl
 one_walk_error m places nesting limit a b (over_limit {place = p} {most = most} {shape = s} o _ past) (inside {shape = t} q _ fits _) = absurd (past_and_within m p most s t o q past fits)
 one_walk_error m places nesting limit a b (over_limit {place = p} {most = most} o deep past) (later {traversed = d} one fits _) =
-    absurd (walk_error_has_no_trees m (p ∷ []) nesting d (Some most) ReadLimitExceeded one.trees (over_limit o deep past) one.stand one.shallow fits)
+    absurd (walk_error_has_no_trees m (p ∷ []) nesting d (Some most) ReadLimitExceeded one.trees (over_limit o deep past) one.are_at one.shallow fits)
 one_walk_error m places nesting limit a b (inside {place = p} {shape = s} o deep _ _) (at_pointer other) = absurd (invalid_pointer_has_no_object m p nesting b s other o (λ _. deep))
 one_walk_error m places nesting limit a b (inside {place = p} {shape = s} o _ fits _) (over_limit {most = most} {shape = t} q _ past) = absurd (past_and_within m p most t s q o past fits)
 one_walk_error m places nesting limit a b (inside {place = p} {shape = s} o _ _ walk_error) (inside {shape = t} q _ _ error_too) =
     let same : t ≡ s = one_object m p t s q o in
     one_walk_error m s.children (nesting - 1) (less limit s.traversed) a b walk_error (subst (λ (x : Shape). WalkError m x.children (nesting - 1) (less limit x.traversed) b) same error_too)
 one_walk_error m places nesting limit a b (inside {place = p} o deep within walk_error) (later {traversed = d} one fits _) =
-    absurd (walk_error_has_no_trees m (p ∷ []) nesting d limit a one.trees (inside o deep within walk_error) one.stand one.shallow fits)
+    absurd (walk_error_has_no_trees m (p ∷ []) nesting d limit a one.trees (inside o deep within walk_error) one.are_at one.shallow fits)
 one_walk_error m places nesting limit a b (later {place = p} {traversed = c} one fits _) (at_pointer other) =
-    absurd (walk_error_has_no_trees m (p ∷ []) nesting c limit b one.trees (at_pointer other) one.stand one.shallow fits)
+    absurd (walk_error_has_no_trees m (p ∷ []) nesting c limit b one.trees (at_pointer other) one.are_at one.shallow fits)
 one_walk_error m places nesting limit a b (later {place = p} {traversed = c} one fits _) (over_limit {most = most} o deep past) =
-    absurd (walk_error_has_no_trees m (p ∷ []) nesting c (Some most) ReadLimitExceeded one.trees (over_limit o deep past) one.stand one.shallow fits)
+    absurd (walk_error_has_no_trees m (p ∷ []) nesting c (Some most) ReadLimitExceeded one.trees (over_limit o deep past) one.are_at one.shallow fits)
 one_walk_error m places nesting limit a b (later {place = p} {traversed = c} one fits _) (inside o deep within walk_error) =
-    absurd (walk_error_has_no_trees m (p ∷ []) nesting c limit b one.trees (inside o deep within walk_error) one.stand one.shallow fits)
+    absurd (walk_error_has_no_trees m (p ∷ []) nesting c limit b one.trees (inside o deep within walk_error) one.are_at one.shallow fits)
 one_walk_error m places nesting limit a b (later {place = p} {others = others} {traversed = c} one _ walk_error) (later {traversed = d} another _ error_too) =
-    let same : d ≡ c = (one_tree m (p ∷ []) another.trees one.trees d c another.stand one.stand).1 in
+    let same : d ≡ c = (one_tree m (p ∷ []) another.trees one.trees d c another.are_at one.are_at).1 in
     one_walk_error m others nesting (less limit c) a b walk_error (subst (λ (x : ℕ). WalkError m others nesting (less limit x) b) same error_too)

@@ -9,21 +9,21 @@ use Rattle.capnp_layout.proofs.pointers.SlotLemmas.{Linked}
 use Rattle.capnp_layout.proofs.layouts.SizeLemmas.{links_of, length-links, length-own_of, length-body, length-slots, slots_before, Before, before_more}
 use Rattle.capnp_wire.proofs.layouts.ExactLemmas.{Exactly, holds_join}
 use Rattle.capnp_wire.proofs.forms.PreorderLemmas.{at_parts, preorder_object}
-use Rattle.capnp_layout.proofs.trees.StandLemmas.{count_at}
+use Rattle.capnp_layout.proofs.trees.TreeCountLemmas.{count_at}
 use Rattle.capnp_layout.proofs.layouts.LayoutLemmas.{first_read}
 
 -- the pointers of some trees are in slots, and the trees' bodies from a word on
 pub record Laid (segment : List ℕ) (base : ℕ) (slots : List ℕ) (next : ℕ) (trees : Trees) : Type 0 where
   pub linked : Linked segment base slots (pointers_to slots next trees)
-  pub stand : Holds segment (base + next) (body trees)
+  pub are_at : Holds segment (base + next) (body trees)
 
 pub laid_of_preorder : (segment : List ℕ) (base : ℕ) (slots : List ℕ) (next : ℕ) (trees : Trees) (traversed : ℕ) → At (segment ∷ []) (placed 0 base slots) trees traversed → AllHaveRoom trees
     → length slots ≡ count trees → Before next slots → base + next + total_words trees ≤ length segment → IsInPreorder segment (placed 0 base slots) (base + next) trees → Laid segment base slots next trees
-laid_of_preorder segment base [] next none traversed stands room long before within in_preorder = record { linked = refl; stand = holds_none segment (base + next) (omega arith) }
-laid_of_preorder segment base (slot ∷ more) next none traversed stands room long before within in_preorder = absurd (omega arith)
-laid_of_preorder segment base [] next (tree form children rest) traversed stands room long before within in_preorder = absurd (omega arith)
-laid_of_preorder segment base (slot ∷ more) next (tree form children rest) traversed stands room long before within in_preorder =
-    let parts = at_parts (segment ∷ []) (record { segment = 0; word = base + slot }) (placed 0 base more) form children rest traversed stands in
+laid_of_preorder segment base [] next none traversed is_at room long before within in_preorder = record { linked = refl; are_at = holds_none segment (base + next) (omega arith) }
+laid_of_preorder segment base (slot ∷ more) next none traversed is_at room long before within in_preorder = absurd (omega arith)
+laid_of_preorder segment base [] next (tree form children rest) traversed is_at room long before within in_preorder = absurd (omega arith)
+laid_of_preorder segment base (slot ∷ more) next (tree form children rest) traversed is_at room long before within in_preorder =
+    let parts = at_parts (segment ∷ []) (record { segment = 0; word = base + slot }) (placed 0 base more) form children rest traversed is_at in
     let many : length parts.places ≡ count children = sym (count_at (segment ∷ []) parts.places children parts.inside parts.inner) in
     let first : slot < next = before.0 in
     let own_room : HasRoom form (length parts.places) = subst (λ (n : ℕ). HasRoom form n) (sym many) room.0 in
@@ -45,11 +45,11 @@ laid_of_preorder segment base (slot ∷ more) next (tree form children rest) tra
     let own_there : Holds segment (base + next) (own form (links_of form children)) = exact.holds (links_of form children) (length-links form children room.0) inner.linked in
     let own_long : length (own form (links_of form children)) ≡ object_size form (count children) = length-own_of form children room.0 in
     let front : Holds segment (base + next) (own form (links_of form children) ++ body children) =
-    holds_join segment (base + next) (base + next + object_size form (count children)) (own form (links_of form children)) (body children) (omega arith) own_there inner.stand in
+    holds_join segment (base + next) (base + next + object_size form (count children)) (own form (links_of form children)) (body children) (omega arith) own_there inner.are_at in
     record {
       linked = (subst (λ (o : ℕ). slice_get segment (base + slot) ≡ Some (pointer form (count children) o)) offsets in_preorder.0, following.linked);
-      stand = holds_join segment (base + next) (base + (next + object_size form (count children) + total_words children)) (own form (links_of form children) ++ body children) (body rest)
-          (omega (arith, length-append (own form (links_of form children)) (body children), length-body children room.1)) front following.stand;
+      are_at = holds_join segment (base + next) (base + (next + object_size form (count children) + total_words children)) (own form (links_of form children) ++ body children) (body rest)
+          (omega (arith, length-append (own form (links_of form children)) (body children), length-body children room.1)) front following.are_at;
     }
 
 padded_own : (segment : List ℕ) (start : ℕ) (form : Form) (links : List ℕ) → Holds segment start (own form links) → Padded segment start form
@@ -59,7 +59,7 @@ padded_own segment start (numbers c values) links h =
     holds_words segment start (words_for (length values) (width c)) (digits (2 ^ 64) (words_for (length values) (width c)) (number_of (2 ^ width c) values))
     (length-digits (2 ^ 64) (words_for (length values) (width c)) (number_of (2 ^ width c) values)) h
 padded_own segment start pointers links h = tt
-padded_own segment start (structs d p rows) links h = tt
+padded_own segment start (structs d p elements) links h = tt
 
 pub preorder_of_laid : (segment : List ℕ) (base : ℕ) (slots : List ℕ) (next : ℕ) (trees : Trees) → AllReach slots next trees → AllHaveRoom trees
     → length slots ≡ count trees → Before next slots → Linked segment base slots (pointers_to slots next trees) → Holds segment (base + next) (body trees)

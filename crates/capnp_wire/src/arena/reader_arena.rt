@@ -51,7 +51,7 @@ impl<S: ReaderSegments> ReaderArena<S> {
               limit = self.now.limiter.limit;
             })
             (λ error. NoWord m root error.kind) }
-        ensures stands { IfOk result (λ reader. (word : ℕ)
+        ensures has_word { IfOk result (λ reader. (word : ℕ)
             × (word_at (message_of (S.segments self.now.segments)) root ≡ Some word)) }
     {
         let place = Place {

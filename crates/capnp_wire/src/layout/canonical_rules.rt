@@ -1,6 +1,6 @@
 //! What the canonical form requires of an object alone: its place, its padding and its sizes.
 ghost use Rattle.std.specs.Prelude.{◌≢◌, ◌↔◌, ◌+◌, ◌*◌, ◌-◌, ◌/◌, ◌^◌, ◌<◌, ◌≤◌, ℕ, length, slice_index_or, IsTrue};
-ghost use Rattle.capnp_layout.specs.Prelude.{words_of, words_from, code_of, width, words_for, elements, rows_from, row_places, numbers, shape_of, room_of, words_in};
+ghost use Rattle.capnp_layout.specs.Prelude.{words_of, words_from, code_of, width, words_for, elements, elements_from, pointer_places, numbers, shape_of, room_of, words_in};
 ghost use Rattle.capnp_wire.specs.Canonical.{EndsFull, Padded};
 ghost use Rattle.capnp_wire.specs.Tested.{NextOf, PaddedOf, IsTruncated, NeedData, NeedPointers, links_at};
 
@@ -75,7 +75,7 @@ fn need_data(segment: &[u8], first: usize, elements: Elements) -> bool
     requires { first + elements.count * (elements.size.data_words + elements.size.pointers)
         ≤ length segment.now / 8 }
     ensures { IsTrue result ↔ NeedData elements.size.data_words
-        (rows_from (words_of segment.now) first
+        (elements_from (words_of segment.now) first
         elements.size.data_words elements.size.pointers elements.count) }
 {
     let data_words = elements.size.data_words as usize;
@@ -90,7 +90,7 @@ fn need_pointers(segment: &[u8], first: usize, elements: Elements) -> bool
     ensures { let d = elements.size.data_words in
         let p = elements.size.pointers in
         (number : ℕ) → IsTrue result ↔ NeedPointers p elements.count
-        (links_at (words_of segment.now) (row_places number first d p elements.count)) }
+        (links_at (words_of segment.now) (pointer_places number first d p elements.count)) }
 {
     let pointers = elements.size.pointers as usize;
     let apart = elements.size.data_words as usize + pointers;

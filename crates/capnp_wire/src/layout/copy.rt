@@ -3,7 +3,7 @@ ghost use Rattle.std.specs.Prelude.{◌≡◌, ◌-◌, ◌^◌, ◌<◌, ◌≤
 ghost use Rattle.capnp_layout.specs.Prelude.{words_of, message_of};
 ghost use Rattle.capnp_wire.specs.Copy.{CanCopy, Copies};
 
-use crate::layout::copy_rows::{copy_pointers, copy_run};
+use crate::layout::copy_pointers::{copy_pointers, copy_run};
 use crate::layout::pending::{StructCopy, begin, begin_list, begin_struct, copy_list};
 use capnp_frame::message::ReaderSegments;
 use capnp_layout::block::BlockItem;

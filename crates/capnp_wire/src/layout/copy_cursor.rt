@@ -1,6 +1,6 @@
 //! The pointers of an object beside those of its copy.
 ghost use Rattle.std.specs.Prelude.{◌≡◌, ◌≢◌, ◌↔◌, ◌+◌, ◌*◌, ◌/◌, ◌^◌, ◌<◌, ◌≤◌, [], length, IsTrue};
-ghost use Rattle.capnp_layout.specs.Prelude.{places, room_of, words_in, run, row_size, kept_in, kept_places, row_slots, slots_of, places_in, IsNarrower};
+ghost use Rattle.capnp_layout.specs.Prelude.{places, room_of, words_in, run, section_sizes, kept_in, kept_places, section_slots, slots_of, places_in, IsNarrower};
 ghost use Rattle.capnp_wire.specs.Copy.{ArePaired, TakesPair};
 
 use capnp_layout::object::{Body, Object, words_fit};
@@ -26,13 +26,13 @@ impl CopyCursor {
             ≤ length object.now.segment.now / 8 }
         requires elements { words_in object.now.body ≤ room_of object.now.body }
         requires bound { next + words_in copied < 2 ^ 61 }
-        ensures { let q = (row_size copied).pointers in
+        ensures { let q = (section_sizes copied).pointers in
             ArePaired result (kept_in object.now.start object.now.body q)
             object.now.start.segment (slots_of next copied) (next + words_in copied) }
     {
         // For the prover: each word is below 2^64, and so is the number of bytes.
         words_fit(object.segment);
-        let kept = copied.row_size().pointers;
+        let kept = copied.section_sizes().pointers;
         let begin = Place {
             segment: 0,
             word: next,
@@ -74,16 +74,16 @@ impl CopyCursor {
         ensures { let to = kept.size in
             ArePaired result (kept_places first.segment first.word
             size.data_words size.pointers to.pointers kept.count)
-            first.segment (row_slots slots to.data_words to.pointers kept.count)
+            first.segment (section_slots slots to.data_words to.pointers kept.count)
             (slots + kept.count * (to.data_words + to.pointers)) }
     {
         let begin = Place {
             segment: 0,
             word: slots,
         };
-        let rows = kept.size.row_size();
-        let from = PointerSlots::new(first, size.row_size(), rows.pointers, kept.count);
-        let to = PointerSlots::new(begin, rows, rows.pointers, kept.count);
+        let sizes = kept.size.section_sizes();
+        let from = PointerSlots::new(first, size.section_sizes(), sizes.pointers, kept.count);
+        let to = PointerSlots::new(begin, sizes, sizes.pointers, kept.count);
         CopyCursor { from, to }
     }
 

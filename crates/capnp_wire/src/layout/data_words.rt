@@ -1,6 +1,6 @@
 //! The words of an object except for its pointers.
 ghost use Rattle.std.specs.Prelude.{◌≡◌, ◌+◌, ◌-◌, ◌*◌, ◌/◌, ◌^◌, ◌<◌, ◌≤◌, length};
-ghost use Rattle.capnp_layout.specs.Prelude.{words_of, rows_from, room_of, words_in, put_rows, IsNarrower};
+ghost use Rattle.capnp_layout.specs.Prelude.{words_of, elements_from, room_of, words_in, put_data_sections, IsNarrower};
 ghost use Rattle.capnp_wire.specs.Copy.{put_own, element_count};
 
 use capnp_layout::block::{BlockItem, put_elements, put_word, put_words};
@@ -55,7 +55,7 @@ pub(crate) fn put_data_words<T: BlockItem>(
                 ),
             );
             if let Body::Structs(from, _) = object.body {
-                put_rows(
+                put_data_sections(
                     block,
                     next + 1,
                     elements,
@@ -69,7 +69,7 @@ pub(crate) fn put_data_words<T: BlockItem>(
 }
 
 /// Puts the data sections of structs into a block, with room for the pointers after each of them.
-pub(crate) fn put_rows<T: BlockItem>(
+pub(crate) fn put_data_sections<T: BlockItem>(
     block: &mut [T],
     next: usize,
     elements: Elements,
@@ -83,8 +83,8 @@ pub(crate) fn put_rows<T: BlockItem>(
     requires room { next + elements.count * (elements.size.data_words + elements.size.pointers)
         ≤ length (T.as_words block.old) }
     requires bound { length (T.as_words block.old) < 2 ^ 29 }
-    ensures words { T.as_words block.new ≡ put_rows next elements.size.pointers
-        (rows_from (words_of segment.now) start elements.size.data_words
+    ensures words { T.as_words block.new ≡ put_data_sections next elements.size.pointers
+        (elements_from (words_of segment.now) start elements.size.data_words
         (step - elements.size.data_words) elements.count) (T.as_words block.old) }
     ensures len { length (T.as_words block.new) ≡ length (T.as_words block.old) }
 {
@@ -94,7 +94,7 @@ pub(crate) fn put_rows<T: BlockItem>(
     }
     let mut from = start;
     let mut to = next;
-    'rows: for _row in 0..elements.count {
+    'sections: for _section in 0..elements.count {
         put_words(block, to, segment, from, data_words);
         from += step;
         to += elements.size.words() as usize;

@@ -7,7 +7,7 @@ ghost use Rattle.capnp_wire.specs.Values.{HasWords, WordsError, HasRoomAt};
 ghost use Rattle.capnp_wire.specs.ListValues.{IsListTree, WalkErrorInList, pointers_along};
 
 use crate::layout::copy::{Copied, CopySource, Destination};
-use crate::layout::copy_rows::copy_run;
+use crate::layout::copy_pointers::copy_run;
 use crate::layout::value::checked_walk;
 use crate::layout::walk::Walk;
 use capnp_frame::Result;

@@ -7,8 +7,8 @@ ghost use Rattle.capnp_wire.specs.ListValues.{IsListTree, WalkErrorInList, point
 
 use crate::layout::copy::{Copied, CopySource, Destination};
 use crate::layout::copy_cursor::CopyCursor;
-use crate::layout::copy_rows::copy_rows;
-use crate::layout::data_words::put_rows;
+use crate::layout::copy_pointers::copy_by_cursor;
+use crate::layout::data_words::put_data_sections;
 use crate::layout::value::checked_walk;
 use crate::layout::walk::Walk;
 use capnp_frame::Result;
@@ -57,7 +57,7 @@ pub(crate) fn measure<S: ReaderSegments>(
     let kept = output_elements(list.segment, list.first, list.elements, canonical);
     let mut walk = Walk::new(limit);
     walk.count(1 + kept.words());
-    let size = list.elements.size.row_size();
+    let size = list.elements.size.section_sizes();
     let pointers = PointerSlots::new(list.first, size, size.pointers, list.elements.count);
     walk.walk_pointers(segments, list.segment, pointers, nesting, canonical)?;
     checked_walk(walk.words(), canonical)
@@ -99,12 +99,12 @@ pub(crate) fn write<S: ReaderSegments>(
     put_word(block, to.next, tag);
     let slots = to.next + 1;
     let step = list.elements.size.words() as usize;
-    put_rows(block, slots, kept, list.segment, list.first.word, step);
+    put_data_sections(block, slots, kept, list.segment, list.first.word, step);
     let end = slots + kept.words() as usize;
-    let rows = CopyCursor::elements(list.first, list.elements.size, kept, slots);
+    let cursor = CopyCursor::elements(list.first, list.elements.size, kept, slots);
     Copied {
         pointer: list_word((to.next - to.following) as u64, STRUCT_LIST, kept.words()),
-        next: copy_rows(source, list.segment, rows, nesting, block, end),
+        next: copy_by_cursor(source, list.segment, cursor, nesting, block, end),
     }
 }
 

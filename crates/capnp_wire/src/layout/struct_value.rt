@@ -5,7 +5,7 @@ ghost use Rattle.capnp_wire.specs.Copy.{IsCopied};
 ghost use Rattle.capnp_wire.specs.Values.{HasWords, WordsError, HasRoomAt, IsTreeOf, WalkErrorInside, HoldsPointers, fields_at};
 
 use crate::layout::copy::{Copied, CopySource, Destination};
-use crate::layout::copy_rows::copy_pointers;
+use crate::layout::copy_pointers::copy_pointers;
 use crate::layout::data_words::put_data_words;
 use crate::layout::value::checked_walk;
 use crate::layout::walk::Walk;

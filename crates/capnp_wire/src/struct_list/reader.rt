@@ -44,7 +44,7 @@ impl<'a, S: ReaderSegments> Reader<'a, S> {
 
     /// The number of elements.
     pub fn len(&self) -> u32
-        ensures { result ≡ length (struct_list_of S.segments self.now).rows }
+        ensures { result ≡ length (struct_list_of S.segments self.now).elements }
     {
         self.elements.count
     }
@@ -53,7 +53,7 @@ impl<'a, S: ReaderSegments> Reader<'a, S> {
     /// the nesting depth that is left below the list. Its words were counted against the traversal
     /// limit with the list's.
     pub fn get(&self, index: u32) -> StructReader<'a, S>
-        requires { index < length (struct_list_of S.segments self.now).rows }
+        requires { index < length (struct_list_of S.segments self.now).elements }
         ensures { struct_of S.segments result
             ≡ element_of (struct_list_of S.segments self.now) index }
     {
@@ -77,7 +77,7 @@ impl<'a, S: ReaderSegments> Reader<'a, S> {
 
     /// The element at this index, or `None` where the list ends before it.
     pub fn try_get(&self, index: u32) -> Option<StructReader<'a, S>>
-        ensures { FindsElement (length (struct_list_of S.segments self.now).rows) index
+        ensures { FindsElement (length (struct_list_of S.segments self.now).elements) index
             (λ item. struct_of S.segments item
             ≡ element_of (struct_list_of S.segments self.now) index) result }
     {
@@ -188,7 +188,7 @@ impl<'a, S: ReaderSegments> IndexMove for Reader<'a, S> {
 
     ghost seen = { struct_of S.segments };
 
-    ghost size = { λ list. length (struct_list_of S.segments list).rows };
+    ghost size = { λ list. length (struct_list_of S.segments list).elements };
 
     ghost element = { λ list index. element_of (struct_list_of S.segments list) index };
 

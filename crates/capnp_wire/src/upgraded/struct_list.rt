@@ -10,7 +10,7 @@ use crate::any_struct::StructReader;
 use crate::object_content::{words_at, wrong_kind};
 use crate::object_view::{ObjectView, read};
 use crate::traits::{FromPointerInSegment, FromPointerReader, IndexMove, ListIter};
-use crate::upgraded::number_rows::NumberRows;
+use crate::upgraded::number_structs::NumberStructs;
 use crate::{any_pointer, struct_list};
 use capnp_frame::Result;
 use capnp_frame::message::ReaderSegments;
@@ -22,15 +22,15 @@ use capnp_layout::pointer::{Elements, StructSize};
 /// is in the low bits of its struct's one data word, and a pointer is its struct's one pointer.
 #[derive(Drop)]
 pub struct StructList<'a, S: ReaderSegments> {
-    pub(crate) rows: Rows<'a, S>,
+    pub(crate) elements: StructElements<'a, S>,
 }
 
 /// The elements.
 #[derive(Drop)]
-pub(crate) enum Rows<'a, S: ReaderSegments> {
+pub(crate) enum StructElements<'a, S: ReaderSegments> {
     /// Structs, and lists that have the layout of structs: pointers, and elements of no bytes.
     InPlace(struct_list::Reader<'a, S>),
-    Numbers(NumberRows<'a, S>),
+    Numbers(NumberStructs<'a, S>),
 }
 
 impl<'a, S: ReaderSegments> StructList<'a, S> {
@@ -43,11 +43,11 @@ impl<'a, S: ReaderSegments> StructList<'a, S> {
 
     /// The number of elements.
     pub fn len(&self) -> u32
-        ensures { result ≡ length (upgraded_structs_of S.segments self.now).rows }
+        ensures { result ≡ length (upgraded_structs_of S.segments self.now).elements }
     {
-        match &self.rows {
-            Rows::InPlace(list) => list.len(),
-            Rows::Numbers(numbers) => numbers.count,
+        match &self.elements {
+            StructElements::InPlace(list) => list.len(),
+            StructElements::Numbers(numbers) => numbers.count,
         }
     }
 
@@ -55,19 +55,19 @@ impl<'a, S: ReaderSegments> StructList<'a, S> {
     /// the nesting depth that is left below the list. Its words were counted against the traversal
     /// limit with the list's.
     pub fn get(&self, index: u32) -> StructReader<'a, S>
-        requires { index < length (upgraded_structs_of S.segments self.now).rows }
+        requires { index < length (upgraded_structs_of S.segments self.now).elements }
         ensures { struct_of S.segments result
             ≡ element_of (upgraded_structs_of S.segments self.now) index }
     {
-        match &self.rows {
-            Rows::InPlace(list) => list.get(index),
-            Rows::Numbers(numbers) => numbers.get(index),
+        match &self.elements {
+            StructElements::InPlace(list) => list.get(index),
+            StructElements::Numbers(numbers) => numbers.get(index),
         }
     }
 
     /// The element at this index, or `None` where the list ends before it.
     pub fn try_get(&self, index: u32) -> Option<StructReader<'a, S>>
-        ensures { FindsElement (length (upgraded_structs_of S.segments self.now).rows) index
+        ensures { FindsElement (length (upgraded_structs_of S.segments self.now).elements) index
             (λ item. struct_of S.segments item
             ≡ element_of (upgraded_structs_of S.segments self.now) index) result }
     {
@@ -104,7 +104,7 @@ impl<'a, S: ReaderSegments> StructList<'a, S> {
             return Ok(StructList::in_place(reader, object, 0, elements));
         }
         Ok(StructList {
-            rows: Rows::Numbers(NumberRows {
+            elements: StructElements::Numbers(NumberStructs {
                 segments: reader.segments,
                 limiter: reader.limiter,
                 bytes: words_at(object.segment, object.start.word, size, count),
@@ -134,7 +134,7 @@ impl<'a, S: ReaderSegments> StructList<'a, S> {
             ≡ structs_in (pointer_of S.segments reader.now) object.now skipped elements }
     {
         StructList {
-            rows: Rows::InPlace(struct_list::Reader::within(reader, object, skipped, elements)),
+            elements: StructElements::InPlace(struct_list::Reader::within(reader, object, skipped, elements)),
         }
     }
 }
@@ -143,7 +143,7 @@ impl<'a, S: ReaderSegments> ObjectView<'a, S> for StructList<'a, S> {
     ghost use Rattle.std.proofs.Common.{inl};
     ghost use Rattle.capnp_wire.specs.Readers.{pointer_of};
     ghost use Rattle.capnp_wire.specs.Views.{IsViewOf, Accepts, ViewError, FormError};
-    ghost use Rattle.capnp_wire.specs.UpgradedViews.{IsUpgradedStructs, TakesRows, ElementsFormError};
+    ghost use Rattle.capnp_wire.specs.UpgradedViews.{IsUpgradedStructs, TakesAsStructs, ElementsFormError};
     ghost use Rattle.capnp_wire.specs.UpgradedReaders.{upgraded_structs_of};
 
     ghost shows = { λ pointer view.
@@ -159,7 +159,7 @@ impl<'a, S: ReaderSegments> ObjectView<'a, S> for StructList<'a, S> {
     #[inline(always)]
     fn of_null(reader: &any_pointer::Reader<'a, S>) -> Self {
         StructList {
-            rows: Rows::InPlace(struct_list::Reader::empty(reader)),
+            elements: StructElements::InPlace(struct_list::Reader::empty(reader)),
         }
     }
 
@@ -190,7 +190,7 @@ impl<'a, S: ReaderSegments> IndexMove for StructList<'a, S> {
 
     ghost seen = { struct_of S.segments };
 
-    ghost size = { λ list. length (upgraded_structs_of S.segments list).rows };
+    ghost size = { λ list. length (upgraded_structs_of S.segments list).elements };
 
     ghost element = { λ list index. element_of (upgraded_structs_of S.segments list) index };
 
@@ -220,13 +220,13 @@ fn elements_without_data(pointers: u16, count: u32) -> Elements
 impl<'a, S: ReaderSegments> FromPointerReader<'a, S> for StructList<'a, S> {
     ghost use Rattle.capnp_wire.specs.Readers.{pointer_of};
     ghost use Rattle.capnp_wire.specs.Views.{IsViewOf, Accepts, ViewError, FormError};
-    ghost use Rattle.capnp_wire.specs.UpgradedViews.{IsUpgradedStructs, TakesRows, ElementsFormError};
+    ghost use Rattle.capnp_wire.specs.UpgradedViews.{IsUpgradedStructs, TakesAsStructs, ElementsFormError};
     ghost use Rattle.capnp_wire.specs.UpgradedReaders.{upgraded_structs_of};
 
     ghost shows = { λ pointer view.
         IsUpgradedStructs pointer (upgraded_structs_of S.segments view) };
 
-    ghost accepts = { λ pointer. Accepts pointer TakesRows };
+    ghost accepts = { λ pointer. Accepts pointer TakesAsStructs };
 
     ghost fails = { λ pointer kind. ViewError pointer ElementsFormError kind };
 
@@ -236,7 +236,7 @@ impl<'a, S: ReaderSegments> FromPointerReader<'a, S> for StructList<'a, S> {
     fn get_from_pointer(reader: any_pointer::Reader<'a, S>) -> Result<Self>
         ensures { let pointer = pointer_of S.segments reader.entry in IsViewOf pointer
             (λ view. IsUpgradedStructs pointer (upgraded_structs_of S.segments view))
-            (Accepts pointer TakesRows) (ViewError pointer ElementsFormError)
+            (Accepts pointer TakesAsStructs) (ViewError pointer ElementsFormError)
             (FormError pointer ElementsFormError) result }
     {
         read(&reader, None)
@@ -246,7 +246,7 @@ impl<'a, S: ReaderSegments> FromPointerReader<'a, S> for StructList<'a, S> {
 impl<'a, S: ReaderSegments> FromPointerInSegment<'a, S> for StructList<'a, S> {
     ghost use Rattle.capnp_wire.specs.Readers.{pointer_of};
     ghost use Rattle.capnp_wire.specs.Views.{HasSegment, IsViewOf, Accepts, ViewError, FormError};
-    ghost use Rattle.capnp_wire.specs.UpgradedViews.{IsUpgradedStructs, TakesRows, ElementsFormError};
+    ghost use Rattle.capnp_wire.specs.UpgradedViews.{IsUpgradedStructs, TakesAsStructs, ElementsFormError};
     ghost use Rattle.capnp_wire.specs.UpgradedReaders.{upgraded_structs_of};
 
     #[inline(always)]
@@ -254,7 +254,7 @@ impl<'a, S: ReaderSegments> FromPointerInSegment<'a, S> for StructList<'a, S> {
         requires { HasSegment (pointer_of S.segments reader) (words_of segment.now) }
         ensures { let pointer = pointer_of S.segments reader.entry in IsViewOf pointer
             (λ view. IsUpgradedStructs pointer (upgraded_structs_of S.segments view))
-            (Accepts pointer TakesRows) (ViewError pointer ElementsFormError)
+            (Accepts pointer TakesAsStructs) (ViewError pointer ElementsFormError)
             (FormError pointer ElementsFormError) result }
     {
         read(&reader, Some(segment))

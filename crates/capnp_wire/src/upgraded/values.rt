@@ -13,7 +13,7 @@ use crate::upgraded::enum_list::EnumList;
 use crate::upgraded::list_list::ListList;
 use crate::upgraded::number_list::{NumberList, Numbers};
 use crate::upgraded::pointer_list::PointerList;
-use crate::upgraded::struct_list::{Rows, StructList};
+use crate::upgraded::struct_list::{StructElements, StructList};
 use crate::{any_pointer_list, list_list, primitive_list, struct_list};
 use capnp_frame::Result;
 use capnp_frame::message::ReaderSegments;
@@ -82,9 +82,9 @@ impl<'a, S: ReaderSegments> SetterInput<struct_list::Owned> for StructList<'a, S
     ghost one = { λ list trees is. one_struct_list S.segments list trees is };
 
     fn measure(&self, canonical: bool) -> Result<u32> {
-        match &self.rows {
-            Rows::InPlace(list) => list.measure(canonical),
-            Rows::Numbers(rows) => value::measure_numbers(rows.size, rows.count),
+        match &self.elements {
+            StructElements::InPlace(list) => list.measure(canonical),
+            StructElements::Numbers(numbers) => value::measure_numbers(numbers.size, numbers.count),
         }
     }
 
@@ -93,9 +93,9 @@ impl<'a, S: ReaderSegments> SetterInput<struct_list::Owned> for StructList<'a, S
     }
 
     fn write(&self, canonical: bool, block: &mut [u8], following: usize, next: usize) -> Copied {
-        match &self.rows {
-            Rows::InPlace(list) => list.write(canonical, block, following, next),
-            Rows::Numbers(rows) => value::write_numbers(&rows.as_value(), block, following, next),
+        match &self.elements {
+            StructElements::InPlace(list) => list.write(canonical, block, following, next),
+            StructElements::Numbers(numbers) => value::write_numbers(&numbers.as_value(), block, following, next),
         }
     }
 }

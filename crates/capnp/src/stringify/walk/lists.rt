@@ -4,7 +4,7 @@ use crate::message::ReaderSegments;
 use crate::primitive_element::PrimitiveElement;
 use crate::stringify::numbers::push_bits;
 use crate::stringify::schema::{Base, Type};
-use crate::stringify::walk::{Row, Walk, push_error};
+use crate::stringify::walk::{Pending, Walk, push_error};
 use crate::upgraded::{NumberList, PointerList, StructList};
 use std::alloc::AllocError;
 
@@ -88,7 +88,7 @@ impl<'r, 'a, S: ReaderSegments> Walk<'r, 'a, S> {
     ) -> Result<(), AllocError> {
         match pointer.get_as::<StructList<'a, S>>() {
             Ok(list) => {
-                self.rows.push(Row::Structs(Elements {
+                self.pending.push(Pending::Structs(Elements {
                     list,
                     next: 0,
                     of,
@@ -110,7 +110,7 @@ impl<'r, 'a, S: ReaderSegments> Walk<'r, 'a, S> {
     ) -> Result<(), AllocError> {
         match pointer.get_as::<PointerList<'a, S>>() {
             Ok(list) => {
-                self.rows.push(Row::Pointers(Elements {
+                self.pending.push(Pending::Pointers(Elements {
                     list,
                     next: 0,
                     of,
@@ -128,17 +128,17 @@ impl<'r, 'a, S: ReaderSegments> Walk<'r, 'a, S> {
     pub(super) fn push_next_struct(
         &mut self,
         text: &mut String,
-        row: Elements<StructList<'a, S>>,
+        elements: Elements<StructList<'a, S>>,
     ) -> Result<(), AllocError> {
-        let Some(element) = row.list.try_get(row.next) else {
+        let Some(element) = elements.list.try_get(elements.next) else {
             return text.push(']');
         };
-        let of = row.of.base;
-        let depth = row.depth;
-        if row.next > 0 {
+        let of = elements.of.base;
+        let depth = elements.depth;
+        if elements.next > 0 {
             text.push_str(", ")?;
         }
-        self.rows.push(Row::Structs(row.after()))?;
+        self.pending.push(Pending::Structs(elements.after()))?;
         match of {
             Base::Struct(of) if depth > 0 => {
                 self.structs.push(element)?;
@@ -154,17 +154,17 @@ impl<'r, 'a, S: ReaderSegments> Walk<'r, 'a, S> {
     pub(super) fn push_next_pointer(
         &mut self,
         text: &mut String,
-        row: Elements<PointerList<'a, S>>,
+        elements: Elements<PointerList<'a, S>>,
     ) -> Result<(), AllocError> {
-        let Some(pointer) = row.list.try_get(row.next) else {
+        let Some(pointer) = elements.list.try_get(elements.next) else {
             return text.push(']');
         };
-        let of = row.of;
-        let depth = row.depth;
-        if row.next > 0 {
+        let of = elements.of;
+        let depth = elements.depth;
+        if elements.next > 0 {
             text.push_str(", ")?;
         }
-        self.rows.push(Row::Pointers(row.after()))?;
+        self.pending.push(Pending::Pointers(elements.after()))?;
         self.push_pointer(text, pointer, of, depth)
     }
 }

@@ -2,7 +2,7 @@
 use Rattle.std.proofs.Common.{◌≡◌, length, rules, arith, ap, ◌∙◌, Some}
 use Rattle.capnp_frame.specs.Prelude.{kind_number}
 use Rattle.capnp_frame.proofs.sources.AskLemmas.{never_fails}
-use Rattle.capnp_c.proofs.UnpackedLemmas.{front_message, taken, none_stands, own_kind, in_room}
+use Rattle.capnp_c.proofs.UnpackedLemmas.{front_message, taken, none_found, own_kind, in_room}
 use Rattle.capnp_c.proofs.packed_messages.unpack_message.Goals as goal
 
 pub returns-in-Ok-Some : goal.returns-in-Ok-Some
@@ -16,7 +16,7 @@ returns-in-Ok-Some c =
           (_, _, reads.found, front_message c.args.options _ _ _ text room reads.within, omega (arith, left));
       within = search rules;
       accepted = search rules;
-      none = λ none room. absurd (none_stands _ _ _ reads.found none);
+      none = λ none room. absurd (none_found _ _ _ reads.found none);
       errors = λ kind left errors. absurd (reads.exact kind left (in_room c.args.options _ left kind _ _ long errors));
       stays = search rules;
     }
@@ -28,7 +28,7 @@ returns-in-Ok-None c =
     record {
       unpacked = search rules;
       within = search rules;
-      accepted = λ segments rest stands within room. absurd (none_stands _ _ _ stands reads.none);
+      accepted = λ segments rest is_found within room. absurd (none_found _ _ _ is_found reads.none);
       none = search rules;
       errors = λ kind left errors. absurd (reads.exact kind left (in_room c.args.options _ left kind _ _ long errors));
       stays = search rules;
@@ -41,8 +41,8 @@ returns-in-Err c =
     record {
       unpacked = search rules;
       within = search rules;
-      accepted = λ segments rest stands within room.
-          absurd (never_fails c.in-Err.error.kind reads.failed (reads.accepted segments rest stands within (search (rules, room))));
+      accepted = λ segments rest is_found within room.
+          absurd (never_fails c.in-Err.error.kind reads.failed (reads.accepted segments rest is_found within (search (rules, room))));
       none = λ none room. absurd (never_fails c.in-Err.error.kind reads.failed (reads.end (ap Some none) (search (rules, room))));
       errors = λ kind left errors.
           c.number-in-Err.ensures ∙ ap kind_number (own_kind c.in-Err.error.kind kind (reads.exact kind left (in_room c.args.options _ left kind _ _ long errors)) reads.failed);

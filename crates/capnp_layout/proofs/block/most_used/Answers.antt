@@ -2,28 +2,28 @@
 use Rattle.std.proofs.Common.{◌≡◌, ◌+◌, ◌-◌, ◌/◌, ◌<◌, max, length, ◌∙◌, sym, arith, ℕ}
 use Rattle.capnp_layout.specs.Prelude.{words_of}
 use Rattle.capnp_layout.proofs.words.UsedLemmas.{most_next, most_none, most_within, stretch_next}
-use Rattle.capnp_layout.proofs.layouts.OpenedLemmas.{most_within_rows}
+use Rattle.capnp_layout.proofs.layouts.OpenedLemmas.{most_within_parts}
 use Rattle.capnp_layout.proofs.block.most_used.Goals as goal
 
 pub returns-then-count-eq0-clause-value : goal.returns-then-count-eq0-clause-value
-returns-then-count-eq0-clause-value c = rw c.if-count-eq0.true (sym (most_none _ c.args.start c.args.step c.args.rows))
+returns-then-count-eq0-clause-value c = rw c.if-count-eq0.true (sym (most_none _ c.args.start c.args.step c.args.parts))
 
 pub returns-then-most-count-clause-value : goal.returns-then-most-count-clause-value
 returns-then-most-count-clause-value c =
-    let rest = most_within_rows (words_of c.args.segment.now) c.rows.row c.args.count c.args.step (c.args.rows - c.rows._row) in
-    omega (arith, c.rows.invariant.0, c.if-most-count.true, rest)
+    let rest = most_within_parts (words_of c.args.segment.now) c.parts.part c.args.count c.args.step (c.args.parts - c.parts._part) in
+    omega (arith, c.parts.invariant.0, c.if-most-count.true, rest)
 
-pub rows-preserved : goal.rows-preserved
-rows-preserved c =
+pub parts-preserved : goal.parts-preserved
+parts-preserved c =
     let words = words_of c.args.segment.now in
-    let left : ℕ = c.args.rows - c.rows._row in
-    let some : 0 < c.args.rows - c.rows._row = omega arith in
-    let less : c.args.rows - c.rows._row - 1 ≡ c.args.rows - (c.rows._row + 1) = omega arith in
-    let so_far = c.rows.invariant in
-    let most : c.larger-most.result ≡ max c.rows.most c.used.result = c.larger-most.ensures in
-    let next = most_next words c.rows.row c.args.count c.args.step (c.args.rows - c.rows._row) c.rows.most some in
-    let within = most_within words c.rows.row c.args.count in (
+    let left : ℕ = c.args.parts - c.parts._part in
+    let some : 0 < c.args.parts - c.parts._part = omega arith in
+    let less : c.args.parts - c.parts._part - 1 ≡ c.args.parts - (c.parts._part + 1) = omega arith in
+    let so_far = c.parts.invariant in
+    let most : c.larger-most.result ≡ max c.parts.most c.used.result = c.larger-most.ensures in
+    let next = most_next words c.parts.part c.args.count c.args.step (c.args.parts - c.parts._part) c.parts.most some in
+    let within = most_within words c.parts.part c.args.count in (
       rw (most, c.used.ensures, ← less) (sym next ∙ so_far.0),
-      rw (← less) (stretch_next c.rows.row c.args.count c.args.step (c.args.rows - c.rows._row) (length c.args.segment.now / 8) some so_far.1),
+      rw (← less) (stretch_next c.parts.part c.args.count c.args.step (c.args.parts - c.parts._part) (length c.args.segment.now / 8) some so_far.1),
       omega (arith, most, c.used.ensures, within, so_far.2),
     )

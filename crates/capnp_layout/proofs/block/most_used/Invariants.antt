@@ -3,7 +3,7 @@ use Rattle.std.proofs.Common.{◌≡◌, ◌≤◌, ◌+◌, ◌-◌, ◌*◌, �
 use Rattle.capnp_layout.specs.Prelude.{words_of, most_used}
 use Rattle.capnp_layout.proofs.block.most_used.Given as goal
 
-abbrev pub invariant-rows : goal.invariant-rows
-invariant-rows l =
-    (max l.most (most_used (words_of l.segment) l.row l.count l.step (l.rows - l._row)) ≡ most_used (words_of l.segment) l.fn.start l.count l.step l.rows)
-    × (l.row + (l.rows - l._row) * l.step ≤ length l.segment / 8 + (l.step - l.count)) × (l.most ≤ l.count)
+abbrev pub invariant-parts : goal.invariant-parts
+invariant-parts l =
+    (max l.most (most_used (words_of l.segment) l.part l.count l.step (l.parts - l._part)) ≡ most_used (words_of l.segment) l.fn.start l.count l.step l.parts)
+    × (l.part + (l.parts - l._part) * l.step ≤ length l.segment / 8 + (l.step - l.count)) × (l.most ≤ l.count)

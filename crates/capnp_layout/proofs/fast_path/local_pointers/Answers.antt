@@ -1,7 +1,7 @@
 -- A pointer leads to a list of pointers in its segment where there is room for the list.
 use Rattle.std.proofs.Common.{◌+◌, ◌/◌, ◌≤◌, length, sym, arith}
 use Rattle.capnp_layout.specs.Prelude.{words_of}
-use Rattle.capnp_layout.proofs.pointers.LocalLemmas.{word_there, pointer_list_stands}
+use Rattle.capnp_layout.proofs.pointers.LocalLemmas.{word_there, pointer_list_is_at}
 use Rattle.capnp_layout.proofs.fast_path.local_pointers.Goals as goal
 
 pub returns : goal.returns
@@ -11,6 +11,6 @@ returns c m there =
     let list = rw c.in-Pointers.is at local_is.shape_is in
     let leads = rw (c.in_ok-start.was, local_is.offset_is) at c.resolve_local-landing.ensures.start in
     let room : c.in_ok-start.start + c.in-Pointers.count ≤ length c.args.segment.now / 8 = omega (arith, c.fits.ensures.0 c.if-not-fits.false) in (
-      pointer_list_stands m c.args.place c.in_ok-pointer.pointer c.args.segment c.in_ok-start.start c.in-Pointers.count word local_is.small there leads list c.words_fit.ensures.words room,
+      pointer_list_is_at m c.args.place c.in_ok-pointer.pointer c.args.segment c.in_ok-start.start c.in-Pointers.count word local_is.small there leads list c.words_fit.ensures.words room,
       omega arith,
     )

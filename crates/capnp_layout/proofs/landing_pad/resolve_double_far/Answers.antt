@@ -3,7 +3,7 @@ use Rattle.std.proofs.Common.{◌≡◌, ℕ, None, slice_get, sym, ap, ◌∙�
 use Rattle.capnp_layout.specs.Prelude.{landing_pad_segment, message_of, landing_pad, IsFar, BadLandingPad, not_far, no_content}
 use Rattle.capnp_layout.specs.declared.place.Place.{Place}
 use Rattle.capnp_frame.specs.declared.error.ErrorKind.TheVariants.{InvalidSegmentId}
-use Rattle.capnp_layout.proofs.words.MessageLemmas.{segment_stands, no_segment_stands}
+use Rattle.capnp_layout.proofs.words.MessageLemmas.{segment_is_there, no_segment_is_there}
 use Rattle.capnp_frame.proofs.sources.AskLemmas.{passed_on}
 use Rattle.capnp_layout.proofs.pointers.LandingPadLemmas.{wide_error, is_far_word, not_far_word, wide_landing, content_place}
 use Rattle.capnp_layout.proofs.landing_pad.resolve_double_far.Given as given
@@ -33,7 +33,7 @@ returns-in_err-segment-clause-errors g c =
     let m = message_of (g.S.ReaderSegments.segments c.args.segments.now) in
     let content = content_there g (goal.at.returns-in_err-segment-clause-errors g c).In_ok-content in
     let number : c.in_ok-content.content.segment ≡ landing_pad_segment c.args.first = ap (λ (x : Place). x.segment) content.place in
-    let none = subst (λ (n : ℕ). slice_get m n ≡ None) number (no_segment_stands _ c.in_ok-content.content.segment c.in_err-segment.ensures.0) in
+    let none = subst (λ (n : ℕ). slice_get m n ≡ None) number (no_segment_is_there _ c.in_ok-content.content.segment c.in_err-segment.ensures.0) in
     passed_on _ _ c.from_residual-in_err-segment.ensures.1 (λ word landing_pad.
     subst (BadLandingPad m word) (sym (c.in_err-segment.ensures.1 ∙ ap InvalidSegmentId number)) (no_content landing_pad.wide.wide landing_pad.first_there landing_pad.tag_there content.is_far none))
 
@@ -41,7 +41,7 @@ pub returns-in_err-local-clause-errors : goal.returns-in_err-local-clause-errors
 returns-in_err-local-clause-errors g c =
     let segments = g.S.ReaderSegments.segments c.args.segments.now in
     let content = content_there g (goal.at.returns-in_err-local-clause-errors g c).In_ok-content in
-    let there = rw (ap (λ (x : Place). x.segment) content.place) at (segment_stands segments c.in_ok-content.content.segment _ c.in_ok-segment.ensures) in
+    let there = rw (ap (λ (x : Place). x.segment) content.place) at (segment_is_there segments c.in_ok-content.content.segment _ c.in_ok-segment.ensures) in
     passed_on _ _ c.from_residual-in_err-local.ensures.1 (λ word landing_pad.
     wide_error _ word c.args.first c.args.tag _ _ landing_pad.wide.wide landing_pad.first_there landing_pad.tag_there content.is_far there c.in_err-local.ensures.errors)
 
@@ -51,4 +51,4 @@ returns-clause-found g c = λ place word there landing_pad.
     let content = content_there g (goal.at.returns-clause-found g c).In_ok-content in
     wide_landing _ place c.in_ok-content.content word c.args.first c.args.tag c.in_ok-local.local _ _ there
     landing_pad.wide landing_pad.first_there content.is_far landing_pad.tag_there
-    content.place (segment_stands segments c.in_ok-content.content.segment _ c.in_ok-segment.ensures) c.in_ok-local.ensures.found refl refl refl refl refl
+    content.place (segment_is_there segments c.in_ok-content.content.segment _ c.in_ok-segment.ensures) c.in_ok-local.ensures.found refl refl refl refl refl

@@ -2,7 +2,7 @@
 use Rattle.std.proofs.Common.{◌+◌, ◌/◌, ◌<◌, ◌≤◌, length, arith}
 use Rattle.std.proofs.lemmas.Result.{err_from_is_err_and}
 use Rattle.capnp_layout.specs.Prelude.{code, code_of, width, words_for}
-use Rattle.capnp_layout.proofs.pointers.LandingLemmas.{struct_stands, numbers_stand, pointers_stand, struct_misfits, list_misfits, pointers_misfit}
+use Rattle.capnp_layout.proofs.pointers.LandingLemmas.{struct_is_at, numbers_are_at, pointers_are_at, struct_misfits, list_misfits, pointers_misfit}
 use Rattle.capnp_layout.proofs.object.body_at.Goals as goal
 
 pub returns-in_err-expect_room-in-Struct-clause-errors : goal.returns-in_err-expect_room-in-Struct-clause-errors
@@ -32,16 +32,16 @@ returns-in_ok-expect_room-in-Struct-clause-found c = λ tag number shape.
     let s = rw c.in-Struct.is at shape in
     let size = c.in-Struct.size in
     let room : c.args.start + (size.data_words + size.pointers) ≤ length c.args.segment.now / 8 = omega (arith, c.words.ensures, c.in_ok-expect_room-in-Struct.ensures) in
-    struct_stands c.args.segment.now (record { segment = number; word = c.args.start }) tag size.data_words size.pointers s.0 s.1 s.2 room
+    struct_is_at c.args.segment.now (record { segment = number; word = c.args.start }) tag size.data_words size.pointers s.0 s.1 s.2 room
 
 pub returns-in_ok-expect_room-in-Numbers-clause-found : goal.returns-in_ok-expect_room-in-Numbers-clause-found
 returns-in_ok-expect_room-in-Numbers-clause-found c = λ tag number shape.
     let s = rw c.in-Numbers.is at shape in
     let room : c.args.start + words_for c.in-Numbers.count (width (code_of c.in-Numbers.elements)) ≤ length c.args.segment.now / 8 =
     rw (← c.words_of_list.ensures) c.in_ok-expect_room-in-Numbers.ensures in
-    numbers_stand c.args.segment.now (record { segment = number; word = c.args.start }) tag (code_of c.in-Numbers.elements) c.in-Numbers.count s.0 s.1 s.2 s.3 room
+    numbers_are_at c.args.segment.now (record { segment = number; word = c.args.start }) tag (code_of c.in-Numbers.elements) c.in-Numbers.count s.0 s.1 s.2 s.3 room
 
 pub returns-in_ok-expect_room-in-Pointers-clause-found : goal.returns-in_ok-expect_room-in-Pointers-clause-found
 returns-in_ok-expect_room-in-Pointers-clause-found c = λ tag number shape.
     let s = rw c.in-Pointers.is at shape in
-    pointers_stand c.args.segment.now (record { segment = number; word = c.args.start }) tag c.in-Pointers.count s.0 s.1 s.2 c.in_ok-expect_room-in-Pointers.ensures
+    pointers_are_at c.args.segment.now (record { segment = number; word = c.args.start }) tag c.in-Pointers.count s.0 s.1 s.2 c.in_ok-expect_room-in-Pointers.ensures

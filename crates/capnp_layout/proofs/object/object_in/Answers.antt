@@ -2,8 +2,8 @@
 use Rattle.std.proofs.Common.{◌<◌, sym, subst, arith}
 use Rattle.std.proofs.lemmas.Result.{err_from_is_err_and}
 use Rattle.capnp_layout.specs.Prelude.{message_of, IsStart, IsLanding, PointerError, too_deep, no_start, misfits, words_of}
-use Rattle.capnp_layout.proofs.pointers.LandingPadLemmas.{object_stands}
-use Rattle.capnp_layout.proofs.trees.RoomLemmas.{stands_room}
+use Rattle.capnp_layout.proofs.pointers.LandingPadLemmas.{object_is_at}
+use Rattle.capnp_layout.proofs.trees.RoomLemmas.{room_of_shape}
 use Rattle.capnp_layout.proofs.object.object_in.Goals as goal
 
 pub returns-then-nesting-eq0-clause-errors : goal.returns-then-nesting-eq0-clause-errors
@@ -33,7 +33,7 @@ pub returns-clause-found : goal.returns-clause-found
 returns-clause-found g c =
     let m = message_of (g.S.ReaderSegments.segments c.args.segments.now) in
     let landing : IsLanding m c.args.place c.in-Some.landing = rw c.in-Some.is at c.in_ok-landing.ensures.found in
-    let object = object_stands m c.args.place c.in-Some.landing c.in-Some-start.start c.in_ok-body.body c.traversed.result landing c.in-Some-start.is
+    let object = object_is_at m c.args.place c.in-Some.landing c.in-Some-start.start c.in_ok-body.body c.traversed.result landing c.in-Some-start.is
     c.in_ok-body.ensures.found c.traversed.ensures.traversed in
     let begins : IsStart landing.landing.origin landing.landing.tag c.in-Some-start.start = rw c.in-Some-start.is at landing.start in (
       record {
@@ -46,7 +46,7 @@ returns-clause-found g c =
         room = c.in_ok-body.ensures.room;
         elements = c.in_ok-body.ensures.elements;
         traversed = omega (arith, c.traversed.ensures.traversed);
-        has_room = stands_room (words_of c.in-Some.landing.segment.now) (record { segment = c.in-Some.landing.number; word = c.in-Some-start.start }) landing.landing.tag _ landing.small
+        has_room = room_of_shape (words_of c.in-Some.landing.segment.now) (record { segment = c.in-Some.landing.number; word = c.in-Some-start.start }) landing.landing.tag _ landing.small
             c.words_fit.ensures.words
             (c.in_ok-body.ensures.found landing.landing.tag c.in-Some.landing.number landing.shape);
       },

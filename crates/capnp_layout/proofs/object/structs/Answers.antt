@@ -1,7 +1,7 @@
 -- The elements of a list of structs are after its tag.
 use Rattle.std.proofs.Common.{◌+◌, ◌*◌, ◌<◌, ◌≤◌, arith}
 use Rattle.std.proofs.lemmas.Result.{err_from_is_err_and}
-use Rattle.capnp_layout.proofs.pointers.LandingLemmas.{structs_misfit, no_tag_misfits, odd_tag_misfits, many_elements_misfit, structs_stand}
+use Rattle.capnp_layout.proofs.pointers.LandingLemmas.{structs_misfit, no_tag_misfits, odd_tag_misfits, many_elements_misfit, structs_are_at}
 use Rattle.capnp_layout.proofs.object.structs.Goals as goal
 
 pub returns-in_err-expect_room-clause-errors : goal.returns-in_err-expect_room-clause-errors
@@ -30,5 +30,5 @@ returns-clause-found c = λ tag number (list, seven, size).
     let e = c.in-Some.elements in
     let found = c.in-Some.ensures in
     let few : e.count * (e.size.data_words + e.size.pointers) ≤ c.args.words = omega (arith, c.words.ensures.words, c.if-words.false) in
-    structs_stand c.args.segment.now (record { segment = number; word = c.args.start }) tag c.in_ok-tag.tag e.size.data_words e.size.pointers e.count c.args.words list seven size
+    structs_are_at c.args.segment.now (record { segment = number; word = c.args.start }) tag c.in_ok-tag.tag e.size.data_words e.size.pointers e.count c.args.words list seven size
     c.in_ok-tag.ensures.0 found.struct_kind found.count_is found.data_is found.pointers_are c.in_ok-expect_room.ensures few

@@ -48,10 +48,10 @@ pub enum Job<'a> {
 pub fn people<S: GrowingSegment>(
     alloc: Global,
     objects: &mut Orphanage<S>,
-    rows: &[(&str, Option<&str>, Job<'_>)],
+    entries: &[(&str, Option<&str>, Job<'_>)],
 ) -> Result<Orphan<person::OwnedList>> {
     let mut people = Vec::new(alloc);
-    for (name, email, job) in rows {
+    for (name, email, job) in entries {
         let mut person = person::Builder::new();
         person.set_name(objects.text(name)?);
         if let Some(email) = email {

@@ -50,7 +50,7 @@ enum Getter {
 
 // Getters, messages, the words that are counted before, and those of what is viewed.
 #[rattlefmt::skip]
-const ROWS: [(Getter, &[u8], usize, usize); 21] = [
+const CASES: [(Getter, &[u8], usize, usize); 21] = [
     // after the root's thirteen words
     (Getter::Title, FILLED, 13, 1),
     (Getter::Payload, FILLED, 13, 1),
@@ -222,7 +222,7 @@ fn expect_counted(
 
 #[test]
 fn what_made_getters_count(rt: HostRuntime) -> Result<()> {
-    for (getter, message, before, words) in &ROWS {
+    for (getter, message, before, words) in &CASES {
         expect_counted(&rt, (*getter, message), *before, *words)?;
     }
     Ok(())

@@ -93,14 +93,14 @@ fn the_book_is_the_one_that_the_tool_writes(rt: HostRuntime) -> Result<()> {
 // The list is made in a region of the caller's, of just its 25 words.
 #[test]
 fn elements_have_different_members(rt: HostRuntime) -> Result<()> {
-    let rows = [
+    let entries = [
         ("A", None, Job::Learns("MIT")),
         ("B", Some("b@example.com"), Job::None),
         ("C", None, Job::At("Acme")),
     ];
     let mut region = [1u8; 8 * 25];
     let mut objects = Orphanage::in_region(&mut region)?;
-    add_book(rt.alloc(), &mut objects, &rows)?;
+    add_book(rt.alloc(), &mut objects, &entries)?;
     let message = Reader::new(&objects, DEFAULT_READER_OPTIONS);
     let people = people_of(&message)?;
     expect(&rt, "people", people.len(), 3);
@@ -124,10 +124,10 @@ fn elements_have_different_members(rt: HostRuntime) -> Result<()> {
 fn add_book<S: GrowingSegment>(
     alloc: Global,
     objects: &mut Orphanage<S>,
-    rows: &[(&str, Option<&str>, Job<'_>)],
+    entries: &[(&str, Option<&str>, Job<'_>)],
 ) -> Result<()> {
     let mut book = address_book::Builder::new();
-    book.set_people(people(alloc, objects, rows)?);
+    book.set_people(people(alloc, objects, entries)?);
     book.add_root(objects)
 }
 

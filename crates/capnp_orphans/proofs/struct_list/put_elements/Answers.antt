@@ -2,7 +2,7 @@
 use Rattle.std.proofs.Common.{◌≡◌, ◌+◌, ◌-◌, ◌*◌, ◌<◌, ◌≤◌, ℕ, ◌++◌, length, drop, arith, length-take, length-drop, ap, ◌∙◌}
 use Rattle.capnp_layout.specs.Prelude.{words_of}
 use Rattle.capnp_layout.proofs.words.WordLemmas.{length-words_of}
-use Rattle.capnp_layout.proofs.objects.RowLemmas.{row_ends}
+use Rattle.capnp_layout.proofs.objects.StructElementLemmas.{struct_ends}
 use Rattle.capnp_orphans.specs.Orphans.{links}
 use Rattle.capnp_orphans.proofs.StructListLemmas.{element_put, all_elements, sized_more, all_sized}
 use Rattle.capnp_orphans.proofs.struct_list.put_elements.Goals as goal
@@ -16,7 +16,7 @@ loop-index-preserved g c =
     let within : c.loop-index.index < length (g.S.DraftSource.drafts c.args.source.now) = omega (arith, c.loop-index-test.true, c.len-index-end.ensures) in
     let from : ℕ = c.loop-index.at in
     let from_is = c.loop-index.invariant.at_is in
-    let ends = row_ends c.loop-index.index n (g.row.D + g.row.P) within in
+    let ends = struct_ends c.loop-index.index n (g.row.D + g.row.P) within in
     let x = c.get-draft.result in
     let part_is : words_of c.put_struct.new.block ≡ c.get-draft.result.words ++ links c.get-draft.result.pointers (c.args.place + c.loop-index.at + g.row.D) =
     c.put_struct.ensures.words ∙ ap (λ (k : ℕ). c.get-draft.result.words ++ links c.get-draft.result.pointers (c.args.place + c.loop-index.at + k)) c.draft_fits.ensures.words in

@@ -2,15 +2,15 @@
 use Rattle.std.proofs.Common.{rules, arith, ◌<◌, sym, subst, w8}
 use borrow.Rule.Simd.Moves.{SwzOk}
 use Rattle.capnp_pack.proofs.tables.FrontLemmas.{spread_lanes}
-use Rattle.capnp_pack.proofs.tables.PlaceLemmas.{row_of, row_ok}
+use Rattle.capnp_pack.proofs.tables.PlaceLemmas.{entry_of, entry_ok}
 use Rattle.capnp_pack.proofs.lanes.unpack_word.Goals as goal
 
 pub swizzle : goal.swizzle
 swizzle c =
     let low : c.args.tag < 256 = omega arith in
-    subst (SwzOk w8 16 16 0) (sym (row_of c.args.tag _ low)) (row_ok c.args.tag)
+    subst (SwzOk w8 16 16 0) (sym (entry_of c.args.tag _ low)) (entry_ok c.args.tag)
 
 pub returns-clause-taken : goal.returns-clause-taken
 returns-clause-taken c =
     let low : c.args.tag < 256 = omega arith in
-    record { used_within = search rules; marked = spread_lanes c.args.tag c.args.text.now c.args.word.now _ low c.requires.long c.requires.word (row_of c.args.tag _ low) }
+    record { used_within = search rules; marked = spread_lanes c.args.tag c.args.text.now c.args.word.now _ low c.requires.long c.requires.word (entry_of c.args.tag _ low) }

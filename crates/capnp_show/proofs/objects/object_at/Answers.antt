@@ -2,17 +2,17 @@
 use Rattle.std.proofs.Common.{sym, subst}
 use Rattle.capnp_frame.proofs.sources.AskLemmas.{passed_on}
 use Rattle.capnp_layout.specs.Prelude.{words_of, message_of, IsStart, IsLanding, PointerError, no_word, no_segment, no_start, misfits}
-use Rattle.capnp_layout.proofs.words.MessageLemmas.{segment_stands, no_segment_stands}
+use Rattle.capnp_layout.proofs.words.MessageLemmas.{segment_is_there, no_segment_is_there}
 use Rattle.capnp_show.proofs.ObjectLemmas.{landing_pad_is}
 use Rattle.capnp_show.proofs.objects.object_at.Goals as goal
 
 pub returns-in_err-pointers-clause-errors : goal.returns-in_err-pointers-clause-errors
 returns-in_err-pointers-clause-errors g c = passed_on _ _ c.from_residual.ensures.1 (λ nesting some.
     subst (PointerError (message_of (g.S.ReaderSegments.segments c.args.segments.now)) c.args.place nesting) (sym c.in_err-pointers.ensures.1)
-    (no_word (no_segment (no_segment_stands _ c.args.place.segment c.in_err-pointers.ensures.0))))
+    (no_word (no_segment (no_segment_is_there _ c.args.place.segment c.in_err-pointers.ensures.0))))
 
 pub resolve-requires : goal.resolve-requires
-resolve-requires g c = record { content = segment_stands _ c.args.place.segment _ c.in_ok-pointers.ensures }
+resolve-requires g c = record { content = segment_is_there _ c.args.place.segment _ c.in_ok-pointers.ensures }
 
 pub returns-in_default-start-clause-errors : goal.returns-in_default-start-clause-errors
 returns-in_default-start-clause-errors g c = λ nesting some.
@@ -31,7 +31,7 @@ pub returns-clause-found : goal.returns-clause-found
 returns-clause-found g c =
     let m = message_of (g.S.ReaderSegments.segments c.args.segments.now) in
     let landing : IsLanding m c.args.place c.in-Some.landing = rw c.in-Some.is at c.in_ok-landing.ensures.found in
-    let pointers = segment_stands _ c.args.place.segment _ c.in_ok-pointers.ensures in
+    let pointers = segment_is_there _ c.args.place.segment _ c.in_ok-pointers.ensures in
     let landing_pad = landing_pad_is m c.args.place _ landing.landing c.far_pointer_in.result landing.lands pointers c.far_pointer_in.ensures in
     record {
       landing = landing.landing;
@@ -40,7 +40,7 @@ returns-clause-found g c =
       begins = rw c.in-Some-start.is at landing.start;
       words = words_of c.in-Some.landing.segment.now;
       content = rw (← landing.number) landing.content;
-      stands = c.in_ok-body.ensures.found landing.landing.tag c.in-Some.landing.number landing.shape;
+      is_at = c.in_ok-body.ensures.found landing.landing.tag c.in-Some.landing.number landing.shape;
       landing_pads = landing_pad.0;
       far_pointer = landing_pad.1;
     }

@@ -6,6 +6,6 @@ use Rattle.capnp_uses.proofs.building.null_is_read_back.Goals as goal
 
 pub returns : goal.returns
 returns g c =
-    let null = null_is_read _ c.in_ok-write_null.ensures.stands in
+    let null = null_is_read _ c.in_ok-write_null.ensures.has_root in
     let is = c.is_null.ensures.1 (subst (λ p. Denotes p nothing) (sym c.in_ok-root.ensures.returned) null) in
-    record { stands = c.in_ok-write_null.ensures.stands; back = search rules; errors = tt }
+    record { has_root = c.in_ok-write_null.ensures.has_root; back = search rules; errors = tt }

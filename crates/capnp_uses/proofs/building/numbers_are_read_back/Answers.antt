@@ -9,11 +9,11 @@ pub returns : goal.returns
 returns g c =
     let words = numbers_of 5 c.in_ok-list.list in
     let there = root_is_read _ (numbers 5 (c.args.first ∷ c.args.second ∷ [])) (λ form. IsNumbers 5 form words)
-    c.in_ok-write_numbers.ensures.stands c.in_ok-list.ensures.returned in
+    c.in_ok-write_numbers.ensures.has_root c.in_ok-list.ensures.returned in
     let all : take c.loop-index.index words ≡ words = take_all c.loop-index.index words (omega arith) in
-    record { stands = c.in_ok-write_numbers.ensures.stands; back = c.loop-index.invariant ∙ all ∙ there.1; errors = tt }
+    record { has_root = c.in_ok-write_numbers.ensures.has_root; back = c.loop-index.invariant ∙ all ∙ there.1; errors = tt }
 
 pub returns-in_err-list-clause-errors : goal.returns-in_err-list-clause-errors
 returns-in_err-list-clause-errors g c =
-    let never = c.in_err-list.ensures.found refl (root_accepts _ (numbers 5 (c.args.first ∷ c.args.second ∷ [])) (TakesNumbers 5) c.in_ok-write_numbers.ensures.stands refl) in
+    let never = c.in_err-list.ensures.found refl (root_accepts _ (numbers 5 (c.args.first ∷ c.args.second ∷ [])) (TakesNumbers 5) c.in_ok-write_numbers.ensures.has_root refl) in
     absurd (cc)

@@ -4,7 +4,7 @@ use Rattle.std.proofs.lemmas.Result.{err_from_is_err_and}
 use Rattle.capnp_frame.specs.declared.error.ErrorKind.TheVariants.{OutOfMemory}
 use Rattle.capnp_wire.specs.Block.{numbers_of}
 use Rattle.capnp_message.specs.Canonical.{HasForm}
-use Rattle.capnp_uses.proofs.ReadingLemmas.{root_is_default, form_of_root, form_stands, no_form_error, no_form}
+use Rattle.capnp_uses.proofs.ReadingLemmas.{root_is_default, form_of_root, form_is_found, no_form_error, no_form}
 use Rattle.capnp_uses.proofs.canonical.canonical_words.Goals as goal
 
 pub returns-in_err-message : goal.returns-in_err-message
@@ -17,7 +17,7 @@ returns c =
     let reader = c.in_ok-message.message in
     let own = root_is_default reader.segments.segments reader.segments.segments reader.options refl c.in_ok-message.ensures.options in
     record {
-      stands = form_stands (λ words. numbers_of words.items) reader.segments.segments c.args.bytes.now c.canonicalize.result c.in_ok-message.ensures.found
+      is_found = form_is_found (λ words. numbers_of words.items) reader.segments.segments c.args.bytes.now c.canonicalize.result c.in_ok-message.ensures.found
           (form_of_root (λ words. numbers_of words.items) _ c.canonicalize.result _ _ own c.canonicalize.ensures.returned);
       form = λ message rest begins. form_of_root (λ words. numbers_of words.items) _ c.canonicalize.result _ _
           (root_is_default reader.segments.segments message reader.options (c.in_ok-message.ensures.exact message rest begins) c.in_ok-message.ensures.options)

@@ -16,7 +16,7 @@ use Rattle.capnp_uses.proofs.PackedStructLemmas.{packed_root, begins_packed, pac
 use Rattle.capnp_uses.proofs.packed_struct.read_packed_words.Goals as goal
 
 pub returns-in_err-message-clause-found : goal.returns-in_err-message-clause-found
-returns-in_err-message-clause-found c message first second writable few size packed_is stands =
+returns-in_err-message-clause-found c message first second writable few size packed_is has_root =
     let p = err_from_is_err_and c.from_residual.result c.from_residual.ensures.1 in
     let failed = elim (c.in_err-message.ensures) as (λ read. c.in_err-message.field-0.0.kind ≡ DeviceFailed → Fails 0 0) [ inl read ↦ read.reads.failed | inr (end, read) ↦ λ device. cc ] in
     let accepted = or_fails_accepted _ _ _ (packed Zero) DEFAULT_READER_OPTIONS c.in_err-message.field-0.0 tt c.in_err-message.ensures in
@@ -31,9 +31,9 @@ returns-in_err-message-clause-errors c =
     ])
 
 pub returns-in_err-fields-clause-found : goal.returns-in_err-fields-clause-found
-returns-in_err-fields-clause-found c message first second writable few size packed stands =
+returns-in_err-fields-clause-found c message first second writable few size packed has_root =
     let reader = c.in_ok-message.message in
-    let here = packed_root default_limit (struct (first ∷ second ∷ [])) reader.segments message c.args.text.now _ (c.in_ok-message.ensures.texts tt).found writable packed stands in
+    let here = packed_root default_limit (struct (first ∷ second ∷ [])) reader.segments message c.args.text.now _ (c.in_ok-message.ensures.texts tt).found writable packed has_root in
     let p = err_from_is_err_and c.from_residual-in_err-fields.result c.from_residual-in_err-fields.ensures.1 in
     rw (p.1, p.2) (inr (root_meets_limit (root_of (λ segments. segments) reader) (struct (first ∷ second ∷ [])) StructFormError c.in_err-fields.field-0.0.kind refl here (default_depth reader.options c.in_ok-message.ensures.options_are)
     (struct_is_taken (first ∷ second ∷ []) c.in_err-fields.field-0.0.kind) c.in_err-fields.ensures.returned).2)
@@ -46,14 +46,14 @@ returns-in_err-fields-clause-errors c =
     rw (p.1, p.2) (no_struct_error c.args.text.now reader.segments _ _ c.in_err-fields.field-0.0.kind same (c.in_ok-message.ensures.texts tt).found c.in_err-fields.ensures.returned)
 
 pub returns-clause-words : goal.returns-clause-words
-returns-clause-words c message first second writable packed stands =
+returns-clause-words c message first second writable packed has_root =
     let reader = c.in_ok-message.message in
-    let here = packed_root default_limit (struct (first ∷ second ∷ [])) reader.segments message c.args.text.now _ (c.in_ok-message.ensures.texts tt).found writable packed stands in
+    let here = packed_root default_limit (struct (first ∷ second ∷ [])) reader.segments message c.args.text.now _ (c.in_ok-message.ensures.texts tt).found writable packed has_root in
     let there = read_at_root (root_of (λ segments. segments) reader) (struct (first ∷ second ∷ [])) _ refl here c.in_ok-fields.ensures.returned.shown in
     search rules
 
-pub returns-clause-stands : goal.returns-clause-stands
-returns-clause-stands c =
+pub returns-clause-is_found : goal.returns-clause-is_found
+returns-clause-is_found c =
     let reader = c.in_ok-message.message in
     shows_packed reader.segments c.args.text.now _ (root_of (λ segments. segments) reader) _ _ _
     (root_is_default reader.segments reader.segments reader.options refl c.in_ok-message.ensures.options_are)

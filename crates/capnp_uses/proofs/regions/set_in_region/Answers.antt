@@ -54,8 +54,8 @@ returns-in_err-set_root-clause-errors g c =
           )))
     ])
 
-pub returns-clause-stands : goal.returns-clause-stands
-returns-clause-stands g c =
+pub returns-clause-only_block : goal.returns-clause-only_block
+returns-clause-only_block g c =
     let placed = c.in_ok-set_root.ensures.placed in (
       placed.words,
       placed.words_are,

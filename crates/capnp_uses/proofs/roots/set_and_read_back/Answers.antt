@@ -9,7 +9,7 @@ returns-in_err-set_root-clause-errors g c = passed_on _ _ c.from_residual.ensure
 
 pub write_and_read_back-requires : goal.write_and_read_back-requires
 write_and_read_back-requires g c =
-    let set = c.in_ok-set_root.ensures.set in c.get_segments_for_output.ensures.writable (has_segment _ _ _ set.stands)
+    let set = c.in_ok-set_root.ensures.set in c.get_segments_for_output.ensures.writable (has_segment _ _ _ set.is_at)
 
 pub returns-clause-placed : goal.returns-clause-placed
 returns-clause-placed g c = holds_at_ok c.write_and_read_back.result c.in_ok-set_root.ensures.placed
@@ -23,5 +23,5 @@ returns-clause-errors g c =
 pub returns-clause-tree : goal.returns-clause-tree
 returns-clause-tree g c =
     let set = c.in_ok-set_root.ensures.set in
-    tree_again (g.V.SetterInput.has_tree c.args.value) (λ reader. reader.segments) c.write_and_read_back.result _ (set.trees, set.tree_is, (set.traversed, set.stands))
+    tree_again (g.V.SetterInput.has_tree c.args.value) (λ reader. reader.segments) c.write_and_read_back.result _ (set.trees, set.tree_is, (set.traversed, set.is_at))
     (rw c.get_segments_for_output.ensures.segments at c.write_and_read_back.ensures.back)

@@ -9,7 +9,7 @@ use Rattle.capnp_uses.proofs.setting.set_tree_and_word.Goals as goal
 pub returns-then-data_words-gt0 : goal.returns-then-data_words-gt0
 returns-then-data_words-gt0 g c = record {
   errors = tt;
-  stands =
+  is_set =
       let pointer = pointer_of g.S.ReaderSegments.segments c.args.source in
       let set = set_form pointer _ c.in_ok-set_tree.ensures.root.set in
       let same = c.in_ok-fields.ensures.gets.looked.stays (root_has_segment _ set.0 set.1 set.2 set.4) in
@@ -18,17 +18,17 @@ returns-then-data_words-gt0 g c = record {
       let after = word_set pointer c.args.word _ _ _ set.0 set.1 set.2 set.3 there taken (c.data_words.ensures.count set.0 set.1 set.2 there) (omega arith) c.set_word.ensures.set in
       search rules;
   set = λ words children some leads.
-      let stood = c.in_ok-set_tree.ensures.set (struct words) children leads in
-      let same = c.in_ok-fields.ensures.gets.looked.stays (root_has_segment _ _ _ _ stood.1) in
-      let there = subst (λ (b : Built _). Root (message b.spaces) (struct words) children stood.0) (sym same) stood.1 in
-      let after = c.set_word.ensures.set words children stood.0 there in
+      let was_set = c.in_ok-set_tree.ensures.set (struct words) children leads in
+      let same = c.in_ok-fields.ensures.gets.looked.stays (root_has_segment _ _ _ _ was_set.1) in
+      let there = subst (λ (b : Built _). Root (message b.spaces) (struct words) children was_set.0) (sym same) was_set.1 in
+      let after = c.set_word.ensures.set words children was_set.0 there in
       search rules;
 }
 
 pub returns-else-data_words-gt0 : goal.returns-else-data_words-gt0
 returns-else-data_words-gt0 g c = record {
   errors = tt;
-  stands =
+  is_set =
       let pointer = pointer_of g.S.ReaderSegments.segments c.args.source in
       let set = set_form pointer _ c.in_ok-set_tree.ensures.root.set in
       let same = c.in_ok-fields.ensures.gets.looked.stays (root_has_segment _ set.0 set.1 set.2 set.4) in
@@ -37,10 +37,10 @@ returns-else-data_words-gt0 g c = record {
       let kept = word_kept pointer c.args.word _ _ set.0 set.1 set.2 set.3 there taken (c.data_words.ensures.count set.0 set.1 set.2 there) (omega arith) in
       search rules;
   set = λ words children some leads.
-      let stood = c.in_ok-set_tree.ensures.set (struct words) children leads in
-      let same = c.in_ok-fields.ensures.gets.looked.stays (root_has_segment _ _ _ _ stood.1) in
-      let there = subst (λ (b : Built _). Root (message b.spaces) (struct words) children stood.0) (sym same) stood.1 in
-      let counted = c.data_words.ensures.count (struct words) children stood.0 there words refl in
+      let was_set = c.in_ok-set_tree.ensures.set (struct words) children leads in
+      let same = c.in_ok-fields.ensures.gets.looked.stays (root_has_segment _ _ _ _ was_set.1) in
+      let there = subst (λ (b : Built _). Root (message b.spaces) (struct words) children was_set.0) (sym same) was_set.1 in
+      let counted = c.data_words.ensures.count (struct words) children was_set.0 there words refl in
       absurd (omega (arith, counted, some));
 }
 

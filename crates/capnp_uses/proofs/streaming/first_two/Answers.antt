@@ -4,7 +4,7 @@ use Rattle.capnp_frame.specs.declared.serialize.segment_table.Padding.TheVariant
 use Rattle.capnp_frame.specs.declared.message.options.TheConstants.{DEFAULT_READER_OPTIONS}
 use Rattle.capnp_frame.specs.Prelude.{default_limit}
 use Rattle.capnp_uses.proofs.AppendedLemmas.{memory_only}
-use Rattle.capnp.proofs.FormatLemmas.{stands_next}
+use Rattle.capnp.proofs.FormatLemmas.{found_next}
 use Rattle.capnp.proofs.StreamLemmas.{slice_error}
 use Rattle.capnp_uses.proofs.TwoLemmas.{reads_new, reads_second, none_at_all, fails_at_once, none_after, fails_after, both}
 use Rattle.capnp_uses.proofs.streaming.first_two.Goals as goal
@@ -49,5 +49,5 @@ returns-in-Some-Ok-next-clause-two c =
     let first = rw c.in-Some-Ok.field-0-is at c.in-Some-Ok.ensures.steps in
     let steps = rw c.in-Some-Ok-next.field-0-is at c.in-Some-Ok-next.ensures.steps in
     let second = reads_second _ _ _ stream.result _ _ _ _ c.args.format Zero DEFAULT_READER_OPTIONS _ first stream.ensures.source stream.ensures.begins steps in
-    let follows = stands_next Zero c.args.format default_limit _ (Some c.next.new.self.source.now) (Some c.next-2.new.self.source.now) second.1.within second.1.found in
+    let follows = found_next Zero c.args.format default_limit _ (Some c.next.new.self.source.now) (Some c.next-2.new.self.source.now) second.1.within second.1.found in
     both c.args.format c.args.stream.now _ _ _ c.in-Some-Ok.first c.in-Some-Ok-next.second second.0 follows

@@ -1,5 +1,5 @@
 -- The values so far are written.
-use Rattle.capnp_values.proofs.lists.ItemRowLemmas.{ItemsWritten}
+use Rattle.capnp_values.proofs.lists.ItemWriteLemmas.{ItemsWritten}
 use Rattle.capnp_values.proofs.items.write_items.Given as goal
 
 abbrev pub invariant-loop-index : goal.invariant-loop-index

@@ -20,13 +20,13 @@ returns-clause-written g c trees is =
     let l = list_place (g.S.StructSource.words c.args.items.now) (g.S.StructSource.has_trees c.args.items.now) c.args.canonical g.S.Value.Element.data_words g.S.Value.Fields.size c.kept_by_each-kept.result.data_words c.kept_by_each-kept.result.pointers (g.met.S.StructSource.settled c.args.items.now) (g.S.StructSource.items c.args.items.now) c.args.next (length (words_of c.args.block.now))
     c.requires.value.trees c.requires.value.tree_is c.requires.value.rooms c.requires.value.fits c.kept_by_each-kept.ensures.words c.kept_by_each-kept.ensures.pointers in
     let v = c.requires.value in
-    let rows : List (List ℕ) = map (g.S.StructSource.words c.args.items.now) (g.S.StructSource.items c.args.items.now) in
+    let elements : List (List ℕ) = map (g.S.StructSource.words c.args.items.now) (g.S.StructSource.items c.args.items.now) in
     let even = list_even (g.S.StructSource.words c.args.items.now) (g.S.StructSource.has_trees c.args.items.now) g.S.Value.Element.data_words g.S.Value.Fields.size (g.S.StructSource.items c.args.items.now) v.trees v.tree_is v.rooms in
-    let r = c.write_tagged.ensures.rows in
-    list_copied c.args.canonical g.S.Value.Element.data_words g.S.Value.Fields.size rows is.children trees _ c.args.next (length (g.S.StructSource.items c.args.items.now)) c.kept_by_each-kept.result.data_words c.kept_by_each-kept.result.pointers
+    let r = c.write_tagged.ensures.elements in
+    list_copied c.args.canonical g.S.Value.Element.data_words g.S.Value.Fields.size elements is.children trees _ c.args.next (length (g.S.StructSource.items c.args.items.now)) c.kept_by_each-kept.result.data_words c.kept_by_each-kept.result.pointers
     c.write_tagged.result.next c.write_tagged.result.pointer (words_of c.args.block.now) (words_of c.write_tagged.new.block) is.whole even (structs_many (g.S.StructSource.words c.args.items.now) (g.S.StructSource.has_trees c.args.items.now) g.S.Value.Fields.size (g.met.S.StructSource.settled c.args.items.now) (g.S.StructSource.items c.args.items.now) is.children is.children_is) (sym (length-map (g.S.StructSource.items c.args.items.now) (g.S.StructSource.words c.args.items.now)))
     (c.kept_by_each-kept.ensures.words is.children is.children_is) (c.kept_by_each-kept.ensures.pointers is.children is.children_is) (structs_rooms (g.S.StructSource.words c.args.items.now) (g.S.StructSource.has_trees c.args.items.now) g.S.Value.Element.data_words g.S.Value.Fields.size (g.met.S.StructSource.settled c.args.items.now) (g.S.StructSource.items c.args.items.now) trees is even) c.write_tagged.ensures.pointer
-    (omega (arith, r.next_is l.rows.children l.rows.children_is, l.rows.fits)) (r.words_are is.children is.children_is) (r.next_is is.children is.children_is)
+    (omega (arith, r.next_is l.elements.children l.elements.children_is, l.elements.fits)) (r.words_are is.children is.children_is) (r.next_is is.children is.children_is)
 
 pub returns-clause-long : goal.returns-clause-long
 returns-clause-long g c trees is =

@@ -15,25 +15,25 @@ copy::copy_target-begin_struct-requires-clause-there g t c = copyable c.requires
 pub copy::copy_target-copy_list-requires-clause-there : goal.copy::copy_target-copy_list-requires-clause-there
 copy::copy_target-copy_list-requires-clause-there g t c = (c.args.source.now.canonical, copyable c.requires.there (c.in-Some-local_list.ensures _ c.requires.content).0)
 
-pub copy_rows::copy_pointers-copy_rows-requires : goal.copy_rows::copy_pointers-copy_rows-requires
-copy_rows::copy_pointers-copy_rows-requires g t c κs within =
-    (omega arith, (within.0, (within.1, (rw c.words.ensures (c.of-rows.ensures.can _ _ _ _ _ _ c.requires.there c.requires.content (omega arith)), c.requires.small))))
+pub copy_pointers::copy_pointers-copy_by_cursor-requires : goal.copy_pointers::copy_pointers-copy_by_cursor-requires
+copy_pointers::copy_pointers-copy_by_cursor-requires g t c κs within =
+    (omega arith, (within.0, (within.1, (rw c.words.ensures (c.of-cursor.ensures.can _ _ _ _ _ _ c.requires.there c.requires.content (omega arith)), c.requires.small))))
 
-pub copy_rows::copy_rows-copy_target-inner-requires : goal.copy_rows::copy_rows-copy_target-inner-requires
-copy_rows::copy_rows-copy_target-inner-requires g t c κs within =
+pub copy_pointers::copy_by_cursor-copy_target-inner-requires : goal.copy_pointers::copy_by_cursor-copy_target-inner-requires
+copy_pointers::copy_by_cursor-copy_target-inner-requires g t c κs within =
     let f = copying_first c.pointers.invariant c.take-slot.ensures in
     (omega arith, (within.0, (within.1, (f.there, (f.content, (f.following, omega (arith, c.pointers.invariant.long, c.requires.small)))))))
 
-pub copy_rows::copy_rows-pointers-preserved : goal.copy_rows::copy_rows-pointers-preserved
-copy_rows::copy_rows-pointers-preserved g t c =
+pub copy_pointers::copy_by_cursor-pointers-preserved : goal.copy_pointers::copy_by_cursor-pointers-preserved
+copy_pointers::copy_by_cursor-pointers-preserved g t c =
     copying_next c.pointers.invariant c.take-slot.ensures c.copy_target-inner.ensures.copied c.copy_target-inner.ensures.len c.put_word.ensures.words c.put_word.ensures.len
 
-pub copy_rows::copy_rows-returns-clause-copied : goal.copy_rows::copy_rows-returns-clause-copied
-copy_rows::copy_rows-returns-clause-copied g t c = copying_ends c.pointers.invariant (c.is_empty.ensures.0 c.pointers-test.false)
+pub copy_pointers::copy_by_cursor-returns-clause-copied : goal.copy_pointers::copy_by_cursor-returns-clause-copied
+copy_pointers::copy_by_cursor-returns-clause-copied g t c = copying_ends c.pointers.invariant (c.is_empty.ensures.0 c.pointers-test.false)
 
-pub copy_rows::copy_run-copy_rows-requires : goal.copy_rows::copy_run-copy_rows-requires
-copy_rows::copy_run-copy_rows-requires g t c κs within =
-    (omega arith, (within.0, (within.1, (c.run-rows.ensures.can _ _ _ _ _ _ c.requires.there c.requires.content c.requires.before, c.requires.small))))
+pub copy_pointers::copy_run-copy_by_cursor-requires : goal.copy_pointers::copy_run-copy_by_cursor-requires
+copy_pointers::copy_run-copy_by_cursor-requires g t c κs within =
+    (omega arith, (within.0, (within.1, (c.run-cursor.ensures.can _ _ _ _ _ _ c.requires.there c.requires.content c.requires.before, c.requires.small))))
 
 pub copy::copy_target-returns-in-Whole-clause-copied : goal.copy::copy_target-returns-in-Whole-clause-copied
 copy::copy_target-returns-in-Whole-clause-copied g t c = c.in-Whole.ensures.begun _ _ _ c.requires.there (c.in-Some-local_struct.ensures _ c.requires.content).0

@@ -10,19 +10,19 @@ decreases-copy::copy_object g l = 5 * l.nesting
 abbrev pub decreases-copy::copy_target : goal.decreases-copy::copy_target
 decreases-copy::copy_target g l = 5 * l.nesting + 1
 
-abbrev pub decreases-copy_rows::copy_rows : goal.decreases-copy_rows::copy_rows
-decreases-copy_rows::copy_rows g l = 5 * l.nesting + 2
+abbrev pub decreases-copy_pointers::copy_by_cursor : goal.decreases-copy_pointers::copy_by_cursor
+decreases-copy_pointers::copy_by_cursor g l = 5 * l.nesting + 2
 
-abbrev pub decreases-copy_rows::copy_run : goal.decreases-copy_rows::copy_run
-decreases-copy_rows::copy_run g l = 5 * l.nesting + 3
+abbrev pub decreases-copy_pointers::copy_run : goal.decreases-copy_pointers::copy_run
+decreases-copy_pointers::copy_run g l = 5 * l.nesting + 3
 
-abbrev pub decreases-copy_rows::copy_pointers : goal.decreases-copy_rows::copy_pointers
-decreases-copy_rows::copy_pointers g l = 5 * l.nesting + 4
+abbrev pub decreases-copy_pointers::copy_pointers : goal.decreases-copy_pointers::copy_pointers
+decreases-copy_pointers::copy_pointers g l = 5 * l.nesting + 4
 
-abbrev pub invariant-copy_rows::copy_rows-pointers : goal.invariant-copy_rows::copy_rows-pointers
-invariant-copy_rows::copy_rows-pointers g l =
-    Copying (message_of (g.S.ReaderSegments.segments l.source.segments.now)) (words_of l.segment) l.nesting l.source.canonical l.fn.rows l.fn.next (g.T.BlockItem.as_words l.fn.block) l.rows l.free
+abbrev pub invariant-copy_pointers::copy_by_cursor-pointers : goal.invariant-copy_pointers::copy_by_cursor-pointers
+invariant-copy_pointers::copy_by_cursor-pointers g l =
+    Copying (message_of (g.S.ReaderSegments.segments l.source.segments.now)) (words_of l.segment) l.nesting l.source.canonical l.fn.cursor l.fn.next (g.T.BlockItem.as_words l.fn.block) l.cursor l.free
     (g.T.BlockItem.as_words l.block)
 
-abbrev pub decreases-copy_rows::copy_rows-pointers : goal.decreases-copy_rows::copy_rows-pointers
-decreases-copy_rows::copy_rows-pointers g l = length (places_in l.rows.from)
+abbrev pub decreases-copy_pointers::copy_by_cursor-pointers : goal.decreases-copy_pointers::copy_by_cursor-pointers
+decreases-copy_pointers::copy_by_cursor-pointers g l = length (places_in l.cursor.from)

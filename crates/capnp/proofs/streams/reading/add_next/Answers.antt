@@ -2,8 +2,8 @@
 use Rattle.std.proofs.Common.{inl, inr, Some, map, ap, ◌∙◌}
 use Rattle.std.proofs.lemmas.List.{map_push}
 use Rattle.std.proofs.lemmas.Result.{err_from_is_err_and}
-use Rattle.capnp.proofs.FormatLemmas.{stands_next}
-use Rattle.capnp.proofs.StreamLemmas.{slice_error, memory_at_bytes, stands_at_bytes}
+use Rattle.capnp.proofs.FormatLemmas.{found_next}
+use Rattle.capnp.proofs.StreamLemmas.{slice_error, memory_at_bytes, found_in_bytes}
 use Rattle.capnp.proofs.streams.reading.add_next.Goals as goal
 
 pub returns-in_err-message-clause-errors : goal.returns-in_err-message-clause-errors
@@ -25,15 +25,15 @@ returns-in_err-push-in-Some-clause-some c =
     let p = err_from_is_err_and c.from_residual-in_err-push-in-Some.result c.from_residual-in_err-push-in-Some.ensures.1 in
     let limit = c.args.options.traversal_limit_in_words in
     let reads = rw c.in-Some.is at c.in_ok-message.ensures.reads in
-    let stands = stands_next c.args.padding c.args.format limit c.in-Some.message.segments (Some c.args.rest.now.now) (Some c.next_message.new.source.now) reads.within reads.found in
-    rw p.1 (λ memory. stands_at_bytes c.args.padding c.args.format limit c.in-Some.message.segments c.args.rest.now.now c.next_message.new.source.now stands)
+    let is_found = found_next c.args.padding c.args.format limit c.in-Some.message.segments (Some c.args.rest.now.now) (Some c.next_message.new.source.now) reads.within reads.found in
+    rw p.1 (λ memory. found_in_bytes c.args.padding c.args.format limit c.in-Some.message.segments c.args.rest.now.now c.next_message.new.source.now is_found)
 
 pub returns-in_ok-push-in-Some-clause-added : goal.returns-in_ok-push-in-Some-clause-added
 returns-in_ok-push-in-Some-clause-added c = λ more.
     let limit = c.args.options.traversal_limit_in_words in
     let reads = rw c.in-Some.is at c.in_ok-message.ensures.reads in
-    let stands = stands_next c.args.padding c.args.format limit c.in-Some.message.segments (Some c.args.rest.now.now) (Some c.next_message.new.source.now) reads.within reads.found in (
+    let is_found = found_next c.args.padding c.args.format limit c.in-Some.message.segments (Some c.args.rest.now.now) (Some c.next_message.new.source.now) reads.within reads.found in (
       c.in-Some.message.segments,
-      stands,
+      is_found,
       ap (map (λ reader. reader.segments)) c.in_ok-push-in-Some.ensures.items ∙ map_push (λ reader. reader.segments) c.args.messages.now.items c.in-Some.message,
     )

@@ -15,10 +15,10 @@ loop-count-preserved c = record {
       c.loop-count.invariant.texts (c.in-Ok-true.ensures.added c.in-Ok-true.field-0-test);
   options = c.add_next.ensures.options c.loop-count.invariant.options;
   long =
-      let (message, stands, same) = c.in-Ok-true.ensures.added c.in-Ok-true.field-0-test in
+      let (message, is_found, same) = c.in-Ok-true.ensures.added c.in-Ok-true.field-0-test in
       omega (
         arith,
-        moves_on c.args.padding c.args.format c.args.options.traversal_limit_in_words message c.loop-count.rest.now c.add_next.new.rest.now stands,
+        moves_on c.args.padding c.args.format c.args.options.traversal_limit_in_words message c.loop-count.rest.now c.add_next.new.rest.now is_found,
         c.loop-count.invariant.long,
       );
   at = refl;

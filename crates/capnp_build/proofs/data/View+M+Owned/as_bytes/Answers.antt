@@ -3,4 +3,4 @@ use Rattle.capnp_build.proofs.roots.AcceptLemmas.{no_bytes}
 use Rattle.capnp_build.proofs.data.«View+M+Owned».as_bytes.Goals as goal
 
 pub returns-in-Bytes-clause-none : goal.returns-in-Bytes-clause-none
-returns-in-Bytes-clause-none g c = λ empty. absurd (no_bytes c.in-Bytes.n _ c.in-Bytes.ensures.stands empty)
+returns-in-Bytes-clause-none g c = λ empty. absurd (no_bytes c.in-Bytes.n _ c.in-Bytes.ensures.is_kind empty)

@@ -13,7 +13,7 @@ returns g c =
     let root = rewritten_by c.write_at.new.self c.write_at-2.new.self 0 0 c.to_le_bytes-2.result
     (omega (arith, c.requires.first, landing_pad.used 0, ap length c.to_le_bytes-2.ensures)) c.write_at-2.ensures in
     record {
-      stands = λ form children body.
+      is_laid = λ form children body.
           far_points c.args.self.now.spaces c.write_at.new.self.spaces c.write_at-2.new.self.spaces c.args.location form children c.far_word-pointer.result c.to_le_bytes.result c.to_le_bytes-2.result
           c.requires.other c.requires.some (omega arith) body c.requires.first c.to_le_bytes.ensures (ap length c.to_le_bytes.ensures)
           (ap (λ (h : BuilderState g.row.A.Denot). h.spaces) c.write_at.ensures) c.far_word-pointer.ensures c.to_le_bytes-2.ensures (ap length c.to_le_bytes-2.ensures)

@@ -11,7 +11,7 @@ pub returns : goal.returns
 returns g c =
     let room = first_room c.args.self.now.spaces c.args.location c.requires.body c.requires.first in
     record {
-      stands = λ form children b.
+      is_laid = λ form children b.
           local_points c.args.self.now.spaces c.write_at.new.self.spaces c.args.location form children c.to_le_bytes.result c.requires.first b
           (c.to_le_bytes.ensures ∙ ap (to_le_bytes w64) (c.moved-pointer.ensures form (count children) b.rooms.0 b.tag)) (ap length c.to_le_bytes.ensures)
           (ap (λ (h : BuilderState g.row.A.Denot). h.spaces) c.write_at.ensures);

@@ -1,7 +1,7 @@
 -- The framed encoding is in the buffer, with zero padding.
 use Rattle.std.proofs.Common.{length, rules, arith, refl, sym, subst}
 use Rattle.std.proofs.lemmas.Result.{err_from_is_err_and}
-use Rattle.capnp_frame.specs.Prelude.{KeepsLimit, IfKnown, MessageStands}
+use Rattle.capnp_frame.specs.Prelude.{KeepsLimit, IfKnown, MessageFound}
 use Rattle.capnp_frame.proofs.slices.ProvidedLemmas.{reads_into, fails_into}
 use Rattle.capnp_frame.proofs.slices.FramedIntoLemmas.{padding_zeroed, zeroed_begins}
 use Rattle.capnp_frame.proofs.serialize.framed.try_read_framed_into.Goals as goal
@@ -32,7 +32,7 @@ returns g c =
       reads = reads_into rule g.R.Read g.met.R.Read.lawful _ _ limit (length c.args.buffer.now) _
           c.in-Some.info.segments_count _ zero.holds refl (search rules)
           (subst (λ l. KeepsLimit l limit) (sym zero.lengths_are) message.within)
-          (subst (λ m. IfKnown (g.R.Read.unread c.args.source.now) (g.R.Read.unread c.read_into.new.source) (MessageStands rule g.R.Read.gives m)) (sym zero.segments_are) message.found)
+          (subst (λ m. IfKnown (g.R.Read.unread c.args.source.now) (g.R.Read.unread c.read_into.new.source) (MessageFound rule g.R.Read.gives m)) (sym zero.segments_are) message.found)
           (λ few. (reported.asks.short few).1) reported.asks.asked.advances;
       text = zeroed_begins c.read_into.new.buffer _ c.in-Some.info.segments_count _ _ zero size message.total_is;
       room = search rules;

@@ -3,7 +3,7 @@ use Rattle.std.proofs.Common.{Some, length, arith, rules}
 use Rattle.capnp_frame.proofs.sources.AskLemmas.{passed_on, Asked-err}
 use Rattle.capnp_frame.proofs.sources.StepLemmas.{asks_found_into}
 use Rattle.capnp_frame.proofs.errors.MetErrors.{rest_met, provided_reader_kind}
-use Rattle.capnp_frame.proofs.tables.TableReading.{table_stands}
+use Rattle.capnp_frame.proofs.tables.TableReading.{table_found}
 use Rattle.capnp_frame.proofs.slices.ProvidedLemmas.{table_put}
 use Rattle.capnp_frame.proofs.serialize.provided_stream.read_table_into.Goals as goal
 
@@ -28,7 +28,7 @@ returns-clause-table g c =
     let reported = c.in_ok-total.ensures in
     let put = table_put c.args.buffer.now c.read_total.new.table c.in_ok-count.count c.table_len-size.result reported.tells (search rules) in
     record {
-      found = rw (← put.lengths_are) (table_stands c.args.rules.padding g.R.Read.gives c.in-Some.first _ _ _ _ first reported.found);
+      found = rw (← put.lengths_are) (table_found c.args.rules.padding g.R.Read.gives c.in-Some.first _ _ _ _ first reported.found);
       tells = put.tells;
       total_is = rw (← put.lengths_are) reported.total;
       within = rw (← put.lengths_are) reported.within;

@@ -4,7 +4,7 @@ use Rattle.std.proofs.lemmas.Result.{on_ok_weaker, IfErr-weaker}
 use Rattle.capnp_frame.specs.Prelude.{table_size}
 use Rattle.capnp_frame.proofs.sources.AskLemmas.{passed_on}
 use Rattle.capnp_frame.proofs.errors.MetErrors.{others_error, complete_error, complete_kind, source_kind}
-use Rattle.capnp_frame.proofs.tables.TableReading.{rest_stands}
+use Rattle.capnp_frame.proofs.tables.TableReading.{rest_found}
 use Rattle.capnp_frame.proofs.serialize.provided_stream.read_total.Goals as goal
 
 pub returns-in_err-complete_table-clause-errors : goal.returns-in_err-complete_table-clause-errors
@@ -22,7 +22,7 @@ pub returns-clause-found : goal.returns-clause-found
 returns-clause-found g c =
     let done = c.in_ok-complete_table.ensures in
     let reported = c.accepted_total.ensures in
-    on_ok_weaker c.accepted_total.result (λ kept. rest_stands c.args.rules.padding g.R.Read.gives c.args.first.now c.complete_table.new.table c.args.count _ _ done.front
+    on_ok_weaker c.accepted_total.result (λ kept. rest_found c.args.rules.padding g.R.Read.gives c.args.first.now c.complete_table.new.table c.args.count _ _ done.front
     (search rules) reported.tells kept done.others) reported.padding
 
 pub returns-clause-errors : goal.returns-clause-errors

@@ -1,6 +1,6 @@
 -- Some message of these lengths is there.
 use Rattle.std.proofs.Common.{rules, ◌*◌}
-use Rattle.capnp_frame.proofs.sources.SkippingLemmas.{LengthsStand-skipped, skips_unread, skips_cut, skips_found}
+use Rattle.capnp_frame.proofs.sources.SkippingLemmas.{LengthsFound-skipped, skips_unread, skips_cut, skips_found}
 use Rattle.capnp_frame.proofs.serialize.skipping.try_skip_segments.Goals as goal
 
 pub returns-in_err-found : goal.returns-in_err-found
@@ -17,5 +17,5 @@ pub returns : goal.returns
 returns g c =
     let table = rw c.in-Some.is at c.in_ok-found.ensures in
     skips_found c.args.rules.padding g.R.Read g.met.R.Read.lawful _ _ _ _ _ c.in-Some.found (g.met.R.Read.keeps.transitive _ _ _) table
-    (LengthsStand-skipped c.args.rules.padding g.R.Read.gives c.in-Some.found (8 * c.total_words.result) _ _ _ g.met.R.BufRead.plain (search rules)
+    (LengthsFound-skipped c.args.rules.padding g.R.Read.gives c.in-Some.found (8 * c.total_words.result) _ _ _ g.met.R.BufRead.plain (search rules)
     table.found c.in_ok-skip_bytes.ensures.dropped) c.skip_bytes.ensures.asked.advances

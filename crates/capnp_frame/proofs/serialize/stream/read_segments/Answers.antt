@@ -4,7 +4,7 @@ use Rattle.std.proofs.lemmas.Grind.{common_steps}
 use Rattle.std.specs.Prelude.{sum}
 use Rattle.capnp_frame.specs.Prelude.{cut}
 use Rattle.capnp_frame.proofs.sources.StepLemmas.{asks_found, asks_failed, asks_passed}
-use Rattle.capnp_frame.proofs.encodings.RequestLemmas.{lengths-cut, MessageStands-cut, IsWithin-cut, table_not_empty}
+use Rattle.capnp_frame.proofs.encodings.RequestLemmas.{lengths-cut, MessageFound-cut, IsWithin-cut, table_not_empty}
 use Rattle.capnp_frame.proofs.errors.MetErrors.{reader_kind, source_kind}
 use Rattle.capnp_frame.proofs.errors.MetErrors.{or_memory, table_met_growing, segments_met}
 use Rattle.capnp_frame.proofs.serialize.stream.read_segments.Given as given
@@ -34,7 +34,7 @@ parts g c = (search rules, rw c.from_parts.ensures (ap (cut c.in-Some.indices) (
 pub returns-clause-found : goal.returns-clause-found
 returns-clause-found g c =
     let table = rw c.in-Some.is at c.in_ok-indices.ensures.found in
-    rw (parts g c).1 (MessageStands-cut c.args.rules.padding g.R.Read.gives c.in-Some.indices c.read_chunk.new.chunk _ _ _ (parts g c).0 table c.in_ok-read_chunk.ensures.given)
+    rw (parts g c).1 (MessageFound-cut c.args.rules.padding g.R.Read.gives c.in-Some.indices c.read_chunk.new.chunk _ _ _ (parts g c).0 table c.in_ok-read_chunk.ensures.given)
 
 pub returns-clause-within : goal.returns-clause-within
 returns-clause-within g c =

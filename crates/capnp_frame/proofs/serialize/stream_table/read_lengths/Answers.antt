@@ -5,7 +5,7 @@ use Rattle.std.proofs.lemmas.Result.{on_ok_weaker, IfErr-weaker}
 use Rattle.capnp_frame.specs.Prelude.{table_size, Giving, Refusing, IsSource, IsTail, IfKnown}
 use Rattle.capnp_frame.proofs.sources.SourceLemmas.{IfKnown-refl}
 use Rattle.capnp_frame.proofs.errors.MetErrors.{complete_error, complete_kind}
-use Rattle.capnp_frame.proofs.tables.TableReading.{rest_stands}
+use Rattle.capnp_frame.proofs.tables.TableReading.{rest_found}
 use Rattle.capnp_frame.proofs.serialize.stream_table.read_lengths.Goals as goal
 
 no_more : {gives : Giving} {refuses : Refusing} → IsSource gives refuses → (word : List ℕ) → length word ≡ 8
@@ -26,7 +26,7 @@ returns-then-size-eq8 g c =
     let reported = c.fill_lengths.ensures in
     let read = c.fill_lengths.result in
     record {
-      table = on_ok_weaker read (λ kept. rw reported.declared (rest_stands c.args.rules.now.padding g.R.Read.gives word word _ _ _ front size reported.tells kept given)) reported.padding;
+      table = on_ok_weaker read (λ kept. rw reported.declared (rest_found c.args.rules.now.padding g.R.Read.gives word word _ _ _ front size reported.tells kept given)) reported.padding;
       ranges = reported.ranges;
       bound = reported.bound;
       each = on_ok_weaker read (λ kept. rw reported.declared reported.tells.lengths.each) reported.padding;

@@ -4,7 +4,7 @@ use Rattle.std.proofs.lemmas.Result.{on_ok_weaker, IfErr-weaker}
 use Rattle.capnp_frame.specs.Prelude.{table_size}
 use Rattle.capnp_frame.proofs.sources.AskLemmas.{passed_on}
 use Rattle.capnp_frame.proofs.errors.MetErrors.{others_error, complete_error, complete_kind, source_kind}
-use Rattle.capnp_frame.proofs.tables.TableReading.{rest_stands}
+use Rattle.capnp_frame.proofs.tables.TableReading.{rest_found}
 use Rattle.capnp_frame.proofs.serialize.stream_table.read_lengths_by.Goals as goal
 
 pub returns-in_err-complete_table : goal.returns-in_err-complete_table
@@ -35,7 +35,7 @@ returns g c =
     let read = c.fill_lengths.result in
     let size : length table ≡ table_size (length c.fill_lengths.new.indices) = search rules in
     record {
-      table = on_ok_weaker read (λ kept. rw reported.declared (rest_stands c.args.rules.now.padding g.R.Read.gives word table _ _ _ done.front size reported.tells kept done.others)) reported.padding;
+      table = on_ok_weaker read (λ kept. rw reported.declared (rest_found c.args.rules.now.padding g.R.Read.gives word table _ _ _ done.front size reported.tells kept done.others)) reported.padding;
       ranges = reported.ranges;
       bound = reported.bound;
       each = on_ok_weaker read (λ kept. rw reported.declared reported.tells.lengths.each) reported.padding;

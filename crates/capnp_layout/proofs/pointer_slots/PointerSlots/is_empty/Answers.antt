@@ -1,4 +1,4 @@
--- Nothing is left where no pointer is left in this row, and there is no further row.
+-- Nothing is left where no pointer is left in this section, and there is no further section.
 use Rattle.std.proofs.Common.{◌≡◌, arith}
 use Rattle.std.proofs.lemmas.Bool.Decides.{nat_tests}
 use Rattle.capnp_layout.proofs.pointers.PointerSlotLemmas.{none_left, some_left}

@@ -11,5 +11,5 @@ pub returns : goal.returns
 returns g c =
     let T = g.T.FromPointerReader in
     let told = c.get_as.ensures in
-    root_read g.S.ReaderSegments.segments _ c.args.self.now _ T.shows T.accepts T.fails T.form_error c.get_as.result c.self.view_is c.in_ok-get_root.ensures.returned c.in_ok-get_root.ensures.stands
+    root_read g.S.ReaderSegments.segments _ c.args.self.now _ T.shows T.accepts T.fails T.form_error c.get_as.result c.self.view_is c.in_ok-get_root.ensures.returned c.in_ok-get_root.ensures.has_word
     (record { returned = told.returned; found = told.found; unlimited = told.unlimited; exact = told.exact; form_errors = told.form_errors })

@@ -6,11 +6,11 @@ use Rattle.capnp_show.specs.Arrows.{AreTops, none_drawn, one_drawn, plus, height
 use Rattle.capnp_show.specs.declared.owners.Word.{Word}
 use Rattle.capnp_show.proofs.arrows.Grid.new.Goals as goal
 
-next_drawn : (segments more : List (Vec Word Global)) (tops stood : List ℕ) (height last : ℕ) (words : Vec Word Global) → more ≡ segments ++ words ∷ []
-    → stood ≡ tops ++ plus height 48 ∷ [] → last ≡ plus height (height_of (length words.items)) → AreTops segments tops height → AreTops more stood last
-next_drawn segments more tops stood height last words more_is stood_is last_is drawn =
-    subst (λ (s : List (Vec Word Global)). AreTops s stood last) (sym more_is)
-    (subst (λ (t : List ℕ). AreTops (segments ++ words ∷ []) t last) (sym stood_is)
+next_drawn : (segments more : List (Vec Word Global)) (tops all_tops : List ℕ) (height last : ℕ) (words : Vec Word Global) → more ≡ segments ++ words ∷ []
+    → all_tops ≡ tops ++ plus height 48 ∷ [] → last ≡ plus height (height_of (length words.items)) → AreTops segments tops height → AreTops more all_tops last
+next_drawn segments more tops all_tops height last words more_is all_tops_are last_is drawn =
+    subst (λ (s : List (Vec Word Global)). AreTops s all_tops last) (sym more_is)
+    (subst (λ (t : List ℕ). AreTops (segments ++ words ∷ []) t last) (sym all_tops_are)
     (subst (λ (h : ℕ). AreTops (segments ++ words ∷ []) (tops ++ plus height 48 ∷ []) h) (sym last_is) (one_drawn segments tops height words drawn)))
 
 pub loop-words-init : goal.loop-words-init

@@ -11,6 +11,6 @@ returns g c =
     let list = struct_list_of segments c.args.self.now.accounts in
     find_from_yields_List (λ account. slice_index account.words 0 == c.args.id) c.find.new.self _ c.find.result c.find.ensures.ran
     (YieldsList-from_first (λ account. struct_of segments account.fields)
-    (elements_left (λ list. length (struct_list_of segments list.accounts).rows) (λ list. element_of (struct_list_of segments list.accounts)))
+    (elements_left (λ list. length (struct_list_of segments list.accounts).elements) (λ list. element_of (struct_list_of segments list.accounts)))
     {s = c.iter.result} (all_structs list) (search rules))
     (λ x b q k. search (rules, tests))

@@ -1,9 +1,9 @@
 -- Each kind of object by its words.
 use Rattle.std.proofs.Common.{◌≡◌, ◌+◌, ℕ, List, length, sym, subst, arith}
-use Rattle.capnp_layout.specs.Prelude.{words_of, words_from, places, row_places, rows_from}
+use Rattle.capnp_layout.specs.Prelude.{words_of, words_from, places, pointer_places, elements_from}
 use Rattle.capnp_wire.specs.Prelude.{EndsFull, links_at}
 use Rattle.capnp_layout.proofs.words.WordLemmas.{length-words_of}
-use Rattle.capnp_layout.proofs.trees.RoomLemmas.{length-rows_from}
+use Rattle.capnp_layout.proofs.trees.RoomLemmas.{length-elements_from}
 use Rattle.capnp_wire.proofs.forms.TruncatedLemmas.{links_places}
 use Rattle.capnp_wire.proofs.layout.canonical_rules.is_truncated.Goals as goal
 
@@ -25,8 +25,8 @@ returns-then-need_data c =
     let words = words_of c.args.object.now.segment.now in
     let place = c.args.object.now.start in
     let e = c.in-Structs.elements in
-    let many : length (rows_from words (place.word + 1) e.size.data_words e.size.pointers e.count) ≡ e.count = length-rows_from words (place.word + 1) e.size.data_words e.size.pointers e.count in
-    let links = links_at words (row_places place.segment (place.word + 1) e.size.data_words e.size.pointers e.count) in
+    let many : length (elements_from words (place.word + 1) e.size.data_words e.size.pointers e.count) ≡ e.count = length-elements_from words (place.word + 1) e.size.data_words e.size.pointers e.count in
+    let links = links_at words (pointer_places place.segment (place.word + 1) e.size.data_words e.size.pointers e.count) in
     let need = c.need_pointers.ensures place.segment in
     rw c.in-Structs.is (
       λ t. (c.need_data.ensures.0 c.if-need_data.true, rw many (need.0 t)),

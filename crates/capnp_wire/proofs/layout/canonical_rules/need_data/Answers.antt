@@ -1,15 +1,15 @@
--- A row needs its data where the last word of it is not zero.
+-- An element needs its data where the last word of it is not zero.
 use Rattle.std.proofs.Common.{◌+◌, ◌-◌, arith}
 use Rattle.capnp_layout.specs.Prelude.{words_of}
 use Rattle.capnp_layout.proofs.words.WordLemmas.{length-words_of}
-use Rattle.capnp_wire.proofs.forms.TruncatedLemmas.{row_room, need_data}
+use Rattle.capnp_wire.proofs.forms.TruncatedLemmas.{element_room, need_data}
 use Rattle.capnp_wire.proofs.layout.canonical_rules.need_data.Goals as goal
 
 pub some_is_set-requires-clause-within : goal.some_is_set-requires-clause-within
 some_is_set-requires-clause-within c i less =
     let d = c.args.elements.size.data_words in
     let p = c.args.elements.size.pointers in
-    let fits = row_room c.args.first (d + p) c.args.elements.count i _ less c.requires in
+    let fits = element_room c.args.first (d + p) c.args.elements.count i _ less c.requires in
     omega (arith, fits)
 
 pub returns-else-data_words-eq0 : goal.returns-else-data_words-eq0

@@ -1,14 +1,14 @@
--- A row needs its pointers where the last of them is not null.
+-- An element needs its pointers where the last of them is not null.
 use Rattle.std.proofs.Common.{◌+◌, ◌-◌, arith}
 use Rattle.capnp_layout.specs.Prelude.{words_of}
-use Rattle.capnp_wire.proofs.forms.TruncatedLemmas.{row_room, need_pointers}
+use Rattle.capnp_wire.proofs.forms.TruncatedLemmas.{element_room, need_pointers}
 use Rattle.capnp_wire.proofs.layout.canonical_rules.need_pointers.Goals as goal
 
 pub some_is_set-requires-clause-within : goal.some_is_set-requires-clause-within
 some_is_set-requires-clause-within c i less =
     let d = c.args.elements.size.data_words in
     let p = c.args.elements.size.pointers in
-    let fits = row_room c.args.first (d + p) c.args.elements.count i _ less c.requires in
+    let fits = element_room c.args.first (d + p) c.args.elements.count i _ less c.requires in
     omega (arith, fits)
 
 pub returns-else-pointers-eq0 : goal.returns-else-pointers-eq0

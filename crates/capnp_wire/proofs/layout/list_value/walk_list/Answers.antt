@@ -2,7 +2,7 @@
 use Rattle.std.proofs.Common.{◌<◌, arith}
 use Rattle.capnp_frame.proofs.sources.AskLemmas.{passed_on}
 use Rattle.capnp_layout.specs.Prelude.{message_of}
-use Rattle.capnp_layout.proofs.words.MessageLemmas.{segment_stands, no_segment_stands}
+use Rattle.capnp_layout.proofs.words.MessageLemmas.{segment_is_there, no_segment_is_there}
 use Rattle.capnp_wire.proofs.views.ListValueLemmas.{none_walked, no_segment_error}
 use Rattle.capnp_wire.proofs.layout.list_value.walk_list.Goals as goal
 
@@ -13,7 +13,7 @@ pub returns-in_err-segment-clause-errors : goal.returns-in_err-segment-clause-er
 returns-in_err-segment-clause-errors g c =
     let some : 0 < c.args.count = omega arith in
     passed_on _ _ c.from_residual.ensures.1
-    (rw c.in_err-segment.ensures.1 (no_segment_error _ c.args.first c.args.count c.args.nesting _ some (no_segment_stands _ c.args.first.segment c.in_err-segment.ensures.0)))
+    (rw c.in_err-segment.ensures.1 (no_segment_error _ c.args.first c.args.count c.args.nesting _ some (no_segment_is_there _ c.args.first.segment c.in_err-segment.ensures.0)))
 
 pub walk_pointers-requires : goal.walk_pointers-requires
-walk_pointers-requires g c = record { content = λ some. rw c.run-pointers.ensures.segment (segment_stands _ c.args.first.segment _ c.in_ok-segment.ensures) }
+walk_pointers-requires g c = record { content = λ some. rw c.run-pointers.ensures.segment (segment_is_there _ c.args.first.segment _ c.in_ok-segment.ensures) }

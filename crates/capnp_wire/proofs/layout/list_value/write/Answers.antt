@@ -2,7 +2,7 @@
 use Rattle.std.proofs.Common.{◌-◌, ◌+◌, ℕ, sym, refl, ap, subst}
 use Rattle.capnp_layout.specs.Prelude.{words_of, pointers, Trees, message_of, places, run, output}
 use Rattle.capnp_wire.specs.Prelude.{IsCopied}
-use Rattle.capnp_layout.proofs.words.MessageLemmas.{segment_stands, no_segment_stands}
+use Rattle.capnp_layout.proofs.words.MessageLemmas.{segment_is_there, no_segment_is_there}
 use Rattle.capnp_wire.proofs.layouts.CopyLemmas.{copies_none}
 use Rattle.capnp_wire.proofs.views.ListValueLemmas.{pointers_opened, pointers_copyable, pointers_written, no_pointers_there, same_list}
 use Rattle.capnp_wire.proofs.layout.list_value.write.Goals as goal
@@ -18,7 +18,7 @@ copy_run-requires-clause-there g c =
     pointers_copyable (pointers_opened m c.args.first c.args.count c.args.nesting c.requires.value.0 c.args.source.now.canonical c.args.to.next _ c.requires.value.1)
 
 pub copy_run-requires-clause-content : goal.copy_run-requires-clause-content
-copy_run-requires-clause-content g c some = segment_stands _ c.args.first.segment _ (sym c.in-Some.ensures)
+copy_run-requires-clause-content g c some = segment_is_there _ c.args.first.segment _ (sym c.in-Some.ensures)
 
 pub returns-in-Some-clause-written : goal.returns-in-Some-clause-written
 returns-in-Some-clause-written g c limit trees is =
@@ -38,7 +38,7 @@ returns-in-None-clause-written g c limit trees is =
     let end : ℕ = c.args.to.next + c.args.count in
     let w = c.requires.value.1 in
     let o = pointers_opened m first n c.args.nesting c.requires.value.0 c.args.source.now.canonical c.args.to.next _ w in
-    let none = no_pointers_there m first n c.args.nesting c.args.source.now.canonical end _ (no_segment_stands _ first.segment (sym c.in-None.ensures)) (pointers_copyable o) in
+    let none = no_pointers_there m first n c.args.nesting c.args.source.now.canonical end _ (no_segment_is_there _ first.segment (sym c.in-None.ensures)) (pointers_copyable o) in
     let same = same_list pointers m (places first.segment first.word n) c.args.nesting c.requires.value.0 limit w.trees trees w.tree_is is in
     let nothing = copies_none {m = m} {at = places first.segment first.word n} {c = c.args.source.now.canonical} {slots = run c.args.to.next n} {next = end} {free = end} {block = words_of c.args.block.now}
     (ap (places first.segment first.word) none) refl in

@@ -1,13 +1,13 @@
 -- The walk over the pointers of a list of structs counts the words after its own.
 use Rattle.std.proofs.Common.{◌≢◌, ◌+◌, ◌*◌, ◌≤◌, List, [], inl, ◌∙◌, ap, sym, refl, subst, length, arith}
 use Rattle.std.proofs.lemmas.Result.{err_from_is_err_and}
-use Rattle.capnp_layout.specs.Prelude.{words_of, message_of, row_places}
+use Rattle.capnp_layout.specs.Prelude.{words_of, message_of, pointer_places}
 use Rattle.capnp_wire.specs.Prelude.{structs_along, counted as counted_by}
 use Rattle.capnp_layout.specs.declared.place.Place.{Place}
 use Rattle.capnp_layout.specs.declared.pointer.StructSize.{StructSize}
 use Rattle.capnp_layout.proofs.words.WordLemmas.{length-words_of}
 use Rattle.capnp_layout.proofs.pointers.PointerSlotLemmas.{kept_all}
-use Rattle.capnp_wire.proofs.views.ListValueLemmas.{own_structs, list_measured, rows_children}
+use Rattle.capnp_wire.proofs.views.ListValueLemmas.{own_structs, list_measured, elements_children}
 use Rattle.capnp_wire.proofs.layout.struct_list_value.measure.Goals as goal
 
 pub walk_pointers-requires : goal.walk_pointers-requires
@@ -16,9 +16,9 @@ walk_pointers-requires g c =
     let first = c.args.list.first in
     let size = c.args.list.elements.size in
     let all : size.pointers ≤ size.pointers = omega arith in
-    let places_are = rw c.row_size-size.ensures at c.new-pointers.ensures.places in
+    let places_are = rw c.section_sizes-size.ensures at c.new-pointers.ensures.places in
     record {
-      content = λ some. rw c.new-pointers.ensures.segment (rows_children m (words_of c.args.list.segment.now) first size size.pointers c.args.list.elements.count c.requires.content all
+      content = λ some. rw c.new-pointers.ensures.segment (elements_children m (words_of c.args.list.segment.now) first size size.pointers c.args.list.elements.count c.requires.content all
           (subst (λ (l : List Place). l ≢ []) places_are some));
     }
 
@@ -28,7 +28,7 @@ returns-in_err-walk_pointers g c =
     let elements = c.args.list.elements in
     let size = elements.size in
     let p = err_from_is_err_and c.from_residual.result c.from_residual.ensures.1 in
-    let places_are = (rw c.row_size-size.ensures at c.new-pointers.ensures.places) ∙ sym (kept_all first.segment first.word size.data_words size.pointers elements.count) in
+    let places_are = (rw c.section_sizes-size.ensures at c.new-pointers.ensures.places) ∙ sym (kept_all first.segment first.word size.data_words size.pointers elements.count) in
     rw (p.1, p.2) (inl (rw (places_are, c.count.ensures.left, c.new-walk.ensures.left) at c.in_err-walk_pointers.ensures.errors))
 
 pub returns : goal.returns
@@ -38,8 +38,8 @@ returns g c =
     let first = c.args.list.first in
     let elements = c.args.list.elements in
     let size = elements.size in
-    let at = row_places first.segment first.word size.data_words size.pointers elements.count in
-    let places_are = (rw c.row_size-size.ensures at c.new-pointers.ensures.places) ∙ sym (kept_all first.segment first.word size.data_words size.pointers elements.count) in
+    let at = pointer_places first.segment first.word size.data_words size.pointers elements.count in
+    let places_are = (rw c.section_sizes-size.ensures at c.new-pointers.ensures.places) ∙ sym (kept_all first.segment first.word size.data_words size.pointers elements.count) in
     let found = rw (places_are, c.count.ensures.left, c.new-walk.ensures.left) at c.in_ok-walk_pointers.ensures.found in
     let own_counted = rw c.new-walk.ensures.words at c.count.ensures.words in
     let kept = c.output_elements-kept.ensures in

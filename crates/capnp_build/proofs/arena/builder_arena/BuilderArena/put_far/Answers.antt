@@ -8,7 +8,7 @@ use Rattle.capnp_build.proofs.layouts.ReadyLemmas.{value_set}
 use Rattle.capnp_build.proofs.arena.builder_arena.BuilderArena.put_far.Goals as goal
 
 pub invariant_of-self : goal.invariant_of-self
-invariant_of-self g c = let v = c.append_value-location.ensures.body in (v.form, v.children, c.point_far.ensures.stands v.form v.children v.body_is)
+invariant_of-self g c = let v = c.append_value-location.ensures.body in (v.form, v.children, c.point_far.ensures.is_laid v.form v.children v.body_is)
 
 pub returns : goal.returns
 returns g c =
@@ -26,7 +26,7 @@ returns g c =
     omega (arith, inside, start, p.start_is, landing_pad.used) in
     record {
       set = value_set (g.V.SetterInput.has_tree c.args.value.now) c.args.canonical c.append_value-location.new.self.spaces c.point_far.new.self.spaces c.append_value-location.result v
-          (c.point_far.ensures.stands v.form v.children v.body_is);
+          (c.point_far.ensures.is_laid v.form v.children v.body_is);
       count = kept.count ∙ more.count ∙ landing_pad.count ∙ ap (λ (v : Built g.row.A.Denot). length v.spaces) c.self.view_is;
       location = record {
         place = p.place;

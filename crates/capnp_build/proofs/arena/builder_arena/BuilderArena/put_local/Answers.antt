@@ -14,7 +14,7 @@ append_value-location-requires-clause-following g c =
     root_room c.self.inside.segments.spaces there (subst (λ (o : Option RootLocation). IsBuilt c.self.inside.segments.spaces o) null c.self.invariant)
 
 pub invariant_of-self : goal.invariant_of-self
-invariant_of-self g c = let v = c.append_value-location.ensures.body in (v.form, v.children, c.point_local.ensures.stands v.form v.children v.body_is)
+invariant_of-self g c = let v = c.append_value-location.ensures.body in (v.form, v.children, c.point_local.ensures.is_laid v.form v.children v.body_is)
 
 pub returns-clause-whole : goal.returns-clause-whole
 returns-clause-whole g c = λ one short.
@@ -30,7 +30,7 @@ returns-clause-whole g c = λ one short.
     let eight : length (space_at c.self.inside.segments.spaces 0).used ≡ 8 =
     subst (λ (w : Built g.row.A.Denot). length (space_at w.spaces 0).used ≡ 8) (sym c.self.view_is) short in
     value_whole (g.V.SetterInput.has_tree c.args.value.now) c.args.canonical c.append_value-location.new.self.spaces c.point_local.new.self.spaces c.append_value-location.result v
-    (c.point_local.ensures.stands v.form v.children v.body_is) (kept.count ∙ more.count ∙ alone) first (omega (arith, start, p.start_is, eight))
+    (c.point_local.ensures.is_laid v.form v.children v.body_is) (kept.count ∙ more.count ∙ alone) first (omega (arith, start, p.start_is, eight))
     (omega (arith, kept.used 0, more.used, eight, many))
 
 pub returns-clause-block : goal.returns-clause-block
@@ -43,7 +43,7 @@ returns-clause-block g c =
     let first : c.append_value-location.result.segment ≡ 0 = ap (λ (s : RootLocation). s.segment) here ∙ p.segment_is in
     record {
       set = value_set (g.V.SetterInput.has_tree c.args.value.now) c.args.canonical c.append_value-location.new.self.spaces c.point_local.new.self.spaces c.append_value-location.result v
-          (c.point_local.ensures.stands v.form v.children v.body_is);
+          (c.point_local.ensures.is_laid v.form v.children v.body_is);
       count = kept.count ∙ more.count ∙ ap (λ (v : Built g.row.A.Denot). length v.spaces) c.self.view_is;
       location = subst (λ (v : Built g.row.A.Denot). IsAtEnd v.spaces (Some c.append_value-location.result) 0 0 c.args.words) c.self.view_is c.append_value-location.ensures.place;
       size = omega (arith, kept.size, more.size, ap (λ (v : Built g.row.A.Denot). size_in_words v.spaces) c.self.view_is);

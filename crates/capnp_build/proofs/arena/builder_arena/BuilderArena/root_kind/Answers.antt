@@ -26,8 +26,8 @@ returns-in-Some-clause-form g c = λ form children traversed there.
     let p : IsBuilt spaces (Some c.in-Some.location) = subst (λ (o : Option RootLocation). IsBuilt spaces o) c.in-Some.is c.self.invariant in
     shown_of spaces c.in-Some.location c.read_pointer_word.result p c.read_pointer_word.ensures form children traversed (subst (λ (v : Built g.row.A.Denot). Root (message v.spaces) form children traversed) (sym c.self.view_is) there)
 
-pub returns-in-Some-clause-stands : goal.returns-in-Some-clause-stands
-returns-in-Some-clause-stands g c =
+pub returns-in-Some-clause-is_kind : goal.returns-in-Some-clause-is_kind
+returns-in-Some-clause-is_kind g c =
     let spaces : List Space = c.self.inside.segments.spaces in
     let p : IsBuilt spaces (Some c.in-Some.location) = subst (λ (o : Option RootLocation). IsBuilt spaces o) c.in-Some.is c.self.invariant in
     subst (λ (v : Built g.row.A.Denot). IsRootKind c.read_pointer_word.result v.spaces) c.self.view_is

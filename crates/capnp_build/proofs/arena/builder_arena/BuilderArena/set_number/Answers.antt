@@ -48,4 +48,4 @@ returns-in_default g c =
     let spaces : List Space = c.self.inside.segments.spaces in
     let f : HasNumber spaces c.args.index = subst (λ (v : Built g.row.A.Denot). HasNumber v.spaces c.args.index) (sym c.self.view_is) c.requires in
     let r : HasNullRoot spaces = subst (λ (o : Option RootLocation). IsBuilt spaces o) c.in_default.is c.self.invariant in
-    absurd (no_list f.values (null_only spaces (numbers 5 f.values) none f.traversed r f.stands))
+    absurd (no_list f.values (null_only spaces (numbers 5 f.values) none f.traversed r f.is_at))

@@ -48,5 +48,5 @@ returns-in_default g c =
     let spaces : List Space = c.self.inside.segments.spaces in
     let f : HasField spaces c.args.index = subst (λ (v : Built g.row.A.Denot). HasField v.spaces c.args.index) (sym c.self.view_is) c.requires in
     let r : HasNullRoot spaces = subst (λ (o : Option RootLocation). IsBuilt spaces o) c.in_default.is c.self.invariant in
-    let no : struct f.words ≡ null = null_only spaces (struct f.words) f.children f.traversed r f.stands in
+    let no : struct f.words ≡ null = null_only spaces (struct f.words) f.children f.traversed r f.is_at in
     absurd (no_struct f.words no)

@@ -14,7 +14,7 @@ returns-in_default g c =
     let spaces : List Space = c.self.inside.segments.spaces in
     let f = subst (λ (v : Built g.row.A.Denot). HasBytes v.spaces c.args.index (length c.args.bytes.now)) (sym c.self.view_is) c.requires in
     let r : HasNullRoot spaces = subst (λ (o : Option RootLocation). IsBuilt spaces o) c.in_default.is c.self.invariant in
-    absurd (no_bytes f.values (null_only spaces (numbers 2 f.values) none f.traversed r f.stands))
+    absurd (no_bytes f.values (null_only spaces (numbers 2 f.values) none f.traversed r f.is_at))
 
 pub returns-in_default-get : goal.returns-in_default-get
 returns-in_default-get g c =

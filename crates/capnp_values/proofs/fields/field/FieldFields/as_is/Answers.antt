@@ -1,4 +1,4 @@
--- The words of a row are those of its first value and of what is after it.
+-- The words of fields are those of the first value and of what is after it.
 use Rattle.std.proofs.Common.{rules, ◌≡◌, ap, Ok, Err, ℕ, false}
 use Rattle.capnp_layout.specs.Prelude.{tree, none, total_words}
 use Rattle.capnp_wire.proofs.views.PartWordLemmas.{as_is_words}

@@ -1,4 +1,4 @@
--- A row keeps one pointer more, or leaves its first value out.
+-- Fields keep one pointer more, or leave the first value out.
 use Rattle.std.proofs.Common.{◌∙◌, sym}
 use Rattle.capnp_values.proofs.structs.KeptLemmas.{kept_left_out, kept_left_in}
 use Rattle.capnp_values.proofs.fields.field.FieldFields.kept.Goals as goal

@@ -25,8 +25,8 @@ returns-in-Structs g c =
     let p = pointer_of g.S.ReaderSegments.segments c.args.reader.now in
     let object = c.args.object.now in
     let list : StructList = structs_in p object 1 c.in-Structs.elements in record {
-      kind = subst (λ (l : StructList). Accepts p (λ form. (d : ℕ) × (form ≡ structs d l.pointer_words l.rows))) (sym c.within.ensures)
-          (entered_kind p object _ (λ form. (d : ℕ) × (form ≡ structs d list.pointer_words list.rows)) c.requires c.in-Structs.is (c.in-Structs.elements.size.data_words, refl));
+      kind = subst (λ (l : StructList). Accepts p (λ form. (d : ℕ) × (form ≡ structs d l.pointer_words l.elements))) (sym c.within.ensures)
+          (entered_kind p object _ (λ form. (d : ℕ) × (form ≡ structs d list.pointer_words list.elements)) c.requires c.in-Structs.is (c.in-Structs.elements.size.data_words, refl));
       shown = subst (IsStructList p) (sym c.within.ensures) (structs_entered p object c.in-Structs.elements c.in-Structs.field-1 c.requires c.in-Structs.is);
     }
 

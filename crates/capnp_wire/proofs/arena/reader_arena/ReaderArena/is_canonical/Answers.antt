@@ -16,7 +16,7 @@ returns-in_default g c =
     record {
       returned = unsaid;
       exact = λ kind other. c.from_kind.ensures ∙ unsaid_of_none _ _ _ kind none other;
-      found = λ form children traversed stand shallow fits. absurd (none_has_no_root _ form children traversed none stand);
+      found = λ form children traversed are_at shallow fits. absurd (none_has_no_root _ form children traversed none are_at);
       walk_error = unsaid_error m nesting limit _ unsaid;
     }
 

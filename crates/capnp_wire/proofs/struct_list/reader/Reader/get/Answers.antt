@@ -1,9 +1,9 @@
 -- An element of a list of structs is after those before it, and within the list.
 use Rattle.std.proofs.Common.{◌+◌, ◌*◌, ℕ, List, [], slice_index_or, refl, ap, ◌∙◌, arith}
-use Rattle.capnp_layout.specs.Prelude.{words_of, message_of, places, rows_from}
+use Rattle.capnp_layout.specs.Prelude.{words_of, message_of, places, elements_from}
 use Rattle.capnp_wire.specs.Prelude.{limit_of, Struct}
 use Rattle.capnp_layout.specs.declared.place.Place.{Place}
-use Rattle.capnp_layout.proofs.objects.RowLemmas.{element_within, element_words, element_pointers}
+use Rattle.capnp_layout.proofs.objects.StructElementLemmas.{element_within, element_words, element_pointers}
 use Rattle.capnp_wire.proofs.struct_list.reader.Reader.get.Goals as goal
 
 pub overflow_mul-words_before : goal.overflow_mul-words_before
@@ -33,14 +33,14 @@ returns g c =
     let size = self.elements.size in
     let words = words_of self.segment.now in
     let start = self.first.word + c.args.index * c.words.result in
-    let fields : List ℕ → List Place → Struct = λ row children. record {
+    let fields : List ℕ → List Place → Struct = λ element children. record {
       message = message_of (g.S.ReaderSegments.segments self.segments.now);
-      words = row;
+      words = element;
       children = children;
       nesting = self.nesting;
       limit = limit_of self.limiter;
     } in
-    ap (λ (row : List ℕ). fields row (places self.first.segment (start + size.data_words) size.pointers))
+    ap (λ (element : List ℕ). fields element (places self.first.segment (start + size.data_words) size.pointers))
     (element_words words self.first.word size.data_words size.pointers self.elements.count c.args.index c.words.result c.requires c.words.ensures)
-    ∙ ap (fields (slice_index_or (rows_from words self.first.word size.data_words size.pointers self.elements.count) c.args.index []))
+    ∙ ap (fields (slice_index_or (elements_from words self.first.word size.data_words size.pointers self.elements.count) c.args.index []))
     (element_pointers words self.first.word size.data_words size.pointers self.elements.count c.args.index c.words.result c.requires c.words.ensures self.first.segment)

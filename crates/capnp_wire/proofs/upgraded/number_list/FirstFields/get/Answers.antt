@@ -3,9 +3,9 @@ use Rattle.std.proofs.lemmas.List.{length-map}
 use Rattle.std.proofs.Common.{◌≡◌, ◌+◌, ◌*◌, ◌/◌, ◌%◌, ◌^◌, ◌<◌, ℕ, List, Option, length, slice_index_or, ap, ◌∙◌, subst, arith}
 use Rattle.std.proofs.lemmas.Option.{unwrap_or-slice_get}
 use Rattle.std.specs.Option.{unwrap_or}
-use Rattle.capnp_layout.specs.Prelude.{words_of, width, rows_from}
+use Rattle.capnp_layout.specs.Prelude.{words_of, width, elements_from}
 use Rattle.capnp_wire.specs.Prelude.{first_fields}
-use Rattle.capnp_layout.proofs.objects.RowLemmas.{element_within}
+use Rattle.capnp_layout.proofs.objects.StructElementLemmas.{element_within}
 use Rattle.capnp_wire.proofs.views.UpgradedNumberLemmas.{first_field_read}
 use Rattle.capnp_wire.proofs.upgraded.number_list.FirstFields.get.Goals as goal
 
@@ -13,10 +13,10 @@ pub overflow_mul-words_before : goal.overflow_mul-words_before
 overflow_mul-words_before g c =
     let self = c.args.self.now in
     let words = words_of self.segment.now in
-    let rows = rows_from words self.first self.size.data_words self.size.pointers self.count in
-    let field : List ℕ → ℕ = λ row. slice_index_or row 0 0 % 2 ^ width g.T.PrimitiveElement.code in
-    let fewer : c.args.index < length (first_fields g.T.PrimitiveElement.code rows) = c.requires in
-    let within : c.args.index < length rows = omega (arith, fewer, length-map rows field) in
+    let elements = elements_from words self.first self.size.data_words self.size.pointers self.count in
+    let field : List ℕ → ℕ = λ element. slice_index_or element 0 0 % 2 ^ width g.T.PrimitiveElement.code in
+    let fewer : c.args.index < length (first_fields g.T.PrimitiveElement.code elements) = c.requires in
+    let within : c.args.index < length elements = omega (arith, fewer, length-map elements field) in
     let ends = element_within words self.first self.size.data_words self.size.pointers self.count c.args.index c.words.result within c.words.ensures in
     omega (arith, ends, self.room, c.words_fit.ensures.length)
 

@@ -1,10 +1,10 @@
 -- Numbers are read as structs, unless they are bits.
 use Rattle.std.proofs.Common.{◌≡◌, ℕ, [], map, ap, ◌∙◌, sym, arith}
 use Rattle.capnp_layout.specs.Prelude.{code_of, width, words_of, elements}
-use Rattle.capnp_wire.specs.Prelude.{pointer_of, StructList, number_row}
+use Rattle.capnp_wire.specs.Prelude.{pointer_of, StructList, number_struct}
 use Rattle.capnp_layout.specs.declared.element_size.ElementSize.{ElementSize}
 use Rattle.capnp_layout.specs.declared.object.Body.TheVariants.{Numbers}
-use Rattle.capnp_wire.proofs.views.UpgradedRowLemmas.{nothings_upgraded, numbers_upgraded, bits_form_error, one_bit, no_bit, other_than_bits}
+use Rattle.capnp_wire.proofs.views.UpgradedStructLemmas.{nothings_upgraded, numbers_upgraded, bits_form_error, one_bit, no_bit, other_than_bits}
 use Rattle.capnp_wire.proofs.views.ListViewLemmas.{few_numbers}
 use Rattle.capnp_wire.proofs.upgraded.struct_list.StructList.of_numbers.Goals as goal
 
@@ -26,7 +26,7 @@ returns g c =
     let other = other_than_bits c.args.size (λ (is : width (code_of c.args.size) ≡ 1). absurd (omega (arith, is, c.bits-bits.ensures.bits, c.if-bits-eq1.false))) in
     let list : ℕ → StructList = λ nesting. record {
       message = p.message;
-      rows = map (number_row (code_of c.args.size)) (elements (words_of c.words_at.result.now) 0 (code_of c.args.size) c.args.count);
+      elements = map (number_struct (code_of c.args.size)) (elements (words_of c.words_at.result.now) 0 (code_of c.args.size) c.args.count);
       pointer_words = 0;
       children = [];
       nesting = nesting;
