@@ -164,17 +164,17 @@ uint8_t linsjoar_next_message_with_options(const uint8_t *bytes, size_t len,
                                            const struct linsjoar_options *options, size_t *message_len);
 
 /* Packs a framed message, and tells how many bytes that took. The buffer is one message and no more. It
- * returns 0 exactly where it is and the packed text has room, 2 where it has not, and 6 where the message
- * is cut or bytes follow it. Of n words, table and all, a packed text has at most 10 n bytes. */
+ * returns 0 exactly where it is and the packed encoding has room, 2 where it has not, and 6 where the message
+ * is cut or bytes follow it. Of n words, table and all, a packed encoding has at most 10 n bytes. */
 uint8_t linsjoar_pack_message(const uint8_t *framed, size_t framed_len, uint8_t *packed,
                               size_t packed_room, size_t *packed_len);
 uint8_t linsjoar_pack_message_with_options(const uint8_t *framed, size_t framed_len,
                                            const struct linsjoar_options *options, uint8_t *packed,
                                            size_t packed_room, size_t *packed_len);
 
-/* Unpacks the packed message at the front of a buffer into its framed text, and tells how many bytes that
+/* Unpacks the packed message at the front of a buffer into its framed encoding, and tells how many bytes that
  * has, and how many packed ones it took: what follows them may be the next message. It returns 0 wherever
- * one stands there and its framed text has room, 2 where it has not, and before all else where there is
+ * one stands there and its framed encoding has room, 2 where it has not, and before all else where there is
  * no room for 8 bytes, and 9 where there are no packed bytes. */
 uint8_t linsjoar_unpack_message(const uint8_t *packed, size_t packed_len, uint8_t *framed,
                                 size_t framed_room, size_t *framed_len, size_t *packed_read);
@@ -217,18 +217,18 @@ uint8_t linsjoar_canonical_with_options(const uint8_t *bytes, size_t len,
 
 /* Words, of which a message is made. These two know no messages. */
 
-/* Packs whole words into a text, and tells how many bytes that took. It returns 0 exactly where the
- * words are whole ones and the text has room for what they are packed to, 14 where a word is a part of
- * one, and 2 where there is no room. Of n words a text has at most 8 n + (n + 3) / 2 bytes.
- * Given a framed message it makes a text that no reader of packed messages reads: of a message the first
+/* Packs whole words into an encoding, and tells how many bytes that took. It returns 0 exactly where the
+ * words are whole ones and the encoding has room for what they are packed to, 14 where a word is a part of
+ * one, and 2 where there is no room. Of n words an encoding has at most 8 n + (n + 3) / 2 bytes.
+ * Given a framed message it makes an encoding that no reader of packed messages reads: of a message the first
  * word of its table, the table's other words, and each segment are packed one by one, which
  * linsjoar_pack_message does. */
-uint8_t linsjoar_pack(const uint8_t *words, size_t words_len, uint8_t *text, size_t text_len,
+uint8_t linsjoar_pack(const uint8_t *words, size_t words_len, uint8_t *encoding, size_t encoding_len,
                       size_t *written);
 
-/* Fills words with what is packed at the front of a text, and tells how many bytes of it that took. It
+/* Fills words with what is packed at the front of an encoding, and tells how many bytes of it that took. It
  * returns 0 wherever a packing of that many bytes stands there. */
-uint8_t linsjoar_unpack(const uint8_t *text, size_t text_len, uint8_t *words, size_t words_len,
+uint8_t linsjoar_unpack(const uint8_t *encoding, size_t encoding_len, uint8_t *words, size_t words_len,
                         size_t *read);
 
 #ifdef __cplusplus

@@ -7,7 +7,7 @@ use Rattle.capnp_frame.specs.Prelude.{KeepsLimit, lengths, Asks, LimitError, Cou
 use Rattle.capnp_frame.specs.declared.error.ErrorKind.TheVariants.{BufferNotLargeEnough}
 use Rattle.capnp_frame.proofs.encodings.SizeLemmas.{HasTable-writable}
 use Rattle.capnp_pack.specs.Prelude.{IsPackedFrame, head_encoding, Unpacks, Overruns, PackedError, ChunkError}
-use Rattle.capnp_pack.proofs.encodings.PackedFrameLemmas.{packed_text_is}
+use Rattle.capnp_pack.proofs.encodings.PackedFrameLemmas.{packed_encoding_is}
 use Rattle.capnp.specs.declared.streams.Format.TheVariants.{Packed}
 use Rattle.capnp.specs.Prelude.{NextError, IsPackedEncodingOf, IsCutKind}
 use Rattle.capnp.proofs.WriterLemmas.{IsWithin-written}
@@ -16,7 +16,7 @@ use Rattle.capnp.proofs.RunLemmas.{format_parts}
 -- What requests meet stays where more bytes follow, but for an end that comes too early.
 
 given_after : (raw more : List ℕ) (n : ℕ) (bytes rest : List ℕ) → Unpacks raw n bytes rest → Unpacks (raw ++ more) n bytes (rest ++ more)
-given_after raw more n bytes rest (text, chunk, spelled, long) = (text, chunk, ap (λ l. l ++ more) spelled ∙ append_assoc text rest more, long)
+given_after raw more n bytes rest (encoding, chunk, spelled, long) = (encoding, chunk, ap (λ l. l ++ more) spelled ∙ append_assoc encoding rest more, long)
 
 none_before : (raw more : List ℕ) → (raw ≡ [] → ⊥) → raw ++ more ≡ [] → ⊥
 none_before raw more some none = some (nil_from_length raw (omega (arith, ap length none, length-append raw more)))
@@ -103,8 +103,8 @@ front_is_cut limit next part missing left kind writable few size packed errors =
   | inl cut ↦ cut
   | inr there ↦
       let begins : BeginsWith (IsPackedFrame Zero) limit next (part ++ missing) [] = record {
-        text = part ++ missing;
-        is_text = packed_text_is Zero (part ++ missing) next (HasTable-writable next writable) packed;
+        encoding = part ++ missing;
+        is_encoding = packed_encoding_is Zero (part ++ missing) next (HasTable-writable next writable) packed;
         within = IsWithin-written next limit writable few size;
         spelled = sym (append-nil (part ++ missing));
       } in

@@ -6,7 +6,7 @@ use Rattle.capnp_frame.specs.declared.error.ErrorKind.TheVariants.{DeviceFailed}
 use Rattle.capnp_frame.specs.declared.io.Read.{Ghosts}
 use Rattle.capnp_frame.specs.declared.io.Write.{Ghosts as SinkGhosts}
 use Rattle.capnp_frame.specs.Prelude.{IsReaderKind, IfKnown, Advances, Fails, Grows, AreEncodings}
-use Rattle.capnp_frame.proofs.encodings.TextLemmas.{AreEncodings-once, AreEncodings-most, EndsEncodings-once}
+use Rattle.capnp_frame.proofs.encodings.EncodingLemmas.{AreEncodings-once, AreEncodings-most, EndsEncodings-once}
 use Rattle.capnp.specs.declared.streams.Format.{Format}
 use Rattle.capnp.specs.declared.streams.FailedAt.{FailedAt}
 use Rattle.capnp.specs.Prelude.{grammar_of, refuses_of, FoundNext, NextError, EndsBy, IsStream, Writing, WritingErrors, most_messages, RanOut, HasWritten, FailedReading, FailedWriting, HasFailed, HasRun, IsResultOf, WritingErrorAt, RunErrorOf, FailsByRun, RunError, WritesEach}
@@ -21,10 +21,10 @@ ran_out_ends rule format limit Writes left before after raw ran messages ending 
     let counted = written.counted in
     elim (ran.done) [
       | inl none ↦
-          let one = AreEncodings-once (format_parts rule format limit) None ending written.messages messages raw ran.rest stream.rest written.texts none stream.texts stream.ends in
+          let one = AreEncodings-once (format_parts rule format limit) None ending written.messages messages raw ran.rest stream.rest written.encodings none stream.encodings stream.ends in
           sym (EndsEncodings-once rule (format_lawful format) limit None ending stream.rest (sym one.1 ∙ none) stream.ends)
       | inr most ↦
-          let bound = AreEncodings-most (format_parts rule format limit) ending messages written.messages raw stream.rest ran.rest stream.texts stream.ends written.texts in
+          let bound = AreEncodings-most (format_parts rule format limit) ending messages written.messages raw stream.rest ran.rest stream.encodings stream.ends written.encodings in
           absurd (omega (arith, bound, few, most, counted))
     ]
 
@@ -41,7 +41,7 @@ failed_ends : (rule : Padding) (format : Format) (limit : Option ℕ) (Writes : 
     → IsStream rule format limit messages ending raw → (ending ≡ Some kind) × (count ≡ length messages)
 failed_ends rule format limit Writes count kind left before after raw failed ends messages ending stream =
     let written = failed.written in
-    let one = AreEncodings-once (format_parts rule format limit) (Some kind) ending written.messages messages raw failed.rest stream.rest written.texts ends stream.texts stream.ends in
+    let one = AreEncodings-once (format_parts rule format limit) (Some kind) ending written.messages messages raw failed.rest stream.rest written.encodings ends stream.encodings stream.ends in
     let moved : EndsBy rule format limit (Some kind) stream.rest = subst (λ l. EndsBy rule format limit (Some kind) l) one.1 ends in
     (sym (EndsEncodings-once rule (format_lawful format) limit (Some kind) ending stream.rest moved stream.ends), sym written.counted ∙ ap length one.0)
 
@@ -50,7 +50,7 @@ few_written : (rule : Padding) (format : Format) (limit : Option ℕ) (Writes : 
     → HasWritten rule format limit Writes count before after raw rest → (messages : List (List (List ℕ))) (ending : Option ErrorKind)
     → IsStream rule format limit messages ending raw → count ≤ length messages
 few_written rule format limit Writes count before after raw rest written messages ending stream =
-    let bound = AreEncodings-most (format_parts rule format limit) ending messages written.messages raw stream.rest rest stream.texts stream.ends written.texts in
+    let bound = AreEncodings-most (format_parts rule format limit) ending messages written.messages raw stream.rest rest stream.encodings stream.ends written.encodings in
     omega (arith, bound, written.counted)
 
 -- the message after some of a stream's messages is the next of them
@@ -58,18 +58,18 @@ next_listed : (rule : Padding) (format : Format) (limit : Option ℕ) (ending : 
     (raw between left rest : List ℕ) → AreEncodings (grammar_of rule format) limit ms raw between → FoundNext rule format limit message between left
     → AreEncodings (grammar_of rule format) limit messages raw rest → EndsBy rule format limit ending rest
     → (others : List (List (List ℕ))) × (messages ≡ ms ++ message ∷ others)
-next_listed rule format limit ending [] [] message raw between left rest texts is_found all ends =
+next_listed rule format limit ending [] [] message raw between left rest encodings is_found all ends =
     absurd ((format_parts rule format limit).ends_apart ending message raw left (subst (λ l. EndsBy rule format limit ending l) all ends)
-    (subst (λ l. FoundNext rule format limit message l left) texts is_found))
-next_listed rule format limit ending [] (n ∷ ns) message raw between left rest texts is_found all ends =
-    let here : FoundNext rule format limit message raw left = subst (λ l. FoundNext rule format limit message l left) texts is_found in
+    (subst (λ l. FoundNext rule format limit message l left) encodings is_found))
+next_listed rule format limit ending [] (n ∷ ns) message raw between left rest encodings is_found all ends =
+    let here : FoundNext rule format limit message raw left = subst (λ l. FoundNext rule format limit message l left) encodings is_found in
     let same = (format_parts rule format limit).begins_once message n raw left all.0 here all.1 in
     (ns, ap (λ x. x ∷ ns) (sym same.0))
-next_listed rule format limit ending (m ∷ ms) [] message raw between left rest texts is_found all ends =
-    absurd ((format_parts rule format limit).ends_apart ending m raw texts.0 (subst (λ l. EndsBy rule format limit ending l) all ends) texts.1)
-next_listed rule format limit ending (m ∷ ms) (n ∷ ns) message raw between left rest texts is_found all ends =
-    let same = (format_parts rule format limit).begins_once m n raw texts.0 all.0 texts.1 all.1 in
-    let moved = subst (λ l. AreEncodings (grammar_of rule format) limit ms l between) same.1 texts.2 in
+next_listed rule format limit ending (m ∷ ms) [] message raw between left rest encodings is_found all ends =
+    absurd ((format_parts rule format limit).ends_apart ending m raw encodings.0 (subst (λ l. EndsBy rule format limit ending l) all ends) encodings.1)
+next_listed rule format limit ending (m ∷ ms) (n ∷ ns) message raw between left rest encodings is_found all ends =
+    let same = (format_parts rule format limit).begins_once m n raw encodings.0 all.0 encodings.1 all.1 in
+    let moved = subst (λ l. AreEncodings (grammar_of rule format) limit ms l between) same.1 encodings.2 in
     let inner = next_listed rule format limit ending ms ns message all.0 between left rest moved is_found all.2 ends in
     (inner.0, ap (λ x. x ∷ ns) (sym same.0) ∙ ap (λ l. m ∷ l) inner.1)
 
@@ -81,7 +81,7 @@ writing_error_at : (rule : Padding) (format : Format) (limit : Option ℕ) (Writ
 writing_error_at rule format limit Writes Errors count kind None before after raw failed is_found messages ending stream = absurd is_found
 writing_error_at rule format limit Writes Errors count kind (Some left) before after raw failed is_found messages ending stream =
     let written = failed.written in
-    let next = next_listed rule format limit ending written.messages messages failed.message raw failed.rest left stream.rest written.texts is_found stream.texts stream.ends in
+    let next = next_listed rule format limit ending written.messages messages failed.message raw failed.rest left stream.rest written.encodings is_found stream.encodings stream.ends in
     record {
       before = written.messages;
       message = failed.message;
@@ -129,7 +129,7 @@ pub stream_once : (rule : Padding) (format : Format) (limit : Option ℕ) (messa
     (ending other : Option ErrorKind) (raw : List ℕ) → IsStream rule format limit messages ending raw
     → IsStream rule format limit others other raw → (messages ≡ others) × (ending ≡ other)
 stream_once rule format limit messages others ending other raw stream also =
-    let one = AreEncodings-once (format_parts rule format limit) ending other messages others raw stream.rest also.rest stream.texts stream.ends also.texts also.ends in
+    let one = AreEncodings-once (format_parts rule format limit) ending other messages others raw stream.rest also.rest stream.encodings stream.ends also.encodings also.ends in
     (one.0, EndsEncodings-once rule (format_lawful format) limit ending other also.rest (subst (λ l. EndsBy rule format limit ending l) one.1 stream.ends) also.ends)
 
 -- what a run does, by what it writes and by how it fails

@@ -18,12 +18,12 @@ error_at segments refuses (y ∷ ys) (suc index) x kind here is errors = inr (er
 
 -- what it leaves follows the messages before it
 FailsAmong-at : {S : Type 0} (segments : S → List (List ℕ)) (Writes : List (List ℕ) → List ℕ → Type 0) (FailsOne : List (List ℕ) → ErrorKind → List ℕ → Type 0)
-    (xs : List S) (index : ℕ) (x : S) (kind : ErrorKind) (text more : List ℕ) → index < length xs → x ≡ get_or xs index x
-    → AppendsEach Writes (map segments (take index xs)) text → FailsOne (segments x) kind more → FailsAmong Writes FailsOne (map segments xs) kind (text ++ more)
-FailsAmong-at segments Writes FailsOne [] index x kind text more here is all fails = absurd (omega arith)
-FailsAmong-at segments Writes FailsOne (y ∷ ys) zero x kind text more here is all fails =
-    inl (subst (λ z. FailsOne (segments z) kind (text ++ more)) is (subst (λ l. FailsOne (segments x) kind (l ++ more)) (sym all) fails))
-FailsAmong-at segments Writes FailsOne (y ∷ ys) (suc index) x kind text more here is (first, others, this, all, e) fails = inr (
+    (xs : List S) (index : ℕ) (x : S) (kind : ErrorKind) (encoding more : List ℕ) → index < length xs → x ≡ get_or xs index x
+    → AppendsEach Writes (map segments (take index xs)) encoding → FailsOne (segments x) kind more → FailsAmong Writes FailsOne (map segments xs) kind (encoding ++ more)
+FailsAmong-at segments Writes FailsOne [] index x kind encoding more here is all fails = absurd (omega arith)
+FailsAmong-at segments Writes FailsOne (y ∷ ys) zero x kind encoding more here is all fails =
+    inl (subst (λ z. FailsOne (segments z) kind (encoding ++ more)) is (subst (λ l. FailsOne (segments x) kind (l ++ more)) (sym all) fails))
+FailsAmong-at segments Writes FailsOne (y ∷ ys) (suc index) x kind encoding more here is (first, others, this, all, e) fails = inr (
   first,
   others ++ more,
   this,
@@ -36,18 +36,18 @@ pub fails_among : {S : Type 0} (segments : S → List (List ℕ)) (Writes : List
     → IfKnown old mid (Adds (AppendsEach Writes (map segments (take index xs)))) → IfKnown mid new (Adds (FailsOne (segments x) kind))
     → IfKnown old new (Adds (FailsAmong Writes FailsOne (map segments xs) kind))
 fails_among segments Writes FailsOne xs index x kind old mid new here is before next = IfKnown-join old mid new
-    (λ a b c (text, all, e) (more, fails, f). (
-      text ++ more,
-      FailsAmong-at segments Writes FailsOne xs index x kind text more here is all fails,
-      f ∙ ap (λ l. l ++ more) e ∙ append_assoc a text more,
+    (λ a b c (encoding, all, e) (more, fails, f). (
+      encoding ++ more,
+      FailsAmong-at segments Writes FailsOne xs index x kind encoding more here is all fails,
+      f ∙ ap (λ l. l ++ more) e ∙ append_assoc a encoding more,
     ))
     before next
 
 -- what its writer's failure says of one message
-nothing_added : (old new text : List ℕ) → new ≡ old ++ text → Some new ≡ Some old → text ≡ []
-nothing_added old new text added same =
+nothing_added : (old new encoding : List ℕ) → new ≡ old ++ encoding → Some new ≡ Some old → encoding ≡ []
+nothing_added old new encoding added same =
     let kept : new ≡ old = cc in
-    nil_from_length text (omega (arith, ap length kept, ap length added, length-append old text))
+    nil_from_length encoding (omega (arith, ap length kept, ap length added, length-append old encoding))
 
 fails_known : (format : Format) (appends : Appending) (leaves : Leaving) (refuses : Declining) (message : List (List ℕ)) (kind : ErrorKind)
     (old new : Option (List ℕ)) → WriterError (ErrorsAs format refuses) message kind → IfKnown old new (Adds (LeavesMessage format appends leaves message))
@@ -55,15 +55,15 @@ fails_known : (format : Format) (appends : Appending) (leaves : Leaving) (refuse
     → IfKnown old new (Adds (FailsAtMessage format appends leaves refuses message kind))
 fails_known format appends leaves refuses message kind None new errors left untouched = tt
 fails_known format appends leaves refuses message kind (Some old) None errors left untouched = absurd left
-fails_known format appends leaves refuses message kind (Some old) (Some new) errors (text, of_it, added) untouched = (
-  text,
+fails_known format appends leaves refuses message kind (Some old) (Some new) errors (encoding, of_it, added) untouched = (
+  encoding,
   record {
     errors = errors;
     left = of_it;
     untouched = elim untouched [
       | inl device ↦ inl device
       | inr (inl chunk_errors) ↦ inr (inl chunk_errors)
-      | inr (inr same) ↦ inr (inr (nothing_added old new text added same))
+      | inr (inr same) ↦ inr (inr (nothing_added old new encoding added same))
     ];
   },
   added,

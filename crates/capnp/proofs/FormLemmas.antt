@@ -73,8 +73,8 @@ pub form_written : {S X : Type 0} (sink : Ghosts S) (old new : S) (pointer : Poi
     → IsForm pointer form → segments ≡ form ∷ [] → WritesSegments sink old new segments r
     → WritesTo sink old new (AppendsForm pointer sink.appends) (LeavesForm pointer sink.appends sink.leaves) (λ kind. (kind ≡ OutOfMemory) ⊎ WrittenFormError pointer sink.refuses kind) r
 form_written sink old new pointer form segments (Ok x) is_found is reported = record {
-  written = IfKnown-weaker (sink.written old) (sink.written new) (λ before after (text, p, e).
-      (text, (form, is_found, subst (λ (s : List (List ℕ)). AppendsAll sink.appends (chunks s) text) is p), e)) reported.parts.written;
+  written = IfKnown-weaker (sink.written old) (sink.written new) (λ before after (encoding, p, e).
+      (encoding, (form, is_found, subst (λ (s : List (List ℕ)). AppendsAll sink.appends (chunks s) encoding) is p), e)) reported.parts.written;
   left = tt;
   errors = tt;
   failed = tt;
@@ -82,8 +82,8 @@ form_written sink old new pointer form segments (Ok x) is_found is reported = re
 }
 form_written sink old new pointer form segments (Err e) is_found is reported = record {
   written = tt;
-  left = IfKnown-weaker (sink.written old) (sink.written new) (λ before after (text, p, e).
-      (text, inr (form, is_found, subst (λ (s : List (List ℕ)). LeavesSome sink.appends sink.leaves (chunks s) text) is p), e)) reported.parts.left;
+  left = IfKnown-weaker (sink.written old) (sink.written new) (λ before after (encoding, p, e).
+      (encoding, inr (form, is_found, subst (λ (s : List (List ℕ)). LeavesSome sink.appends sink.leaves (chunks s) encoding) is p), e)) reported.parts.left;
   errors = form_writing_error pointer sink.refuses form segments e.kind is_found is reported.parts.errors;
   failed = reported.parts.failed;
   grows = reported.parts.grows;

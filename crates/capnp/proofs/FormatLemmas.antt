@@ -64,20 +64,20 @@ kinds_of rule errors kind (inr (inr (inr (inr (inr (raw, n, line)))))) = inr (in
 
 -- Over a source of plain bytes what is read by its requests is read by the framed format's rules.
 module _ {S : Type 0} (rule : Padding) (source : Ghosts S) (plain : IsPlainSource source.gives source.refuses) (limit : Option ℕ) where
-  texts_found : (old new : Option (List ℕ)) (r : Result (Option (List (List ℕ))) Error)
+  encodings_found : (old new : Option (List ℕ)) (r : Result (Option (List (List ℕ))) Error)
       → IfOk r (λ found. IfSome found (λ m. IfKnown old new (MessageFound rule source.gives m)))
       → IfOk r (λ found. IfSome found (λ m. IfKnown old new ((rules_of rule Framed).finds m)))
-  texts_found old new (Err e) found = tt
-  texts_found old new (Ok None) found = tt
-  texts_found old new (Ok (Some m)) found = IfKnown-weaker old new (λ raw rest. (frames_requested rule _ _ plain m raw rest).0) found
+  encodings_found old new (Err e) found = tt
+  encodings_found old new (Ok None) found = tt
+  encodings_found old new (Ok (Some m)) found = IfKnown-weaker old new (λ raw rest. (frames_requested rule _ _ plain m raw rest).0) found
 
-  texts_accepted : (F : Type 0) (old : Option (List ℕ))
+  encodings_accepted : (F : Type 0) (old : Option (List ℕ))
       → IfSome old (λ raw. (m : List (List ℕ)) (rest : List ℕ) → MessageFound rule source.gives m raw rest → IsWithin m limit → F)
       → IfSome old (λ raw. (m : List (List ℕ)) (rest : List ℕ) → (rules_of rule Framed).finds m raw rest → IsWithin m limit → F)
-  texts_accepted F None accepted = tt
-  texts_accepted F (Some raw) accepted = λ m rest is_found within. accepted m rest ((frames_requested rule _ _ plain m raw rest).1 is_found) within
+  encodings_accepted F None accepted = tt
+  encodings_accepted F (Some raw) accepted = λ m rest is_found within. accepted m rest ((frames_requested rule _ _ plain m raw rest).1 is_found) within
 
-  texts_error : (takes also : List ℕ → List ℕ → Type 0) → ((raw left : List ℕ) → takes raw left → also raw left)
+  encodings_error : (takes also : List ℕ → List ℕ → Type 0) → ((raw left : List ℕ) → takes raw left → also raw left)
       → (old new : Option (List ℕ)) (r : Result (Option (List (List ℕ))) Error)
       → IfErr r (λ error. (error.kind ≡ DeviceFailed)
       ⊎ ((error.kind ≡ OutOfMemory) × IfKnown old new takes)
@@ -85,38 +85,38 @@ module _ {S : Type 0} (rule : Padding) (source : Ghosts S) (plain : IsPlainSourc
       → IfErr r (λ error. (error.kind ≡ DeviceFailed)
       ⊎ ((error.kind ≡ OutOfMemory) × IfKnown old new also)
       ⊎ IfKnown old new (StreamError rule Splits RunsShort limit None error.kind))
-  texts_error takes also wider old new (Ok found) errors = tt
-  texts_error takes also wider old new (Err e) (inl device) = inl device
-  texts_error takes also wider old new (Err e) (inr (inl (memory, taken))) = inr (inl (memory, IfKnown-weaker old new wider taken))
-  texts_error takes also wider old new (Err e) (inr (inr line)) = inr (inr (IfKnown-weaker old new
+  encodings_error takes also wider old new (Ok found) errors = tt
+  encodings_error takes also wider old new (Err e) (inl device) = inl device
+  encodings_error takes also wider old new (Err e) (inr (inl (memory, taken))) = inr (inl (memory, IfKnown-weaker old new wider taken))
+  encodings_error takes also wider old new (Err e) (inr (inr line)) = inr (inr (IfKnown-weaker old new
       (StreamError-map rule (λ w n b t. (plain.given w n b t).1) (λ w n k. (plain.errors w n k).1) limit None e.kind) line))
 
-  texts_exact : (F : ErrorKind → Type 0) (old : Option (List ℕ))
+  encodings_exact : (F : ErrorKind → Type 0) (old : Option (List ℕ))
       → IfSome old (λ raw. (kind : ErrorKind) (left : List ℕ) → StreamError rule source.gives source.refuses limit None kind raw left → F kind)
       → IfSome old (λ raw. (kind : ErrorKind) (left : List ℕ) → StreamError rule Splits RunsShort limit None kind raw left → F kind)
-  texts_exact F None exact = tt
-  texts_exact F (Some raw) exact = λ kind left line. exact kind left
+  encodings_exact F None exact = tt
+  encodings_exact F (Some raw) exact = λ kind left line. exact kind left
       (StreamError-map rule (λ w n b t. (plain.given w n b t).0) (λ w n k. (plain.errors w n k).0) limit None kind raw left line)
 
-  texts_kinds : (r : Result (Option (List (List ℕ))) Error) → IfErr r (λ error. IsReaderKind rule source.refuses error.kind)
+  encodings_kinds : (r : Result (Option (List (List ℕ))) Error) → IfErr r (λ error. IsReaderKind rule source.refuses error.kind)
       → IfErr r (λ error. IsReaderKind rule RunsShort error.kind)
-  texts_kinds (Ok found) kinds = tt
-  texts_kinds (Err e) kinds = kinds_of rule (λ w n k. (plain.errors w n k).1) e.kind kinds
+  encodings_kinds (Ok found) kinds = tt
+  encodings_kinds (Err e) kinds = kinds_of rule (λ w n k. (plain.errors w n k).1) e.kind kinds
 
   plain_reads_taking : (takes also : Option ℕ → List ℕ → List ℕ → Type 0) → ((raw left : List ℕ) → takes limit raw left → also limit raw left)
       → (old new : S) (r : Result (Option (List (List ℕ))) Error)
       → ReadsStream source old new (record (framed_rules rule source.gives source.refuses) { takes_memory = takes }) limit r
       → ReadsStream source old new (record (rules_of rule Framed) { takes_memory = also }) limit r
   plain_reads_taking takes also wider old new r reads = record {
-    found = texts_found _ _ r reads.found;
+    found = encodings_found _ _ r reads.found;
     within = reads.within;
     whole = reads.whole;
     none = reads.none;
-    accepted = texts_accepted _ _ reads.accepted;
+    accepted = encodings_accepted _ _ reads.accepted;
     end = reads.end;
-    errors = texts_error (takes limit) (also limit) wider _ _ r reads.errors;
-    exact = texts_exact _ _ reads.exact;
-    kinds = texts_kinds r reads.kinds;
+    errors = encodings_error (takes limit) (also limit) wider _ _ r reads.errors;
+    exact = encodings_exact _ _ reads.exact;
+    kinds = encodings_kinds r reads.kinds;
     failed = reads.failed;
     advances = reads.advances;
   }
@@ -156,8 +156,8 @@ or_fails_failed source old new rules limit e (inr (kind, reads)) = λ device. cc
 pub found_next : (rule : Padding) (format : Format) (limit : Option ℕ) (segments : List (List ℕ)) (old new : Option (List ℕ))
     → IsWithin segments limit → IfKnown old new ((rules_of rule format).finds segments)
     → IfKnown old new (FoundNext rule format limit segments)
-found_next rule format limit segments old new within is_found = IfKnown-weaker old new (λ raw rest (text, is_text, spelled).
-    record { text = text; is_text = is_text; within = within; spelled = spelled }) is_found
+found_next rule format limit segments old new within is_found = IfKnown-weaker old new (λ raw rest (encoding, is_encoding, spelled).
+    record { encoding = encoding; is_encoding = is_encoding; within = within; spelled = spelled }) is_found
 
 -- and a reader's failure is a cause that the run knows
 pub reading_error : (rule : Padding) (format : Format) (limit : Option ℕ) (kind : ErrorKind) (old new : Option (List ℕ))

@@ -10,7 +10,7 @@ use Rattle.capnp_frame.proofs.errors.StreamErrorLemmas.{given_some}
 use Rattle.capnp_frame.proofs.sources.SourceLemmas.{IfKnown-weaker}
 use Rattle.capnp_frame.proofs.encodings.RequestLemmas.{MessageFound-map}
 use Rattle.capnp_frame.proofs.encodings.FrameLemmas.{plain_requests}
-use Rattle.capnp_frame.proofs.encodings.TextLemmas.{AreRequested}
+use Rattle.capnp_frame.proofs.encodings.EncodingLemmas.{AreRequested}
 use Rattle.capnp_pack.specs.Prelude.{unpacking}
 use Rattle.capnp_pack.proofs.encodings.PackedFrameLemmas.{packed_requests}
 use Rattle.capnp.specs.Prelude.{IsPlainSource, ExternalError, MessageRules, framed, packed, reader_of, ReadsMessage, ReadsMessageInto, OrFailsAtEnd}
@@ -19,23 +19,23 @@ use Rattle.capnp.specs.Prelude.{IsPlainSource, ExternalError, MessageRules, fram
 pub frames_requested : (rule : Padding) (gives : Giving) (refuses : Refusing) → IsPlainSource gives refuses → AreRequested (IsFrame rule) rule gives
 frames_requested rule gives refuses plain segments raw rest = (
   λ is_found. (plain_requests rule segments raw rest).0 (MessageFound-map (λ w n b t. (plain.given w n b t).1) segments raw rest is_found),
-  λ text. MessageFound-map (λ w n b t. (plain.given w n b t).0) segments raw rest ((plain_requests rule segments raw rest).1 text),
+  λ encoding. MessageFound-map (λ w n b t. (plain.given w n b t).0) segments raw rest ((plain_requests rule segments raw rest).1 encoding),
 )
 
 -- where a message is by these rules, there is an encoding of it in this grammar
 abbrev pub AreEncodingsBy : Grammar → StreamRules → Type 0
-AreEncodingsBy IsText rules = (m : List (List ℕ)) (raw rest : List ℕ) → rules.finds m raw rest ↔ ((text : List ℕ) × IsText text m × (raw ≡ text ++ rest))
+AreEncodingsBy IsEncoding rules = (m : List (List ℕ)) (raw rest : List ℕ) → rules.finds m raw rest ↔ ((encoding : List ℕ) × IsEncoding encoding m × (raw ≡ encoding ++ rest))
 
 -- so it begins the stream, within the limit
-begins_next : (IsText : Grammar) (rules : StreamRules) (limit : Option ℕ) (old new : Option (List ℕ)) (r : Result (Option (List (List ℕ))) Error)
-    → AreEncodingsBy IsText rules → IfOk r (λ found. IfSome found (λ m. IsWithin m limit))
+begins_next : (IsEncoding : Grammar) (rules : StreamRules) (limit : Option ℕ) (old new : Option (List ℕ)) (r : Result (Option (List (List ℕ))) Error)
+    → AreEncodingsBy IsEncoding rules → IfOk r (λ found. IfSome found (λ m. IsWithin m limit))
     → IfOk r (λ found. IfSome found (λ m. IfKnown old new (rules.finds m)))
-    → IfOk r (λ found. IfSome found (λ m. IfKnown old new (BeginsWith IsText limit m)))
-begins_next IsText rules limit old new (Err e) texts within found = tt
-begins_next IsText rules limit old new (Ok None) texts within found = tt
-begins_next IsText rules limit old new (Ok (Some m)) texts within found = IfKnown-weaker old new (λ raw rest is_found.
-    let text = (texts m raw rest).0 is_found in
-    record { text = text.0; is_text = text.1; within = within; spelled = text.2 }) found
+    → IfOk r (λ found. IfSome found (λ m. IfKnown old new (BeginsWith IsEncoding limit m)))
+begins_next IsEncoding rules limit old new (Err e) encodings within found = tt
+begins_next IsEncoding rules limit old new (Ok None) encodings within found = tt
+begins_next IsEncoding rules limit old new (Ok (Some m)) encodings within found = IfKnown-weaker old new (λ raw rest is_found.
+    let encoding = (encodings m raw rest).0 is_found in
+    record { encoding = encoding.0; is_encoding = encoding.1; within = within; spelled = encoding.2 }) found
 
 -- where nothing is unread, there is no message
 pub nothing_found : (rule : Padding) {gives : Giving} {refuses : Refusing} → IsSource gives refuses → (m : List (List ℕ))
@@ -46,34 +46,34 @@ nothing_found rule laws m (Some raw) (Some rest) none is_found =
     let empty : raw ≡ [] = cc in
     given_some laws raw 8 is_found.table.first is_found.table.between is_found.table.first_given (lit< tt) empty
 
-pub nothing_begins_known : {IsText : Grammar} (rule : Padding) {gives : Giving} {refuses : Refusing} → IsSource gives refuses
-    → AreRequested IsText rule gives → (limit : Option ℕ) (m : List (List ℕ)) (old new : Option (List ℕ)) → old ≡ Some []
-    → IfKnown old new (BeginsWith IsText limit m) → ⊥
-nothing_begins_known rule laws texts limit m old new none begins = nothing_found rule laws m old new none
-    (IfKnown-weaker old new (λ raw rest b. (texts m raw rest).1 (b.text, b.is_text, b.spelled)) begins)
+pub nothing_begins_known : {IsEncoding : Grammar} (rule : Padding) {gives : Giving} {refuses : Refusing} → IsSource gives refuses
+    → AreRequested IsEncoding rule gives → (limit : Option ℕ) (m : List (List ℕ)) (old new : Option (List ℕ)) → old ≡ Some []
+    → IfKnown old new (BeginsWith IsEncoding limit m) → ⊥
+nothing_begins_known rule laws encodings limit m old new none begins = nothing_found rule laws m old new none
+    (IfKnown-weaker old new (λ raw rest b. (encodings m raw rest).1 (b.encoding, b.is_encoding, b.spelled)) begins)
 
-pub nothing_begins : {IsText : Grammar} (rule : Padding) {gives : Giving} {refuses : Refusing} → IsSource gives refuses
-    → AreRequested IsText rule gives → (limit : Option ℕ) (F : List (List ℕ) → Type 0) (old : Option (List ℕ))
+pub nothing_begins : {IsEncoding : Grammar} (rule : Padding) {gives : Giving} {refuses : Refusing} → IsSource gives refuses
+    → AreRequested IsEncoding rule gives → (limit : Option ℕ) (F : List (List ℕ) → Type 0) (old : Option (List ℕ))
     → IfSome old (λ raw. raw ≡ [])
-    → IfSome old (λ raw. (m : List (List ℕ)) (rest : List ℕ) → BeginsWith IsText limit m raw rest → F m)
-nothing_begins rule laws texts limit F None none = tt
-nothing_begins rule laws texts limit F (Some raw) none = λ m rest begins.
-    let is_found = (texts m raw rest).1 (begins.text, begins.is_text, begins.spelled) in
+    → IfSome old (λ raw. (m : List (List ℕ)) (rest : List ℕ) → BeginsWith IsEncoding limit m raw rest → F m)
+nothing_begins rule laws encodings limit F None none = tt
+nothing_begins rule laws encodings limit F (Some raw) none = λ m rest begins.
+    let is_found = (encodings m raw rest).1 (begins.encoding, begins.is_encoding, begins.spelled) in
     absurd (given_some laws raw 8 is_found.table.first is_found.table.between is_found.table.first_given (lit< tt) none)
 
 -- Where the rules' encodings are what the stream's rules read: a message is by these exactly where an encoding of it is, and no
 -- encoding begins where nothing is unread.
 abbrev pub AreRead : MessageRules → Type 0
-AreRead rules = rules.plain → AreEncodingsBy rules.is_text rules.stream
-    × ((limit : Option ℕ) (m : List (List ℕ)) (raw rest : List ℕ) → raw ≡ [] → BeginsWith rules.is_text limit m raw rest → ⊥)
+AreRead rules = rules.plain → AreEncodingsBy rules.is_encoding rules.stream
+    × ((limit : Option ℕ) (m : List (List ℕ)) (raw rest : List ℕ) → raw ≡ [] → BeginsWith rules.is_encoding limit m raw rest → ⊥)
 
-pub are_read : {IsText : Grammar} (rule : Padding) {gives : Giving} {refuses : Refusing} → IsSource gives refuses → AreRequested IsText rule gives
-    → (limit : Option ℕ) (m : List (List ℕ)) (raw rest : List ℕ) → raw ≡ [] → BeginsWith IsText limit m raw rest → ⊥
-are_read rule laws texts limit m raw rest none begins = nothing_begins rule laws texts limit (λ m. ⊥) (Some raw) none m rest begins
+pub are_read : {IsEncoding : Grammar} (rule : Padding) {gives : Giving} {refuses : Refusing} → IsSource gives refuses → AreRequested IsEncoding rule gives
+    → (limit : Option ℕ) (m : List (List ℕ)) (raw rest : List ℕ) → raw ≡ [] → BeginsWith IsEncoding limit m raw rest → ⊥
+are_read rule laws encodings limit m raw rest none begins = nothing_begins rule laws encodings limit (λ m. ⊥) (Some raw) none m rest begins
 
 pub framed_read : {S : Type 0} (rule : Padding) (source : Ghosts S) → IsSource source.gives source.refuses → AreRead (framed rule source)
 framed_read rule source laws plain =
-    let texts = frames_requested rule source.gives source.refuses plain in (texts, are_read rule laws texts)
+    let encodings = frames_requested rule source.gives source.refuses plain in (encodings, are_read rule laws encodings)
 
 pub packed_read : (rule : Padding) → AreRead (packed rule)
 packed_read rule plain = (λ m raw rest. (λ x. x, λ x. x), are_read rule unpacking (packed_requests rule))
@@ -82,18 +82,18 @@ packed_read rule plain = (λ m raw rest. (λ x. x, λ x. x), are_read rule unpac
 module _ (F : List (List ℕ) → Type 0) (rules : MessageRules) (limit : Option ℕ) where
   accepts : (old : Option (List ℕ)) → AreRead rules → rules.plain
       → IfSome old (λ raw. (m : List (List ℕ)) (rest : List ℕ) → rules.stream.finds m raw rest → IsWithin m limit → F m)
-      → IfSome old (λ raw. (m : List (List ℕ)) (rest : List ℕ) → BeginsWith rules.is_text limit m raw rest → F m)
+      → IfSome old (λ raw. (m : List (List ℕ)) (rest : List ℕ) → BeginsWith rules.is_encoding limit m raw rest → F m)
   accepts None laws plain accepted = tt
   accepts (Some raw) laws plain accepted = λ m rest begins.
-      accepted m rest (((laws plain).0 m raw rest).1 (begins.text, begins.is_text, begins.spelled)) begins.within
+      accepted m rest (((laws plain).0 m raw rest).1 (begins.encoding, begins.is_encoding, begins.spelled)) begins.within
 
   accepts_none : (old : Option (List ℕ)) → AreRead rules → rules.plain → IfSome old (λ raw. raw ≡ [])
-      → IfSome old (λ raw. (m : List (List ℕ)) (rest : List ℕ) → BeginsWith rules.is_text limit m raw rest → F m)
+      → IfSome old (λ raw. (m : List (List ℕ)) (rest : List ℕ) → BeginsWith rules.is_encoding limit m raw rest → F m)
   accepts_none None laws plain none = tt
   accepts_none (Some raw) laws plain none = λ m rest begins. absurd ((laws plain).1 limit m raw rest none begins)
 
   accepts_some : (old : Option (List ℕ)) → ((m : List (List ℕ)) → F m)
-      → IfSome old (λ raw. (m : List (List ℕ)) (rest : List ℕ) → BeginsWith rules.is_text limit m raw rest → F m)
+      → IfSome old (λ raw. (m : List (List ℕ)) (rest : List ℕ) → BeginsWith rules.is_encoding limit m raw rest → F m)
   accepts_some None holds = tt
   accepts_some (Some raw) holds = λ m rest begins. holds m
 
@@ -102,18 +102,18 @@ module _ {S : Type 0} (source : Ghosts S) (old new : S) (rules : MessageRules) (
   begins : (r : Result (Option (List (List ℕ))) Error) → AreRead rules → rules.plain
       → IfOk r (λ found. IfSome found (λ m. IsWithin m options.traversal_limit_in_words))
       → IfOk r (λ found. IfSome found (λ m. IfKnown (source.unread old) (source.unread new) (rules.stream.finds m)))
-      → IfOk r (λ found. IfSome found (λ m. IfKnown (source.unread old) (source.unread new) (BeginsWith rules.is_text options.traversal_limit_in_words m)))
-  begins r laws plain = begins_next rules.is_text rules.stream options.traversal_limit_in_words (source.unread old) (source.unread new) r (laws plain).0
+      → IfOk r (λ found. IfSome found (λ m. IfKnown (source.unread old) (source.unread new) (BeginsWith rules.is_encoding options.traversal_limit_in_words m)))
+  begins r laws plain = begins_next rules.is_encoding rules.stream options.traversal_limit_in_words (source.unread old) (source.unread new) r (laws plain).0
 
   pub reads_message : (next : Result (Option (List (List ℕ))) Error) → AreRead rules
       → ReadsStream source old new rules.stream options.traversal_limit_in_words next → ReadsMessage source old new rules options (reader_of options next)
   reads_message (Ok None) laws reads = record {
-    texts = λ plain. record { found = tt; accepted = accepts_none _ rules options.traversal_limit_in_words (source.unread old) laws plain reads.none };
+    encodings = λ plain. record { found = tt; accepted = accepts_none _ rules options.traversal_limit_in_words (source.unread old) laws plain reads.none };
     reads = reads;
     options_are = tt;
   }
   reads_message (Ok (Some m)) laws reads = record {
-    texts = λ plain. record {
+    encodings = λ plain. record {
       found = begins (Ok (Some m)) laws plain reads.within reads.found;
       accepted = accepts_some _ rules options.traversal_limit_in_words (source.unread old) (λ n. refl);
     };
@@ -121,21 +121,21 @@ module _ {S : Type 0} (source : Ghosts S) (old new : S) (rules : MessageRules) (
     options_are = refl;
   }
   reads_message (Err e) laws reads = record {
-    texts = λ plain. record { found = tt; accepted = accepts _ rules options.traversal_limit_in_words (source.unread old) laws plain reads.accepted };
+    encodings = λ plain. record { found = tt; accepted = accepts _ rules options.traversal_limit_in_words (source.unread old) laws plain reads.accepted };
     reads = reads;
     options_are = tt;
   }
 
   pub reads_message_into : {B : Type 0} (room : ℕ) (next : Result (Option (SeenBuffer B)) Error) → AreRead rules
-      → ReadsStreamInto source old new rules.stream options.traversal_limit_in_words room (next_in (λ held. held.segments) next)
+      → ReadsStreamInto source old new rules.stream options.traversal_limit_in_words room (next_in (λ message. message.segments) next)
       → ReadsMessageInto source old new rules options room (reader_of options next)
   reads_message_into room (Ok None) laws reads = record {
-    texts = λ plain. record { found = tt; accepted = accepts_none _ rules options.traversal_limit_in_words (source.unread old) laws plain reads.none };
+    encodings = λ plain. record { found = tt; accepted = accepts_none _ rules options.traversal_limit_in_words (source.unread old) laws plain reads.none };
     reads = reads;
     options_are = tt;
   }
   reads_message_into room (Ok (Some b)) laws reads = record {
-    texts = λ plain. record {
+    encodings = λ plain. record {
       found = begins (Ok (Some b.segments)) laws plain reads.within reads.found;
       accepted = accepts_some _ rules options.traversal_limit_in_words (source.unread old) (λ n fits. refl);
     };
@@ -143,7 +143,7 @@ module _ {S : Type 0} (source : Ghosts S) (old new : S) (rules : MessageRules) (
     options_are = refl;
   }
   reads_message_into room (Err e) laws reads = record {
-    texts = λ plain. record { found = tt; accepted = accepts _ rules options.traversal_limit_in_words (source.unread old) laws plain reads.accepted };
+    encodings = λ plain. record { found = tt; accepted = accepts _ rules options.traversal_limit_in_words (source.unread old) laws plain reads.accepted };
     reads = reads;
     options_are = tt;
   }
@@ -157,10 +157,10 @@ nothing_accepted P F Q (Some raw) accepted = λ m rest begins. let none : false 
 
 pub or_fails_accepted : {S : Type 0} (source : Ghosts S) (old new : S) (rules : MessageRules) (options : ReaderOptions) (e : Error) → rules.plain
     → OrFailsAtEnd (ReadsMessage source old new rules options) (Err e)
-    → IfSome (source.unread old) (λ raw. (m : List (List ℕ)) (rest : List ℕ) → BeginsWith rules.is_text options.traversal_limit_in_words m raw rest → ExternalError e.kind)
-or_fails_accepted source old new rules options e plain (inl reads) = (reads.texts plain).accepted
+    → IfSome (source.unread old) (λ raw. (m : List (List ℕ)) (rest : List ℕ) → BeginsWith rules.is_encoding options.traversal_limit_in_words m raw rest → ExternalError e.kind)
+or_fails_accepted source old new rules options e plain (inl reads) = (reads.encodings plain).accepted
 or_fails_accepted source old new rules options e plain (inr (end, reads)) =
-    nothing_accepted (λ m raw rest. BeginsWith rules.is_text options.traversal_limit_in_words m raw rest) (ExternalError e.kind) (λ error. ExternalError error.kind) (source.unread old) (reads.texts plain).accepted
+    nothing_accepted (λ m raw rest. BeginsWith rules.is_encoding options.traversal_limit_in_words m raw rest) (ExternalError e.kind) (λ error. ExternalError error.kind) (source.unread old) (reads.encodings plain).accepted
 
 pub or_fails_reads : {S : Type 0} (source : Ghosts S) (old new : S) (rules : MessageRules) (options : ReaderOptions) (e : Error)
     → OrFailsAtEnd (ReadsMessage source old new rules options) (Err e)

@@ -7,7 +7,7 @@ use Rattle.capnp_frame.specs.declared.error.ErrorKind.{ErrorKind}
 use Rattle.capnp_frame.specs.Prelude.{IsWithin, IsWholeWords, IsSource, IfKnown, IsTail, Adds, splitting}
 use Rattle.capnp_frame.proofs.sources.SourceLemmas.{IfKnown-join, IfKnown-refl, IfKnown-weaker}
 use Rattle.capnp_frame.proofs.encodings.FrameLemmas.{plain_requests}
-use Rattle.capnp_frame.proofs.encodings.TextLemmas.{AreRequested, PartsStreams, parts_streams, AreEncodings-push}
+use Rattle.capnp_frame.proofs.encodings.EncodingLemmas.{AreRequested, PartsStreams, parts_streams, AreEncodings-push}
 use Rattle.capnp_pack.specs.Prelude.{unpacking}
 use Rattle.capnp_pack.proofs.encodings.PackedFrameLemmas.{packed_requests}
 use Rattle.capnp.specs.declared.streams.Format.{Format}
@@ -36,13 +36,13 @@ format_read rule format plain = (λ m raw rest. (λ x. x, λ x. x), are_read rul
 
 -- What is written, message by message.
 
-WritesFrom-push : (Writes : Writing) (index : ℕ) (ms : List (List (List ℕ))) (m : List (List ℕ)) (text more : List ℕ)
-    → WritesFrom Writes index ms text → Writes (index + length ms) m more
-    → WritesFrom Writes index (ms ++ m ∷ []) (text ++ more)
-WritesFrom-push Writes index [] m text more all here =
+WritesFrom-push : (Writes : Writing) (index : ℕ) (ms : List (List (List ℕ))) (m : List (List ℕ)) (encoding more : List ℕ)
+    → WritesFrom Writes index ms encoding → Writes (index + length ms) m more
+    → WritesFrom Writes index (ms ++ m ∷ []) (encoding ++ more)
+WritesFrom-push Writes index [] m encoding more all here =
     let first : index + 0 ≡ index = omega arith in
     (more, [], subst (λ k. Writes k m more) first here, refl, ap (λ l. l ++ more) all ∙ sym (append-nil more))
-WritesFrom-push Writes index (n ∷ ns) m text more all here =
+WritesFrom-push Writes index (n ∷ ns) m encoding more all here =
     let moved : index + length (n ∷ ns) ≡ index + 1 + length ns = omega arith in (
       all.0,
       all.1 ++ more,
@@ -56,15 +56,15 @@ pub HasWritten-none : (rule : Padding) (format : Format) (limit : Option ℕ) (W
 HasWritten-none rule format limit Writes written raw = record {
   messages = [];
   counted = refl;
-  texts = refl;
+  encodings = refl;
   written = IfKnown-refl (Adds (WritesAll Writes [])) written (λ l. ([], refl, sym (append-nil l)));
 }
 
 Adds-join : (Writes : Writing) (ms : List (List (List ℕ))) (m : List (List ℕ)) (x y z : List ℕ)
     → Adds (WritesAll Writes ms) x y → Adds (Writes (length ms) m) y z → Adds (WritesAll Writes (ms ++ m ∷ [])) x z
-Adds-join Writes ms m x y z (text, all, e) (more, here, f) =
+Adds-join Writes ms m x y z (encoding, all, e) (more, here, f) =
     let at : length ms ≡ 0 + length ms = omega arith in
-    (text ++ more, WritesFrom-push Writes 0 ms m text more all (subst (λ k. Writes k m more) at here), f ∙ ap (λ l. l ++ more) e ∙ append_assoc x text more)
+    (encoding ++ more, WritesFrom-push Writes 0 ms m encoding more all (subst (λ k. Writes k m more) at here), f ∙ ap (λ l. l ++ more) e ∙ append_assoc x encoding more)
 
 -- one more message is written
 pub HasWritten-next : (rule : Padding) (format : Format) (limit : Option ℕ) (Writes : Writing) (count : ℕ)
@@ -75,7 +75,7 @@ pub HasWritten-next : (rule : Padding) (format : Format) (limit : Option ℕ) (W
 HasWritten-next rule format limit Writes count before between after raw mid rest written next = record {
   messages = written.messages ++ next.message ∷ [];
   counted = length_push written.messages next.message ∙ ap (λ k. k + 1) written.counted;
-  texts = AreEncodings-push (grammar_of rule format) limit written.messages next.message raw mid rest written.texts next.is_found;
+  encodings = AreEncodings-push (grammar_of rule format) limit written.messages next.message raw mid rest written.encodings next.is_found;
   written = IfKnown-join before between after (Adds-join Writes written.messages next.message) written.written
       (subst (λ k. IfKnown between after (Adds (Writes k next.message))) (sym written.counted) next.written);
 }

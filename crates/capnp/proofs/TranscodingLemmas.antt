@@ -11,16 +11,16 @@ use Rattle.capnp.specs.declared.streams.Format.{Format}
 use Rattle.capnp.specs.declared.streams.FailedAt.{FailedAt}
 use Rattle.capnp.specs.declared.transcoding.Way.{Way}
 use Rattle.capnp.specs.declared.transcoding.Way.TheVariants.{Pack, Unpack}
-use Rattle.capnp.specs.Prelude.{IsPlainSink, Writing, WritingErrors, WritesFrom, HasWritten, RanOut, HasFailed, HasRun, WritesEach, Transcodes, IsOtherText}
-use Rattle.capnp.proofs.WriterLemmas.{frame_bytes_added, packed_text_added}
+use Rattle.capnp.specs.Prelude.{IsPlainSink, Writing, WritingErrors, WritesFrom, HasWritten, RanOut, HasFailed, HasRun, WritesEach, Transcodes, IsOtherEncoding}
+use Rattle.capnp.proofs.WriterLemmas.{frame_bytes_added, packed_encoding_added}
 
 -- what is written of each message is what is weaker
 abbrev IsWeaker : Writing → Writing → Type 0
-IsWeaker P Q = (index : ℕ) (m : List (List ℕ)) (text : List ℕ) → P index m text → Q index m text
+IsWeaker P Q = (index : ℕ) (m : List (List ℕ)) (encoding : List ℕ) → P index m encoding → Q index m encoding
 
-WritesFrom-weaker : (P Q : Writing) → IsWeaker P Q → (index : ℕ) (ms : List (List (List ℕ))) (text : List ℕ) → WritesFrom P index ms text → WritesFrom Q index ms text
-WritesFrom-weaker P Q weaker index [] text all = all
-WritesFrom-weaker P Q weaker index (m ∷ ms) text (first, others, here, more, e) = (first, others, weaker index m first here, WritesFrom-weaker P Q weaker (index + 1) ms others more, e)
+WritesFrom-weaker : (P Q : Writing) → IsWeaker P Q → (index : ℕ) (ms : List (List (List ℕ))) (encoding : List ℕ) → WritesFrom P index ms encoding → WritesFrom Q index ms encoding
+WritesFrom-weaker P Q weaker index [] encoding all = all
+WritesFrom-weaker P Q weaker index (m ∷ ms) encoding (first, others, here, more, e) = (first, others, weaker index m first here, WritesFrom-weaker P Q weaker (index + 1) ms others more, e)
 
 HasWritten-weaker : (rule : Padding) (format : Format) (limit : Option ℕ) (P Q : Writing) → IsWeaker P Q → (count : ℕ)
     (before after : Option (List ℕ)) (raw rest : List ℕ) → HasWritten rule format limit P count before after raw rest
@@ -28,8 +28,8 @@ HasWritten-weaker : (rule : Padding) (format : Format) (limit : Option ℕ) (P Q
 HasWritten-weaker rule format limit P Q weaker count before after raw rest written = record {
   messages = written.messages;
   counted = written.counted;
-  texts = written.texts;
-  written = IfKnown-weaker before after (λ x y (text, all, e). (text, WritesFrom-weaker P Q weaker 0 written.messages text all, e)) written.written;
+  encodings = written.encodings;
+  written = IfKnown-weaker before after (λ x y (encoding, all, e). (encoding, WritesFrom-weaker P Q weaker 0 written.messages encoding all, e)) written.written;
 }
 
 -- and so of a run
@@ -66,10 +66,10 @@ HasFailed-weaker rule format limit P Q Errors weaker count kind left before afte
 })
 
 -- a plain sink gets the encoding of a message in the other format
-pub other_text_added : (way : Way) (appends : Appending) → IsPlainSink appends → (index : ℕ) (message : List (List ℕ))
-    (text : List ℕ) → Transcodes way appends index message text → IsOtherText way index message text
-other_text_added Pack appends plain index message text all = packed_text_added appends plain message text all
-other_text_added Unpack appends plain index message text all = frame_bytes_added appends plain message text all
+pub other_encoding_added : (way : Way) (appends : Appending) → IsPlainSink appends → (index : ℕ) (message : List (List ℕ))
+    (encoding : List ℕ) → Transcodes way appends index message encoding → IsOtherEncoding way index message encoding
+other_encoding_added Pack appends plain index message encoding all = packed_encoding_added appends plain message encoding all
+other_encoding_added Unpack appends plain index message encoding all = frame_bytes_added appends plain message encoding all
 
 IfSome-weaker : {P Q : List ℕ → Type 0} (unread : Option (List ℕ)) → ((raw : List ℕ) → P raw → Q raw) → IfSome unread P → IfSome unread Q
 IfSome-weaker None weaker p = tt

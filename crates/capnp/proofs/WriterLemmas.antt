@@ -8,7 +8,7 @@ use Rattle.capnp_frame.specs.Prelude.{KeepsLimit, IsWithin, IsWholeWords, length
 use Rattle.capnp_frame.specs.declared.io.Write.{Ghosts}
 use Rattle.capnp_frame.proofs.sources.SourceLemmas.{IfKnown-weaker}
 use Rattle.capnp_frame.proofs.encodings.SizeLemmas.{concat-chunks, length-frame_bytes}
-use Rattle.capnp_frame.proofs.encodings.TextLemmas.{chunks_joined}
+use Rattle.capnp_frame.proofs.encodings.EncodingLemmas.{chunks_joined}
 use Rattle.capnp_frame.proofs.sinks.WritingLemmas.{length-lengths}
 use Rattle.capnp_pack.specs.Prelude.{AppendsPacked, PackedChunkError}
 use Rattle.capnp_pack.proofs.encodings.PackedEncodingLemmas.{packed_chunks}
@@ -16,26 +16,26 @@ use Rattle.capnp.specs.declared.streams.Format.TheVariants.{Framed, Packed}
 use Rattle.capnp.specs.Prelude.{IsPlainSink, IsFrameEncoding, IsPackedEncodingOf, WriterError, AppendsMessage, LeavesMessage, WritesMessage}
 
 -- a plain sink gets the chunks themselves
-AppendsAll-plain : (appends : Appending) (xs : List (List ℕ)) (text : List ℕ) → IsPlainSink appends → AppendsAll appends xs text → AppendsAll AppendsSame xs text
-AppendsAll-plain appends [] text plain all = all
-AppendsAll-plain appends (x ∷ xs) text plain (first, others, here, more, e) = (first, others, plain x first here, AppendsAll-plain appends xs others plain more, e)
+AppendsAll-plain : (appends : Appending) (xs : List (List ℕ)) (encoding : List ℕ) → IsPlainSink appends → AppendsAll appends xs encoding → AppendsAll AppendsSame xs encoding
+AppendsAll-plain appends [] encoding plain all = all
+AppendsAll-plain appends (x ∷ xs) encoding plain (first, others, here, more, e) = (first, others, plain x first here, AppendsAll-plain appends xs others plain more, e)
 
-AppendsAll-packed : (appends : Appending) (xs : List (List ℕ)) (text : List ℕ) → IsPlainSink appends → AppendsAll (AppendsPacked appends) xs text → AppendsAll (AppendsPacked AppendsSame) xs text
-AppendsAll-packed appends [] text plain all = all
-AppendsAll-packed appends (x ∷ xs) text plain (first, others, here, more, e) =
+AppendsAll-packed : (appends : Appending) (xs : List (List ℕ)) (encoding : List ℕ) → IsPlainSink appends → AppendsAll (AppendsPacked appends) xs encoding → AppendsAll (AppendsPacked AppendsSame) xs encoding
+AppendsAll-packed appends [] encoding plain all = all
+AppendsAll-packed appends (x ∷ xs) encoding plain (first, others, here, more, e) =
     (first, others, (here.0, here.1, AppendsAll-plain appends here.0 first plain here.2), AppendsAll-packed appends xs others plain more, e)
 
 -- so it gets the encoding of a message, framed and packed
-pub frame_bytes_added : (appends : Appending) → IsPlainSink appends → (message : List (List ℕ)) (text : List ℕ) → AppendsAll appends (chunks message) text → IsFrameEncoding message text
-frame_bytes_added appends plain message text all = (chunks_joined (chunks message) text).0 (AppendsAll-plain appends (chunks message) text plain all) ∙ concat-chunks message
+pub frame_bytes_added : (appends : Appending) → IsPlainSink appends → (message : List (List ℕ)) (encoding : List ℕ) → AppendsAll appends (chunks message) encoding → IsFrameEncoding message encoding
+frame_bytes_added appends plain message encoding all = (chunks_joined (chunks message) encoding).0 (AppendsAll-plain appends (chunks message) encoding plain all) ∙ concat-chunks message
 
-pub packed_text_added : (appends : Appending) → IsPlainSink appends → (message : List (List ℕ)) (text : List ℕ) → AppendsAll (AppendsPacked appends) (chunks message) text → IsPackedEncodingOf message text
-packed_text_added appends plain message text all = (packed_chunks message text).0 (AppendsAll-packed appends (chunks message) text plain all)
+pub packed_encoding_added : (appends : Appending) → IsPlainSink appends → (message : List (List ℕ)) (encoding : List ℕ) → AppendsAll (AppendsPacked appends) (chunks message) encoding → IsPackedEncodingOf message encoding
+packed_encoding_added appends plain message encoding all = (packed_chunks message encoding).0 (AppendsAll-packed appends (chunks message) encoding plain all)
 
 -- what is added is what is weaker
-pub Adds-weaker : {X : Type 0} {P Q : List ℕ → Type 0} (r : Result X Error) (old new : Option (List ℕ)) → ((text : List ℕ) → P text → Q text) → OnOk r (IfKnown old new (Adds P)) → OnOk r (IfKnown old new (Adds Q))
+pub Adds-weaker : {X : Type 0} {P Q : List ℕ → Type 0} (r : Result X Error) (old new : Option (List ℕ)) → ((encoding : List ℕ) → P encoding → Q encoding) → OnOk r (IfKnown old new (Adds P)) → OnOk r (IfKnown old new (Adds Q))
 Adds-weaker (Err e) old new weaker added = tt
-Adds-weaker (Ok x) old new weaker added = IfKnown-weaker old new (λ before after (text, p, e). (text, weaker text p, e)) added
+Adds-weaker (Ok x) old new weaker added = IfKnown-weaker old new (λ before after (encoding, p, e). (encoding, weaker encoding p, e)) added
 
 -- a message that was read can be written
 pub IsWritable-within : (message : List (List ℕ)) (limit : Option ℕ) → IsWithin message limit → AllByRecursion IsWholeWords message → IsWritable message
@@ -68,10 +68,10 @@ writer_error L refuses message limit (Err e) within (inr (inr (inl many))) =
 writer_error L refuses message limit (Err e) within (inr (inr (inr memory))) = inr (inl (memory.1, memory.0))
 
 -- the size of an encoding that was written
-pub text_size : (r : Result ℕ Error) (message : List (List ℕ)) → IsWritable message → IfOk r (λ words. words ≡ serialized_words message)
-    → IfOk r (λ words. (text : List ℕ) → IsFrameEncoding message text → length text ≡ 8 * words)
-text_size (Err e) message writable size = tt
-text_size (Ok words) message writable size = λ text is. ap length is ∙ length-frame_bytes message writable ∙ ap (λ (n : ℕ). 8 * n) (sym size)
+pub encoding_size : (r : Result ℕ Error) (message : List (List ℕ)) → IsWritable message → IfOk r (λ words. words ≡ serialized_words message)
+    → IfOk r (λ words. (encoding : List ℕ) → IsFrameEncoding message encoding → length encoding ≡ 8 * words)
+encoding_size (Err e) message writable size = tt
+encoding_size (Ok words) message writable size = λ encoding is. ap length is ∙ length-frame_bytes message writable ∙ ap (λ (n : ℕ). 8 * n) (sym size)
 
 -- what the engine writes of a message, framed
 pub frame_written : {S X : Type 0} (sink : Ghosts S) (old new : S) (message : List (List ℕ)) (r : Result X Error)
@@ -79,7 +79,7 @@ pub frame_written : {S X : Type 0} (sink : Ghosts S) (old new : S) (message : Li
 frame_written sink old new message r reported = record {
   count = reported.count;
   unwritten = reported.unwritten;
-  text = λ plain. Adds-weaker r _ _ (frame_bytes_added sink.appends plain message) reported.parts.written;
+  encoding = λ plain. Adds-weaker r _ _ (frame_bytes_added sink.appends plain message) reported.parts.written;
   written = reported.parts.written;
   left = reported.parts.left;
   errors = reported.parts.errors;
@@ -111,7 +111,7 @@ pub packed_written : {S P X : Type 0} (sink : Ghosts S) (see : P → S) (old new
 packed_written sink see old new message r count unwritten written left errors untouched failed grows = record {
   count = count;
   unwritten = λ many. ap see (unwritten many);
-  text = λ plain. Adds-weaker r _ _ (packed_text_added sink.appends plain message) written;
+  encoding = λ plain. Adds-weaker r _ _ (packed_encoding_added sink.appends plain message) written;
   written = written;
   left = left;
   errors = errors;

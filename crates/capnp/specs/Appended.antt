@@ -22,7 +22,7 @@ pub record FailsWithin {S : Type 0} (source : Ghosts S) (old new : S) (rule : Pa
   pub between : S
   pub messages : List (List (List ℕ))
   pub fewer : length messages < count
-  pub texts : IfKnown (source.unread old) (source.unread between) (AreEncodings (grammar_of rule format) limit messages)
+  pub encodings : IfKnown (source.unread old) (source.unread between) (AreEncodings (grammar_of rule format) limit messages)
   -- what the reader of the next message keeps where it fails
   pub next : OrFailsAtEnd (ReadsStream source between new (rules_of rule format) limit) (Err error)
 
@@ -32,7 +32,7 @@ pub record ListMemoryError {S : Type 0} (source : Ghosts S) (old new : S) (forma
   pub messages : List (List (List ℕ))
   pub some : 0 < length messages
   pub within : length messages ≤ count
-  pub texts : IfKnown (source.unread old) (source.unread new) (AreEncodings (grammar_of Zero format) limit messages)
+  pub encodings : IfKnown (source.unread old) (source.unread new) (AreEncodings (grammar_of Zero format) limit messages)
 
 -- What a call returns that reads `count` messages of zero padding. `segments` and `options_of` are
 -- what is seen of a reader, and `readers` the list of them.

@@ -17,16 +17,16 @@ pub record IsForm (pointer : Pointer) (form : List ℕ) : Type 0 where
   pub whole : IsWholeWords form
 
 -- the framed encoding of that form
-abbrev pub IsCanonicalText : Pointer → List ℕ → Type 0
-IsCanonicalText pointer text = (form : List ℕ) × IsForm pointer form × IsFrameEncoding (form ∷ []) text
+abbrev pub IsCanonicalEncoding : Pointer → List ℕ → Type 0
+IsCanonicalEncoding pointer encoding = (form : List ℕ) × IsForm pointer form × IsFrameEncoding (form ∷ []) encoding
 
 -- what a sink adds for it
 abbrev pub AppendsForm : Pointer → Appending → List ℕ → Type 0
-AppendsForm pointer appends text = (form : List ℕ) × IsForm pointer form × AppendsAll appends (chunks (form ∷ [])) text
+AppendsForm pointer appends encoding = (form : List ℕ) × IsForm pointer form × AppendsAll appends (chunks (form ∷ [])) encoding
 
 -- what a call that fails leaves of it: nothing, or its first chunks and what the sink leaves of the next one
 abbrev pub LeavesForm : Pointer → Appending → Leaving → List ℕ → Type 0
-LeavesForm pointer appends leaves text = (text ≡ []) ⊎ ((form : List ℕ) × IsForm pointer form × LeavesSome appends leaves (chunks (form ∷ [])) text)
+LeavesForm pointer appends leaves encoding = (encoding ≡ []) ⊎ ((form : List ℕ) × IsForm pointer form × LeavesSome appends leaves (chunks (form ∷ [])) encoding)
 
 -- the sink fails for a chunk of it
 abbrev pub FormSinkError : Pointer → Declining → ErrorKind → Type 0
@@ -41,7 +41,7 @@ WrittenFormError pointer refuses kind = CanonicalFormError pointer kind ⊎ Form
 -- of the trait Write), `old` and `new` are the sink before the call and after it.
 pub record WritesForm {S X : Type 0} (sink : Ghosts S) (old new : S) (pointer : Pointer) (result : Result X Error) : Type 0 where
   -- a plain sink gets the framed encoding of the form
-  pub text : IsPlainSink sink.appends → OnOk result (IfKnown (sink.written old) (sink.written new) (Adds (IsCanonicalText pointer)))
+  pub encoding : IsPlainSink sink.appends → OnOk result (IfKnown (sink.written old) (sink.written new) (Adds (IsCanonicalEncoding pointer)))
   -- where there is no form, the call fails with the reason, and the sink is as it was
   pub form_error : (kind : ErrorKind) → CanonicalFormError pointer kind → IsErrAnd result (λ error. error.kind ≡ kind) × (new ≡ old)
   -- every sink gets what the chunks of the form add

@@ -38,7 +38,7 @@ taken_so_far contents output = writer_contents (λ retried. contents retried.dev
 
 -- What each call of a device keeps that holds its last error, `old` before the call and `new` after it.
 pub record KeepsDeviceError {X : Type 0} (old new : Option DeviceError) (result : Result X DeviceError) : Type 0 where
-  -- the error of a call that fails is held, except for an interruption
+  -- the error of a call that fails is kept, except for an interruption
   pub noted : IfErr result (λ error. error_kind error ≢ Interrupted → new ≡ Some error)
   pub interrupted : IfErr result (λ error. error_kind error ≡ Interrupted → new ≡ old)
   pub kept : OnOk result (new ≡ old)

@@ -24,25 +24,25 @@ BufferHasRoom room message = table_size (length message) + 8 * size_in_words mes
 
 -- What a reader that allocates returns for a stream in a grammar: `old` is unread before the call,
 -- and `new` after it.
-pub record ReturnsEncodings (IsText : Grammar) (limit : Option ℕ) (old new : Option (List ℕ))
+pub record ReturnsEncodings (IsEncoding : Grammar) (limit : Option ℕ) (old new : Option (List ℕ))
     (result : Result (Option (List (List ℕ))) Error) : Type 0 where
   -- an encoding of the message that is returned is there, the message is within the limit, and only
   -- that encoding is consumed
-  pub found : IfOk result (λ found. IfSome found (λ message. IfKnown old new (BeginsWith IsText limit message)))
+  pub found : IfOk result (λ found. IfSome found (λ message. IfKnown old new (BeginsWith IsEncoding limit message)))
   -- where there is an encoding of a message within the limit, a message is returned, except for the
   -- device's failure or for want of memory
-  pub accepted : IfSome old (λ raw. (message : List (List ℕ)) (rest : List ℕ) → BeginsWith IsText limit message raw rest
+  pub accepted : IfSome old (λ raw. (message : List (List ℕ)) (rest : List ℕ) → BeginsWith IsEncoding limit message raw rest
       → MatchResult result IsSome (λ error. ExternalError error.kind))
 
 -- What a reader into a caller-provided buffer of `room` bytes returns.
-pub record ReturnsEncodingsInto (IsText : Grammar) (limit : Option ℕ) (room : ℕ) (old new : Option (List ℕ))
+pub record ReturnsEncodingsInto (IsEncoding : Grammar) (limit : Option ℕ) (room : ℕ) (old new : Option (List ℕ))
     (result : Result (Option (List (List ℕ))) Error) : Type 0 where
   -- an encoding of the message that is returned is there, the message is within the limit, and only
   -- that encoding is consumed
-  pub found : IfOk result (λ found. IfSome found (λ message. IfKnown old new (BeginsWith IsText limit message)))
+  pub found : IfOk result (λ found. IfSome found (λ message. IfKnown old new (BeginsWith IsEncoding limit message)))
   -- where there is an encoding of a message within the limit, and the buffer has room for it, a
   -- message is returned, except for the device's failure
-  pub accepted : IfSome old (λ raw. (message : List (List ℕ)) (rest : List ℕ) → BeginsWith IsText limit message raw rest
+  pub accepted : IfSome old (λ raw. (message : List (List ℕ)) (rest : List ℕ) → BeginsWith IsEncoding limit message raw rest
       → BufferHasRoom room message → MatchResult result IsSome (λ error. error.kind ≡ DeviceFailed))
 
 -- A reader of what was read, with these options.
@@ -52,21 +52,21 @@ reader_of options next = result_map_both (option_map (λ segments. record { segm
 -- What a reader of messages goes by: the encodings of its format, over which sources it reads just
 -- these, and the rules of its stream.
 pub record MessageRules : Type 1 where
-  pub is_text : Grammar
+  pub is_encoding : Grammar
   pub plain : Type 0
   pub stream : StreamRules
 
 -- framed messages of a source, with a padding that the rule accepts
 abbrev pub framed : {S : Type 0} → Padding → Ghosts S → MessageRules
 framed rule source = record {
-  is_text = IsFrame rule;
+  is_encoding = IsFrame rule;
   plain = IsPlainSource source.gives source.refuses;
   stream = framed_rules rule source.gives source.refuses;
 }
 
 -- packed ones
 abbrev pub packed : Padding → MessageRules
-packed rule = record { is_text = IsPackedFrame rule; plain = ⊤; stream = packed_rules rule }
+packed rule = record { is_encoding = IsPackedFrame rule; plain = ⊤; stream = packed_rules rule }
 
 -- messages that are read into the memory of the message `kept`
 abbrev pub framed_reusing : {S : Type 0} → Padding → Ghosts S → List (List ℕ) → MessageRules
@@ -77,14 +77,14 @@ packed_reusing rule kept = record (packed rule) { stream = packed_reusing_rules 
 
 -- messages of either format, of a source of plain bytes
 abbrev pub by_format : Padding → Format → MessageRules
-by_format rule format = record { is_text = grammar_of rule format; plain = ⊤; stream = rules_of rule format }
+by_format rule format = record { is_encoding = grammar_of rule format; plain = ⊤; stream = rules_of rule format }
 
 -- What each reader of the next message of a stream returns. `source` is what is seen of the source
 -- (the members of the trait Read), `old` and `new` are the source before the call and after it.
 pub record ReadsMessage {S : Type 0} (source : Ghosts S) (old new : S) (rules : MessageRules) (options : ReaderOptions)
     (result : Result (Option (ReadMessage (List (List ℕ)))) Error) : Type 0 where
   -- over a source of plain bytes: the unread bytes begin with an encoding of the message
-  pub texts : rules.plain → ReturnsEncodings rules.is_text options.traversal_limit_in_words (source.unread old) (source.unread new)
+  pub encodings : rules.plain → ReturnsEncodings rules.is_encoding options.traversal_limit_in_words (source.unread old) (source.unread new)
       (next_in (λ reader. reader.segments) result)
   -- over any source: what its requests give, and when they fail
   pub reads : ReadsStream source old new rules.stream options.traversal_limit_in_words (next_in (λ reader. reader.segments) result)
@@ -95,7 +95,7 @@ pub record ReadsMessage {S : Type 0} (source : Ghosts S) (old new : S) (rules : 
 pub record ReadsMessageInto {S B : Type 0} (source : Ghosts S) (old new : S) (rules : MessageRules) (options : ReaderOptions) (room : ℕ)
     (result : Result (Option (ReadMessage (SeenBuffer B))) Error) : Type 0 where
   -- over a source of plain bytes: the unread bytes begin with an encoding of the message
-  pub texts : rules.plain → ReturnsEncodingsInto rules.is_text options.traversal_limit_in_words room (source.unread old) (source.unread new)
+  pub encodings : rules.plain → ReturnsEncodingsInto rules.is_encoding options.traversal_limit_in_words room (source.unread old) (source.unread new)
       (next_in (λ reader. reader.segments.segments) result)
   -- over any source: what its requests give, and when they fail
   pub reads : ReadsStreamInto source old new rules.stream options.traversal_limit_in_words room (next_in (λ reader. reader.segments.segments) result)

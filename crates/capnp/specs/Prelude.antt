@@ -11,5 +11,5 @@ pub use Rattle.capnp.specs.RecordLog.{IsCutLog, IsLog}
 pub use Rattle.capnp.specs.Roots.{HasRootTree}
 pub use Rattle.capnp.specs.Runs.{FailsWithinOr, WritingErrors, WritingErrorAt, HasRun, HasFailed, HasWritten, HasWrittenNext, FailsByRun, ReadingError, IsResultOf, RunError, WritingError, RanOut, FailedReading, FailedWriting, RunErrorOf, WritesAll, WritesEach, WritesFrom, Writing, most_messages}
 pub use Rattle.capnp.specs.Streams.{BeginsFramed, BeginsPacked, EndsBy, IsPlainSource, IsStream, NextError, FoundNext, TakesForNext, gives_of, grammar_of, refuses_of, rules_of, skipping_rules_of}
-pub use Rattle.capnp.specs.Transcoding.{TranscodedErrors, IsOtherText, Transcodes, input_of}
-pub use Rattle.capnp.specs.Written.{AppendsEach, AppendsMessage, ErrorsAs, IsFrameEncoding, IsPackedEncodingOf, IsPlainSink, IsTextOf, LeavesMessage, SegmentCountErrorIn, OneOfError, WriterError, FailsAmong, FailsAtMessage, WritesMessage, output_of}
+pub use Rattle.capnp.specs.Transcoding.{TranscodedErrors, IsOtherEncoding, Transcodes, input_of}
+pub use Rattle.capnp.specs.Written.{AppendsEach, AppendsMessage, ErrorsAs, IsFrameEncoding, IsPackedEncodingOf, IsPlainSink, IsEncodingOf, LeavesMessage, SegmentCountErrorIn, OneOfError, WriterError, FailsAmong, FailsAtMessage, WritesMessage, output_of}

@@ -43,7 +43,7 @@ pub record ReadsEach (rule : Padding) (format : Format) (limit : Option ℕ) (st
     (reason : Option Error) : Type 0 where
   -- the messages are the first `end` bytes
   pub within : end ≤ length stream
-  pub texts : AreEncodings (grammar_of rule format) limit messages stream (drop end stream)
+  pub encodings : AreEncodings (grammar_of rule format) limit messages stream (drop end stream)
   -- and there the stream ends, or its reader fails with this kind, or memory is taken and lacking
   pub ends : EndsReading rule format limit reason stream (drop end stream)
   -- memory is taken only where there are bytes

@@ -8,14 +8,14 @@ use Rattle.capnp_frame.specs.Prelude.{KeepsLimit, lengths, Adds, KeepsCount, IsW
 use Rattle.capnp.specs.declared.streams.Format.TheVariants.{Packed}
 use Rattle.capnp.specs.Reading.{kind_of, IsMemoryError, IsCut}
 use Rattle.capnp.specs.Streams.{EndsBy}
-use Rattle.capnp.specs.Written.{IsTextOf, IsPackedEncodingOf, AppendsEach}
+use Rattle.capnp.specs.Written.{IsEncodingOf, IsPackedEncodingOf, AppendsEach}
 
 -- what was appended of these records, none of more segments than a writer takes, each within the limit of words
 pub record IsLog (limit : Option ℕ) (records : List (List (List ℕ))) (log : List ℕ) : Type 0 where
   pub writable : AllByRecursion IsWritable records
   pub few : AllByRecursion IsWithinSegmentLimit records
   pub size : AllByRecursion (λ record_is. KeepsLimit (lengths record_is) limit) records
-  pub appended : AppendsEach (IsTextOf Packed) records log
+  pub appended : AppendsEach (IsEncodingOf Packed) records log
 
 -- What appending a record does to a log, `old` before the call and `new` after it.
 pub record AppendsRecord {X : Type 0} (message : List (List ℕ)) (old new : List ℕ) (result : Result X Error) : Type 0 where

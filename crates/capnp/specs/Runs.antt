@@ -12,7 +12,7 @@ use Rattle.capnp.specs.declared.streams.FailedAt.{FailedAt}
 use Rattle.capnp.specs.Headline.{ExternalError}
 use Rattle.capnp.specs.Streams.{grammar_of, gives_of, refuses_of, FoundNext, NextError, IsStream}
 
--- What is written for a message, by its index, as a relation: `Writes index message text`.
+-- What is written for a message, by its index, as a relation: `Writes index message encoding`.
 abbrev pub Writing : Type 1
 Writing = ℕ → List (List ℕ) → List ℕ → Type 0
 
@@ -29,11 +29,11 @@ pub record WritingErrors : Type 1 where
 
 -- what is written for messages, the first of which has this index
 abbrev pub WritesFrom : Writing → ℕ → List (List (List ℕ)) → List ℕ → Type 0
-WritesFrom Writes index [] text = text ≡ []
-WritesFrom Writes index (m ∷ ms) text = (first others : List ℕ) × Writes index m first × WritesFrom Writes (index + 1) ms others × (text ≡ first ++ others)
+WritesFrom Writes index [] encoding = encoding ≡ []
+WritesFrom Writes index (m ∷ ms) encoding = (first others : List ℕ) × Writes index m first × WritesFrom Writes (index + 1) ms others × (encoding ≡ first ++ others)
 
 abbrev pub WritesAll : Writing → List (List (List ℕ)) → List ℕ → Type 0
-WritesAll Writes messages text = WritesFrom Writes 0 messages text
+WritesAll Writes messages encoding = WritesFrom Writes 0 messages encoding
 
 -- the next message of a stream was written, under this index
 pub record HasWrittenNext (rule : Padding) (format : Format) (limit : Option ℕ) (Writes : Writing) (index : ℕ) (before after : Option (List ℕ)) (raw rest : List ℕ) : Type 0 where
@@ -45,7 +45,7 @@ pub record HasWrittenNext (rule : Padding) (format : Format) (limit : Option ℕ
 pub record HasWritten (rule : Padding) (format : Format) (limit : Option ℕ) (Writes : Writing) (count : ℕ) (before after : Option (List ℕ)) (raw rest : List ℕ) : Type 0 where
   pub messages : List (List (List ℕ))
   pub counted : length messages ≡ count
-  pub texts : AreEncodings (grammar_of rule format) limit messages raw rest
+  pub encodings : AreEncodings (grammar_of rule format) limit messages raw rest
   pub written : IfKnown before after (Adds (WritesAll Writes messages))
 
 -- where memory is taken for the next message, as its reader takes it, or as a call that skips it takes it for the lengths of any number

@@ -37,7 +37,7 @@ refuses_of Packed = ChunkError
 -- the rules of the readers of a format, over a source of plain bytes
 abbrev pub rules_of : Padding → Format → StreamRules
 rules_of rule format = record {
-  finds = λ message raw rest. (text : List ℕ) × grammar_of rule format text message × (raw ≡ text ++ rest);
+  finds = λ message raw rest. (encoding : List ℕ) × grammar_of rule format encoding message × (raw ≡ encoding ++ rest);
   takes_memory = TakesMemory rule (gives_of format);
   fails = StreamError rule (gives_of format) (refuses_of format);
   kinds = IsReaderKind rule (refuses_of format);
@@ -67,5 +67,5 @@ EndsBy rule format limit ending rest = EndsEncodings rule (gives_of format) (ref
 -- The stream is encodings of these messages, each within the limit, and then ends in this way.
 pub record IsStream (rule : Padding) (format : Format) (limit : Option ℕ) (messages : List (List (List ℕ))) (ending : Option ErrorKind) (raw : List ℕ) : Type 0 where
   pub rest : List ℕ
-  pub texts : AreEncodings (grammar_of rule format) limit messages raw rest
+  pub encodings : AreEncodings (grammar_of rule format) limit messages raw rest
   pub ends : EndsBy rule format limit ending rest

@@ -24,7 +24,7 @@ output_of_way Unpack = Framed
 
 -- What a sink adds for a message: its chunks, packed or as they are.
 abbrev pub Transcodes : Way → Appending → Writing
-Transcodes way appends index message text = AppendsMessage (output_of_way way) appends message text
+Transcodes way appends index message encoding = AppendsMessage (output_of_way way) appends message encoding
 
 -- and how writing it may fail: the sink fails for a chunk, or, from four segments on, memory for
 -- the table is lacking
@@ -37,9 +37,9 @@ TranscodedErrors way appends leaves refuses = record {
 }
 
 -- the encoding of a message in the other format
-abbrev pub IsOtherText : Way → Writing
-IsOtherText Pack index message text = IsPackedEncodingOf message text
-IsOtherText Unpack index message text = IsFrameEncoding message text
+abbrev pub IsOtherEncoding : Way → Writing
+IsOtherEncoding Pack index message encoding = IsPackedEncodingOf message encoding
+IsOtherEncoding Unpack index message encoding = IsFrameEncoding message encoding
 
 -- What a call does that writes each message of a stream, by this rule of padding, in the other
 -- format. `source` and `sink` are what is seen of them (the members of the traits Read and Write);
@@ -47,8 +47,8 @@ IsOtherText Unpack index message text = IsFrameEncoding message text
 pub record TranscodesEach {S T : Type 0} (source : Ghosts S) (old new : S) (sink : SinkGhosts T) (before after : T)
     (rule : Padding) (way : Way) (limit : Option ℕ) (result : Result (Unit {0}) Error) : Type 0 where
   -- a plain sink gets the encodings in the other format
-  pub texts : IsPlainSink sink.appends → WithoutCount (WritesEach source old new sink before after rule (input_of way) limit
-      (IsOtherText way) (TranscodedErrors way sink.appends sink.leaves sink.refuses)) result
+  pub encodings : IsPlainSink sink.appends → WithoutCount (WritesEach source old new sink before after rule (input_of way) limit
+      (IsOtherEncoding way) (TranscodedErrors way sink.appends sink.leaves sink.refuses)) result
   -- every sink gets what the chunks of the messages add
   pub runs : WithoutCount (WritesEach source old new sink before after rule (input_of way) limit
       (Transcodes way sink.appends) (TranscodedErrors way sink.appends sink.leaves sink.refuses)) result

@@ -13,18 +13,18 @@ use Rattle.capnp.specs.declared.streams.Format.TheVariants.{Framed, Packed}
 
 -- a plain sink adds exactly the chunk
 abbrev pub IsPlainSink : Appending → Type 0
-IsPlainSink appends = (chunk text : List ℕ) → appends chunk text → text ≡ chunk
+IsPlainSink appends = (chunk encoding : List ℕ) → appends chunk encoding → encoding ≡ chunk
 
 -- the encoding that is written of a message, framed and packed
 abbrev pub IsFrameEncoding : List (List ℕ) → List ℕ → Type 0
-IsFrameEncoding message text = text ≡ frame_bytes message
+IsFrameEncoding message encoding = encoding ≡ frame_bytes message
 
 abbrev pub IsPackedEncodingOf : List (List ℕ) → List ℕ → Type 0
-IsPackedEncodingOf message text = IsPackedEncoding text message
+IsPackedEncodingOf message encoding = IsPackedEncoding encoding message
 
-abbrev pub IsTextOf : Format → List (List ℕ) → List ℕ → Type 0
-IsTextOf Framed = IsFrameEncoding
-IsTextOf Packed = IsPackedEncodingOf
+abbrev pub IsEncodingOf : Format → List (List ℕ) → List ℕ → Type 0
+IsEncodingOf Framed = IsFrameEncoding
+IsEncodingOf Packed = IsPackedEncodingOf
 
 -- what is written of a message that is built: the used words of each segment
 abbrev pub output_of : {A : Type 0} → Built A → List (List ℕ)
@@ -64,7 +64,7 @@ pub record WritesMessage {S X : Type 0} (format : Format) (sink : Ghosts S) (old
   pub count : KeepsCount message result
   pub unwritten : IsPastSegmentLimit message → new ≡ old
   -- a plain sink gets the encoding of the message
-  pub text : IsPlainSink sink.appends → OnOk result (IfKnown (sink.written old) (sink.written new) (Adds (IsTextOf format message)))
+  pub encoding : IsPlainSink sink.appends → OnOk result (IfKnown (sink.written old) (sink.written new) (Adds (IsEncodingOf format message)))
   -- every sink gets what the message's chunks add, one after the other
   pub written : OnOk result (IfKnown (sink.written old) (sink.written new) (Adds (AppendsMessage format sink.appends message)))
   -- where it fails, what the first chunks add is written, and of the next one what the sink leaves
@@ -93,30 +93,30 @@ OneOfError refuses (m ∷ ms) kind = WriterError refuses m kind ⊎ OneOfError r
 
 -- what is added for messages, one after the other
 abbrev pub AppendsEach : (List (List ℕ) → List ℕ → Type 0) → List (List (List ℕ)) → List ℕ → Type 0
-AppendsEach Writes [] text = text ≡ []
-AppendsEach Writes (m ∷ ms) text = (first others : List ℕ) × Writes m first × AppendsEach Writes ms others × (text ≡ first ++ others)
+AppendsEach Writes [] encoding = encoding ≡ []
+AppendsEach Writes (m ∷ ms) encoding = (first others : List ℕ) × Writes m first × AppendsEach Writes ms others × (encoding ≡ first ++ others)
 
 -- A writer fails at this message with this kind, and leaves these bytes of it: none, unless the
 -- device failed or the sink failed for a chunk.
 pub record FailsAtMessage (format : Format) (appends : Appending) (leaves : Leaving) (refuses : Declining) (message : List (List ℕ)) (kind : ErrorKind)
-    (text : List ℕ) : Type 0 where
+    (encoding : List ℕ) : Type 0 where
   pub errors : WriterError (ErrorsAs format refuses) message kind
-  pub left : LeavesMessage format appends leaves message text
-  pub untouched : (kind ≡ DeviceFailed) ⊎ ChunksError (ErrorsAs format refuses) (chunks message) kind ⊎ (text ≡ [])
+  pub left : LeavesMessage format appends leaves message encoding
+  pub untouched : (kind ≡ DeviceFailed) ⊎ ChunksError (ErrorsAs format refuses) (chunks message) kind ⊎ (encoding ≡ [])
 
 -- Of messages that are written one after the other, the first ones are added, and the writer of the
 -- next one fails in this way.
 abbrev pub FailsAmong : (List (List ℕ) → List ℕ → Type 0) → (List (List ℕ) → ErrorKind → List ℕ → Type 0) → List (List (List ℕ)) → ErrorKind → List ℕ → Type 0
-FailsAmong Writes FailsOne [] kind text = ⊥
-FailsAmong Writes FailsOne (m ∷ ms) kind text = FailsOne m kind text
-    ⊎ ((first others : List ℕ) × Writes m first × FailsAmong Writes FailsOne ms kind others × (text ≡ first ++ others))
+FailsAmong Writes FailsOne [] kind encoding = ⊥
+FailsAmong Writes FailsOne (m ∷ ms) kind encoding = FailsOne m kind encoding
+    ⊎ ((first others : List ℕ) × Writes m first × FailsAmong Writes FailsOne ms kind others × (encoding ≡ first ++ others))
 
 -- What writing messages one after the other does to a sink, in this format. `sink` is what is seen of the sink (the members of
 -- the trait Write), `old` and `new` are the sink before the call and after it.
 pub record WritesMessages {S X : Type 0} (format : Format) (sink : Ghosts S) (old new : S) (messages : List (List (List ℕ)))
     (result : Result X Error) : Type 0 where
   -- a plain sink gets the encodings of the messages
-  pub text : IsPlainSink sink.appends → OnOk result (IfKnown (sink.written old) (sink.written new) (Adds (AppendsEach (IsTextOf format) messages)))
+  pub encoding : IsPlainSink sink.appends → OnOk result (IfKnown (sink.written old) (sink.written new) (Adds (AppendsEach (IsEncodingOf format) messages)))
   -- every sink gets what the messages' chunks add
   pub written : OnOk result (IfKnown (sink.written old) (sink.written new) (Adds (AppendsEach (AppendsMessage format sink.appends) messages)))
   -- where it fails, the first messages are written, and the writer of the next one fails in this

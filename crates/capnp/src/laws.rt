@@ -10,7 +10,7 @@ ghost use Rattle.capnp_build.specs.Prelude.{Space, used_of};
 ghost use Rattle.capnp.specs.declared.streams.Format.{Format};
 ghost use Rattle.capnp.specs.Roots.{HasRootTree};
 ghost use Rattle.capnp.specs.Streams.{grammar_of, FoundNext, EndsBy, IsStream};
-ghost use Rattle.capnp.specs.Written.{IsTextOf, AppendsEach};
+ghost use Rattle.capnp.specs.Written.{IsEncodingOf, AppendsEach};
 
 pub use capnp_frame::laws::{
     message_past_the_limit_fails, plain_requests_take_a_frame, slices_never_fail,
@@ -52,9 +52,9 @@ pub fn a_stream_is_one_list()
 /// of exactly these messages, within any limit of words that they keep.
 pub fn what_is_written_is_a_stream()
     ensures { (rule : Padding) (format : Format) (limit : Option ℕ) (messages : List (List (List ℕ)))
-        (text : List ℕ) → AllByRecursion IsWritable messages → AllByRecursion IsWithinSegmentLimit messages →
+        (encoding : List ℕ) → AllByRecursion IsWritable messages → AllByRecursion IsWithinSegmentLimit messages →
         AllByRecursion (λ message. KeepsLimit (lengths message) limit) messages →
-        AppendsEach (IsTextOf format) messages text → IsStream rule format limit messages None text }
+        AppendsEach (IsEncodingOf format) messages encoding → IsStream rule format limit messages None encoding }
 {}
 
 /// The tree at the root of a message that is built is the root tree of what is read of its
@@ -62,10 +62,10 @@ pub fn what_is_written_is_a_stream()
 /// the encoding is left unread.
 pub fn a_root_is_read_back()
     ensures { (rule : Padding) (format : Format) (limit : Option ℕ) (spaces : List Space) (trees : Trees)
-        (text rest left : List ℕ) (read : List (List ℕ)) → HasRootTree (map used_of spaces) trees →
+        (encoding rest left : List ℕ) (read : List (List ℕ)) → HasRootTree (map used_of spaces) trees →
         IsWritable (map used_of spaces) → IsWithinSegmentLimit (map used_of spaces) →
         KeepsLimit (lengths (map used_of spaces)) limit →
-        IsTextOf format (map used_of spaces) text →
-        FoundNext rule format limit read (text ++ rest) left →
+        IsEncodingOf format (map used_of spaces) encoding →
+        FoundNext rule format limit read (encoding ++ rest) left →
         HasRootTree read trees × (left ≡ rest) }
 {}

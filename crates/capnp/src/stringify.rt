@@ -32,18 +32,18 @@ pub fn to_text<S: ReaderSegments>(
     of: u32,
     depth: u32,
 ) -> Result<String, AllocError>
-    ensures { depth ≡ 0 → IfOk result (λ text. string_bytes text ≡ codes "(..)") }
+    ensures { depth ≡ 0 → IfOk result (λ output. string_bytes output ≡ codes "(..)") }
 {
     if depth == 0 {
         return String::from_str(alloc, "(..)");
     }
-    let mut text = String::new(alloc);
+    let mut output = String::new(alloc);
     let mut walk = Walk::new(alloc, schema, fields);
-    walk.open_root(&mut text, of, depth - 1)?;
+    walk.open_root(&mut output, of, depth - 1)?;
     for _ in 0..u64::MAX {
-        if !walk.go_on(&mut text)? {
+        if !walk.go_on(&mut output)? {
             break;
         }
     }
-    Ok(text)
+    Ok(output)
 }

@@ -17,13 +17,13 @@ pub packs_one : {S X : Type 0} (sink : Ghosts S) (old new : S) (chunk : List ℕ
     → OnOk r (IfKnown (sink.written old) (sink.written new) (Adds (AppendsPacked sink.appends chunk)))
     → IfErr r (λ error. (error.kind ≡ DeviceFailed) ⊎ PackedChunkError sink.refuses chunk error.kind)
     → IfErr r (λ error. error.kind ≡ DeviceFailed → Fails (sink.failures old) (sink.failures new))
-    → ((text : List ℕ) (more : ℕ) → Packs chunk text → sink.grants old (length text + more) → IsOk r × sink.grants new more)
+    → ((encoding : List ℕ) (more : ℕ) → Packs chunk encoding → sink.grants old (length encoding + more) → IsOk r × sink.grants new more)
     → Grows sink.written sink.failures sink.same old new → PacksChunks sink old new (chunk ∷ []) r
 packs_one {S} {X} sink old new chunk r packed errors failed granted grows = record {
   packed = added r packed;
   errors = chunk_errors r errors;
   failed = failed;
-  granted = λ text more (first, others, packs, none, e) grants.
+  granted = λ encoding more (first, others, packs, none, e) grants.
       granted first more packs (subst (λ k. sink.grants old k) (omega (arith, ap length e, ap length none, length-append first others)) grants);
   grows = grows;
 }
@@ -39,11 +39,11 @@ packs_one {S} {X} sink old new chunk r packed errors failed granted grows = reco
     chunk_errors (Err e) (inl device) = inl device
     chunk_errors (Err e) (inr p) = inr (inl p)
 
--- a text of chunks is one of the first and one of the others
-parted : (xs ys : List (List ℕ)) (text : List ℕ) → AppendsAll Packs (xs ++ ys) text
-    → (s t : List ℕ) × AppendsAll Packs xs s × AppendsAll Packs ys t × (text ≡ s ++ t)
-parted [] ys text all = ([], text, refl, all, refl)
-parted (x ∷ xs) ys text (first, others, packs, all, e) =
+-- an encoding of chunks is one of the first and one of the others
+parted : (xs ys : List (List ℕ)) (encoding : List ℕ) → AppendsAll Packs (xs ++ ys) encoding
+    → (s t : List ℕ) × AppendsAll Packs xs s × AppendsAll Packs ys t × (encoding ≡ s ++ t)
+parted [] ys encoding all = ([], encoding, refl, all, refl)
+parted (x ∷ xs) ys encoding (first, others, packs, all, e) =
     let (s, t, front, back, is) = parted xs ys others all in
     (first ++ s, t, (first, s, packs, front, refl), back, e ∙ ap (λ l. first ++ l) is ∙ sym (append_assoc first s t))
 
@@ -54,8 +54,8 @@ packs_after {S} {X} {Y} sink keeps a b c xs ys x r before reported = record {
   packed = added r reported.packed;
   errors = chunk_errors r reported.errors;
   failed = blamed r reported.failed;
-  granted = λ text more all grants.
-      let (s, t, front, back, e) = parted xs ys text all in
+  granted = λ encoding more all grants.
+      let (s, t, front, back, e) = parted xs ys encoding all in
       let all_granted : sink.grants a (length s + (length t + more)) = subst (λ k. sink.grants a k) (omega (arith, ap length e, length-append s t)) grants in
       reported.granted t more back (before.granted s (length t + more) front all_granted).1;
   grows = Grows-join a b c (keeps.transitive a b c) before.grows reported.grows;
@@ -84,8 +84,8 @@ packs_failed sink old new xs ys e reported = record {
   packed = tt;
   errors = more reported.errors;
   failed = reported.failed;
-  granted = λ text more all grants.
-      let (s, t, front, back, is) = parted xs ys text all in
+  granted = λ encoding more all grants.
+      let (s, t, front, back, is) = parted xs ys encoding all in
       absurd (false≢true (reported.granted s (length t + more) front (subst (λ k. sink.grants old k) (omega (arith, ap length is, length-append s t)) grants)).0);
   grows = reported.grows;
 }

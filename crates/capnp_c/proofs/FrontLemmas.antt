@@ -9,14 +9,14 @@ use Rattle.capnp_frame.specs.declared.error.ErrorKind.{ErrorKind}
 use Rattle.capnp_frame.specs.declared.error.ErrorKind.TheVariants.{BufferNotLargeEnough}
 use Rattle.capnp_frame.specs.declared.message.options.ReaderOptions.{ReaderOptions}
 use Rattle.capnp_frame.proofs.slices.AgreementLemmas.{index_below}
-use Rattle.capnp_frame.proofs.encodings.TextLemmas.{frames_part}
+use Rattle.capnp_frame.proofs.encodings.EncodingLemmas.{frames_part}
 use Rattle.capnp_layout.specs.Prelude.{words_of, message_of, root, NoWord, no_word, at_pointer}
 use Rattle.capnp_wire.specs.Prelude.{Pointer, IsCanonicalForm, LeadsToTree, WalkErrorFrom}
 use Rattle.capnp_wire.proofs.views.OneValueLemmas.{one_of_pointer, measured_exactly, measured_found}
 use Rattle.capnp_c.specs.Fronts.{IsAtFront, root_within, root_by, RootHasForm, RootCanonicalFormError, IsShort}
 
 pub one_front : (options : ReaderOptions) (bytes rest left : List ℕ) (segments others : List (List ℕ)) → IsAtFront options bytes segments rest → IsAtFront options bytes others left → segments ≡ others
-one_front options bytes rest left segments others p q = (frames_part p.text q.text rest left segments others p.is_text q.is_text (sym p.spelled ∙ q.spelled)).1
+one_front options bytes rest left segments others p q = (frames_part p.encoding q.encoding rest left segments others p.is_encoding q.is_encoding (sym p.spelled ∙ q.spelled)).1
 
 pub segment_words : (segments others : List (List ℕ)) (id : ℕ) (segment : List ℕ) → others ≡ segments → slice_get others id ≡ Some segment → slice_get (lengths segments) id ≡ Some (word_count segment)
 segment_words segments others id segment same is =

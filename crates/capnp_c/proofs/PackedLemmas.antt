@@ -20,13 +20,13 @@ block_error words packed kind packs (inl device) failed = absurd (never_fails ki
 block_error words packed kind packs (inr (inl (part, is))) failed = absurd (part (Packs-whole words packed packs))
 block_error words packed kind packs (inr (inr (whole, (chunk, is)))) failed = is
 
--- and what was written is their one text
+-- and what was written is their one encoding
 pub packed_fits : (words packed block : List ℕ) (n : ℕ) → Packs words packed → length block < length packed → Packs words (take n block) → ⊥
 packed_fits words packed block n packs short written =
     absurd (omega (arith, short, ap length (Packs-once words packed (take n block) packs written), length-take n block))
 
--- what was added to nothing is that text
+-- what was added to nothing is that encoding
 pub packed_alone : (words old new : List ℕ) (n used : ℕ) → n ≡ 0 → Adds (AppendsPacked AppendsSame words) (take n old) (take used new) → Packs words (take used new)
-packed_alone words old new n used none (text, packed, e) =
-    let alone : take used new ≡ text = e ∙ ap (λ k. take k old ++ text) none in
-    subst (Packs words) (sym alone) ((packed_over_plain words text).0 packed)
+packed_alone words old new n used none (encoding, packed, e) =
+    let alone : take used new ≡ encoding = e ∙ ap (λ k. take k old ++ encoding) none in
+    subst (Packs words) (sym alone) ((packed_over_plain words encoding).0 packed)

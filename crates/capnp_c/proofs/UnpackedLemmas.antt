@@ -14,14 +14,14 @@ use Rattle.capnp_c.specs.Packing.{IsMessage}
 -- the first bytes of a buffer are a framed encoding, and no more
 pub front_message : (options : ReaderOptions) (bytes : List ℕ) (segments : List (List ℕ)) (n : ℕ) → HasFrame Zero bytes segments (drop n bytes) → n ≤ length bytes
     → IsWithin segments options.traversal_limit_in_words → IsMessage options (take n bytes) segments
-front_message options bytes segments n (text, frame, e) room within =
-    let long : length text ≡ n = omega (arith, ap length e, length-append text (drop n bytes), length-drop n bytes) in
-    let front : take n bytes ≡ text = ap (take n) e ∙ take_at text (drop n bytes) n long in
-    record { text = text; is_text = frame; within = within; spelled = front ∙ sym (append-nil text) }
+front_message options bytes segments n (encoding, frame, e) room within =
+    let long : length encoding ≡ n = omega (arith, ap length e, length-append encoding (drop n bytes), length-drop n bytes) in
+    let front : take n bytes ≡ encoding = ap (take n) e ∙ take_at encoding (drop n bytes) n long in
+    record { encoding = encoding; is_encoding = frame; within = within; spelled = front ∙ sym (append-nil encoding) }
 
 -- how many packed bytes it took
 pub taken : (segments : List (List ℕ)) (packed rest : List ℕ) → PackedFound Zero segments packed rest → length rest ≤ length packed
-taken segments packed rest (text, frame, e) = omega (arith, ap length e, length-append text rest)
+taken segments packed rest (encoding, frame, e) = omega (arith, ap length e, length-append encoding rest)
 
 -- where there are no bytes, there is no packed message
 pub none_found : (segments : List (List ℕ)) (packed rest : List ℕ) → PackedFound Zero segments packed rest → packed ≡ [] → ⊥

@@ -57,11 +57,11 @@ pub record PacksMessage (options : ReaderOptions) (framed packed : List ℕ) (pa
   pub packed_is : result ≡ 0 → (segments : List (List ℕ)) × IsMessage options framed segments × IsPackedEncoding (take packed_len packed) segments
   pub within : packed_len ≤ length packed
   -- 0 where the bytes are a message, and its packed encoding has room
-  pub accepted : (segments : List (List ℕ)) (text : List ℕ) → IsMessage options framed segments → IsPackedEncoding text segments
-      → length text ≤ length packed → result ≡ 0
+  pub accepted : (segments : List (List ℕ)) (encoding : List ℕ) → IsMessage options framed segments → IsPackedEncoding encoding segments
+      → length encoding ≤ length packed → result ≡ 0
   -- 2 where that has no room
-  pub short : (segments : List (List ℕ)) (text : List ℕ) → IsMessage options framed segments → IsPackedEncoding text segments
-      → length packed < length text → result ≡ 2
+  pub short : (segments : List (List ℕ)) (encoding : List ℕ) → IsMessage options framed segments → IsPackedEncoding encoding segments
+      → length packed < length encoding → result ≡ 2
   -- 6 where bytes follow the message
   pub trailing : (segments : List (List ℕ)) (rest : List ℕ) → IsAtFront options framed segments rest → 0 < length rest → result ≡ 6
   -- where no message is there, the number of the reader's error

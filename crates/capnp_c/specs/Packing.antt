@@ -27,6 +27,6 @@ pub record PacksChunks {S X : Type 0} (sink : Ghosts S) (old new : S) (chunks : 
   -- `DeviceFailed` is returned only where the device failed
   pub failed : IfErr result (λ error. error.kind ≡ DeviceFailed → Fails (sink.failures old) (sink.failures new))
   -- where the sink grants the packed encoding, the step succeeds
-  pub granted : (text : List ℕ) (more : ℕ) → AppendsAll Packs chunks text → sink.grants old (length text + more)
+  pub granted : (encoding : List ℕ) (more : ℕ) → AppendsAll Packs chunks encoding → sink.grants old (length encoding + more)
       → IsOk result × sink.grants new more
   pub grows : Grows sink.written sink.failures sink.same old new

@@ -11,4 +11,4 @@ mod framed;
 mod options;
 mod packed;
 mod packed_messages;
-mod provided_text;
+mod provided_buffer;

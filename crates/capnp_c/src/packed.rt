@@ -5,31 +5,31 @@ ghost use Rattle.capnp_frame.specs.Prelude.{IsWholeWords, kind_number, Adds, Gro
 ghost use Rattle.capnp_frame.specs.declared.error.ErrorKind.{ErrorKind};
 ghost use Rattle.capnp_pack.specs.Prelude.{Packs, AppendsPacked, PackedChunkError, Unpacks, ChunkError};
 
-use crate::provided_text::ProvidedText;
+use crate::provided_buffer::ProvidedBuffer;
 use capnp_frame::Result;
 use capnp_frame::io::{BufRead, Read, Write};
 use capnp_pack::{PackedRead, PackedWrite, laws};
 
-/// Packs whole words into `text`, and counts the bytes that this takes.
+/// Packs whole words into `encoding`, and counts the bytes that this takes.
 ///
-/// Returns 0 exactly where the words are whole ones and `text` has room for their packed encoding,
-/// 14 where they aren't whole words, and 2 where there is no room. What follows in `text` may have
+/// Returns 0 exactly where the words are whole ones and `encoding` has room for their packed encoding,
+/// 14 where they aren't whole words, and 2 where there is no room. What follows in `encoding` may have
 /// changed.
 #[unsafe(no_mangle)]
-pub extern "C" fn linsjoar_pack(words: &[u8], text: &mut [u8], written: &mut usize) -> u8
-    ensures packed { result ≡ 0 → Packs words.now (take written.new text.new) }
-    ensures within { written.new ≤ length text.new }
+pub extern "C" fn linsjoar_pack(words: &[u8], encoding: &mut [u8], written: &mut usize) -> u8
+    ensures packed { result ≡ 0 → Packs words.now (take written.new encoding.new) }
+    ensures within { written.new ≤ length encoding.new }
     ensures part { (IsWholeWords words.now → ⊥) → result ≡ 14 }
     ensures errors { IsWholeWords words.now → (result ≡ 0) ⊎ (result ≡ 2) }
-    ensures accepted { (packed : List ℕ) → Packs words.now packed → length packed ≤ length text.new →
+    ensures accepted { (packed : List ℕ) → Packs words.now packed → length packed ≤ length encoding.new →
         result ≡ 0 }
-    ensures short { (packed : List ℕ) → Packs words.now packed → length text.new < length packed →
+    ensures short { (packed : List ℕ) → Packs words.now packed → length encoding.new < length packed →
         result ≡ 2 }
     ensures stays { 0 < result → written.new ≡ 0 }
 {
     laws::plain_sink_gets_the_packed_encoding();
     *written = 0;
-    let mut sink = ProvidedText::new(text);
+    let mut sink = ProvidedBuffer::new(encoding);
     match pack_into(&mut sink, words) {
         Ok(()) => {
             *written = sink.len();
@@ -60,21 +60,21 @@ pub(crate) fn pack_into<W: Write>(sink: &mut W, words: &[u8]) -> Result<()>
 /// Fills `words` with the words that are packed at the front of these bytes, and counts the packed
 /// bytes that this takes. Returns 0, or the number of the error of the packed source.
 #[unsafe(no_mangle)]
-pub extern "C" fn linsjoar_unpack(text: &[u8], words: &mut [u8], read: &mut usize) -> u8
+pub extern "C" fn linsjoar_unpack(encoding: &[u8], words: &mut [u8], read: &mut usize) -> u8
     ensures filled { result ≡ 0 → (rest : List ℕ)
-        × Unpacks text.now (length words.new) words.new rest
-        × (read.new + length rest ≡ length text.now) }
-    ensures accepted { (bytes rest : List ℕ) → Unpacks text.now (length words.new) bytes rest →
+        × Unpacks encoding.now (length words.new) words.new rest
+        × (read.new + length rest ≡ length encoding.now) }
+    ensures accepted { (bytes rest : List ℕ) → Unpacks encoding.now (length words.new) bytes rest →
         result ≡ 0 }
-    ensures errors { (kind : ErrorKind) → ChunkError text.now (length words.new) kind →
+    ensures errors { (kind : ErrorKind) → ChunkError encoding.now (length words.new) kind →
         result ≡ kind_number kind }
     ensures stays { 0 < result → read.new ≡ 0 }
 {
     *read = 0;
-    let mut source = text;
+    let mut source = encoding;
     match unpack_from(&mut source, words) {
         Ok(()) => {
-            *read = text.len() - source.len();
+            *read = encoding.len() - source.len();
             0
         }
         Err(error) => error.kind.number(),

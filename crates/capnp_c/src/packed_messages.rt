@@ -12,7 +12,7 @@ ghost use Rattle.capnp_c.specs.Packing.{IsMessage, PacksChunks};
 
 use crate::options::LinsjoarOptions;
 use crate::packed::pack_into;
-use crate::provided_text::ProvidedText;
+use crate::provided_buffer::ProvidedBuffer;
 use capnp_frame::io::Write;
 use capnp_frame::message::{DEFAULT_READER_OPTIONS, ReaderOptions, ReaderSegments};
 use capnp_frame::serialize::{
@@ -65,10 +65,10 @@ fn pack_message(
         Err(error) => return error.kind.number(),
     };
     let table = table_of(framed, &segments);
-    let mut text = ProvidedText::new(packed);
-    match pack_chunks(&mut text, table, &segments) {
+    let mut encoding = ProvidedBuffer::new(packed);
+    match pack_chunks(&mut encoding, table, &segments) {
         Ok(()) => {
-            *packed_len = text.len();
+            *packed_len = encoding.len();
             0
         }
         Err(error) => error.kind.number(),
@@ -148,8 +148,8 @@ fn unpack_message(
 
 // The message that these bytes are. Where bytes follow it, fails as for a message that is cut.
 fn whole_message<'a>(framed: &'a [u8], options: ReaderOptions) -> Result<NoAllocSliceSegments<'a>>
-    ensures whole { IfOk result (λ held. IsMessage options framed.now held.segments) }
-    ensures few { IfOk result (λ held. length held.segments < SEGMENTS_COUNT_LIMIT) }
+    ensures whole { IfOk result (λ message. IsMessage options framed.now message.segments) }
+    ensures few { IfOk result (λ message. length message.segments < SEGMENTS_COUNT_LIMIT) }
     ensures accepted { (segments : List (List ℕ)) → IsMessage options framed.now segments → IsOk result }
     ensures trailing { (segments : List (List ℕ)) (rest : List ℕ) →
         IsAtFront options framed.now segments rest → 0 < length rest →

@@ -1,6 +1,6 @@
 -- Framed encodings: the requests of a message, and the messages of a stream.
 pub mod RequestLemmas
 pub mod FrameLemmas
-pub mod TextLemmas
+pub mod EncodingLemmas
 pub mod SizeLemmas
 pub mod FrontMessages

@@ -1,6 +1,6 @@
 -- Readers of slices and buffers.
 pub mod FlatLemmas
-pub mod HeldLemmas
+pub mod BufferLemmas
 pub mod FlatReaderLemmas
 pub mod ProvidedLemmas
 pub mod FramedIntoLemmas

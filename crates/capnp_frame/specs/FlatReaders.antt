@@ -7,7 +7,7 @@ use Rattle.capnp_frame.specs.declared.error.ErrorKind.{ErrorKind}
 use Rattle.capnp_frame.specs.declared.error.ErrorKind.TheVariants.{EmptySlice, EmptyBuffer, OutOfMemory}
 use Rattle.capnp_frame.specs.declared.serialize.segment_table.Padding.{Padding}
 use Rattle.capnp_frame.specs.Frame.{IsFrame}
-use Rattle.capnp_frame.specs.Texts.{BeginsWith}
+use Rattle.capnp_frame.specs.Encodings.{BeginsWith}
 use Rattle.capnp_frame.specs.Views.{SeenBuffer}
 use Rattle.capnp_frame.specs.FlatErrors.{FlatForm, by_words, by_fields, AcceptsSeveral, FlatError}
 
@@ -71,8 +71,8 @@ pub record ReadsFlat {X : Type 0} (rules : FlatRules) (bytes : List ℕ) (left :
       → IsErrAnd result (λ error. OrOutOfMemory rules.form (error.kind ≡ OutOfMemory) (error.kind ≡ kind))
 
 -- What a reader keeps that finds a message in a buffer: what is returned has the buffer.
-pub record ReadsBuffer {B : Type 0} (rules : FlatRules) (held : B) (bytes : List ℕ) (result : Result (SeenBuffer B) Error) : Type 0 where
-  pub buffer : IfOk result (λ found. found.buffer ≡ held)
+pub record ReadsBuffer {B : Type 0} (rules : FlatRules) (kept : B) (bytes : List ℕ) (result : Result (SeenBuffer B) Error) : Type 0 where
+  pub buffer : IfOk result (λ found. found.buffer ≡ kept)
   pub reads : ReadsFlat rules bytes None (λ found. found.segments) result
 
 -- And one that finds it at the front of a slice, and moves the slice after it.

@@ -13,6 +13,6 @@ pub record ReadsFramedInto {S : Type 0} (source : Ghosts S) (old new : S) (rules
   -- it reads as one that returns the segments in the buffer
   pub reads : ReadsStreamInto source old new rules limit (length before) (next_in (λ info. declared_segments info.segments_count after) result)
   -- the buffer begins with the framed encoding that a writer writes
-  pub text : IfOk result (λ found. IfSome found (λ info. HasFrame Zero after (declared_segments info.segments_count after)
+  pub encoding : IfOk result (λ found. IfSome found (λ info. HasFrame Zero after (declared_segments info.segments_count after)
       (drop (info.segment_table_length_bytes + info.total_segments_length_bytes) after)))
   pub room : IfOk result (λ found. IfSome found (λ info. info.segment_table_length_bytes + info.total_segments_length_bytes ≤ length after))

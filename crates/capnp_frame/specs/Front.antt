@@ -15,7 +15,7 @@ use Rattle.capnp_frame.specs.declared.serialize.segment_table.TheConstants.{SEGM
 -- a framed encoding of the message is at the front, with a padding that the rule accepts, and
 -- `rest` after it
 abbrev pub HasFrame : Padding → List ℕ → List (List ℕ) → List ℕ → Type 0
-HasFrame rule bytes segments rest = (text : List ℕ) × IsFrame rule text segments × (bytes ≡ text ++ rest)
+HasFrame rule bytes segments rest = (encoding : List ℕ) × IsFrame rule encoding segments × (bytes ≡ encoding ++ rest)
 
 -- The bytes begin with a message of 1 to 511 segments and any padding, and these are the numbers of its table.
 pub record IsDescribed (bytes : List ℕ) (info : NoAllocSegmentTableInfo) : Type 0 where

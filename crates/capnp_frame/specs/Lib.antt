@@ -9,7 +9,7 @@ pub mod Source
 pub mod Sink
 pub mod Requests
 pub mod StreamErrors
-pub mod Texts
+pub mod Encodings
 pub mod Lending
 pub mod SplittingLaws
 pub mod Writing

@@ -19,7 +19,7 @@ pub use Rattle.capnp_frame.specs.Source.{Advances, Fails, Fills, Giving, IfKnown
 pub use Rattle.capnp_frame.specs.SplittingLaws.{always, same_front, splitting}
 pub use Rattle.capnp_frame.specs.Steps.{AsksNext, AsksNextInto, FindsMessage, FindsTable, ReadsLengths, ReadsTable, CompleteTableError, TableRestError}
 pub use Rattle.capnp_frame.specs.Streams.{ReadsStream, ReadsStreamInto, StreamRules, framed_rules, next_in, reusing_rules, skipping_rules}
-pub use Rattle.capnp_frame.specs.Texts.{AreEncodings, BeginsWith, EndsEncodings, Grammar}
+pub use Rattle.capnp_frame.specs.Encodings.{AreEncodings, BeginsWith, EndsEncodings, Grammar}
 pub use Rattle.capnp_frame.specs.Views.{SeenBuffer}
 pub use Rattle.capnp_frame.specs.Words.{bytes_of}
 pub use Rattle.capnp_frame.specs.Writers.{CountsWords, KeepsCount, NoError, TableMemoryError, UnwrittenError, ReturnsEncoding, TakesGranted, WritesChunks, WritesSegments, WritesTo}

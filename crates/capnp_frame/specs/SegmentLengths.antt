@@ -26,6 +26,6 @@ pub record AreRanges (indices : List (ℕ × ℕ)) (total : ℕ) : Type 0 where
   pub total_is : total ≡ sum (map range_len indices)
 
 -- the ranges of one segment alone, or of any other number
-abbrev pub held_ranges : Bool → ℕ × ℕ → List (ℕ × ℕ) → List (ℕ × ℕ)
-held_ranges true only several = only ∷ []
-held_ranges false only several = several
+abbrev pub kept_ranges : Bool → ℕ × ℕ → List (ℕ × ℕ) → List (ℕ × ℕ)
+kept_ranges true only several = only ∷ []
+kept_ranges false only several = several

@@ -41,10 +41,10 @@ pub record HasTable (lengths : List ℕ) : Type 0 where
   pub count : length lengths ≤ 2 ^ 32
   pub each : AllByRecursion FitsField lengths
 
--- `text` is a segment table of these lengths, in words, with a padding that the rule accepts.
-pub record IsTable (rule : Padding) (text lengths : List ℕ) : Type 0 where
+-- `encoding` is a segment table of these lengths, in words, with a padding that the rule accepts.
+pub record IsTable (rule : Padding) (encoding lengths : List ℕ) : Type 0 where
   pub can : HasTable lengths
   pub padding : List ℕ
   pub padded : length padding ≡ padding_len lengths
   pub kept : KeepsPadding rule padding
-  pub spelled : text ≡ table_bytes lengths padding
+  pub spelled : encoding ≡ table_bytes lengths padding

@@ -3,11 +3,11 @@ use Rattle.std.specs.Prelude.{◌≡◌, ℕ, ◌≤◌, ◌⊎◌, List, [], �
 use Rattle.capnp_frame.specs.declared.error.ErrorKind.{ErrorKind}
 use Rattle.capnp_frame.specs.Source.{IfKnown, IsFront}
 
--- What a chunk adds to a sink, as a relation: `appends chunk text`.
+-- What a chunk adds to a sink, as a relation: `appends chunk added`.
 abbrev pub Appending : Type 1
 Appending = List ℕ → List ℕ → Type 0
 
--- What a call that fails may leave of a chunk, as a relation: `leaves chunk text`.
+-- What a call that fails may leave of a chunk, as a relation: `leaves chunk added`.
 abbrev pub Leaving : Type 1
 Leaving = List ℕ → List ℕ → Type 0
 
@@ -17,15 +17,15 @@ Declining = List ℕ → ErrorKind → Type 0
 
 -- a plain sink adds the chunk itself
 abbrev pub AppendsSame : Appending
-AppendsSame chunk text = text ≡ chunk
+AppendsSame chunk added = added ≡ chunk
 
 -- a call that fails adds nothing
 abbrev pub LeavesNothing : Leaving
-LeavesNothing chunk text = text ≡ []
+LeavesNothing chunk added = added ≡ []
 
 -- a call that fails adds some front of the chunk
 abbrev pub LeavesFront : Leaving
-LeavesFront chunk text = IsFront text chunk
+LeavesFront chunk added = IsFront added chunk
 
 -- a sink fails with one kind of its own, whatever the chunk
 abbrev pub ByKind : ErrorKind → Declining
@@ -42,19 +42,19 @@ ChunksError refuses (chunk ∷ chunks) kind = refuses chunk kind ⊎ ChunksError
 
 -- `after` is `before` followed by bytes of which P holds
 abbrev pub Adds : (List ℕ → Type 0) → List ℕ → List ℕ → Type 0
-Adds P before after = (text : List ℕ) × P text × (after ≡ before ++ text)
+Adds P before after = (added : List ℕ) × P added × (after ≡ before ++ added)
 
 -- what the chunks add, joined
 abbrev pub AppendsAll : Appending → List (List ℕ) → List ℕ → Type 0
-AppendsAll appends [] text = text ≡ []
-AppendsAll appends (chunk ∷ chunks) text = (first others : List ℕ) × appends chunk first × AppendsAll appends chunks others × (text ≡ first ++ others)
+AppendsAll appends [] added = added ≡ []
+AppendsAll appends (chunk ∷ chunks) added = (first others : List ℕ) × appends chunk first × AppendsAll appends chunks others × (added ≡ first ++ others)
 
 -- Of chunks that are written one after the other the first ones are added; of the next one nothing,
 -- or what a call that fails leaves of it.
 abbrev pub LeavesSome : Appending → Leaving → List (List ℕ) → List ℕ → Type 0
-LeavesSome appends leaves [] text = text ≡ []
-LeavesSome appends leaves (chunk ∷ chunks) text = (text ≡ []) ⊎ leaves chunk text
-    ⊎ ((first others : List ℕ) × appends chunk first × LeavesSome appends leaves chunks others × (text ≡ first ++ others))
+LeavesSome appends leaves [] added = added ≡ []
+LeavesSome appends leaves (chunk ∷ chunks) added = (added ≡ []) ⊎ leaves chunk added
+    ⊎ ((first others : List ℕ) × appends chunk first × LeavesSome appends leaves chunks others × (added ≡ first ++ others))
 
 -- What each call keeps of a sink: what was written stays at the front, the count of failures does
 -- not fall, and it is the same sink.

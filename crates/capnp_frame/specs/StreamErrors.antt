@@ -46,7 +46,7 @@ FailsLeaving own kind here left = (kind ≡ own) × (left ≡ here)
 
 -- the bytes are no table by the rule, though they are one with another padding
 abbrev pub RejectsPadding : Padding → List ℕ → List ℕ → Type 0
-RejectsPadding rule text ns = IsTable rule text ns → ⊥
+RejectsPadding rule encoding ns = IsTable rule encoding ns → ⊥
 
 -- Below, a reader fails with `kind` and leaves `left` unread, or goes on to `after`, the lines
 -- after a table of these lengths. Where the source fails, nothing is said of what it leaves.

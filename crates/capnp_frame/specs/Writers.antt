@@ -86,7 +86,7 @@ pub record WritesSegments {S X : Type 0} (sink : Ghosts S) (old new : S) (segmen
 -- What each function keeps that returns the framed encoding of a message; `bytes` is how the
 -- encoding is seen in the result.
 pub record ReturnsEncoding {X : Type 0} (segments : List (List ℕ)) (bytes : X → List ℕ) (result : Result X Error) : Type 0 where
-  pub text : IfOk result (λ text. bytes text ≡ frame_bytes segments)
+  pub encoding : IfOk result (λ encoding. bytes encoding ≡ frame_bytes segments)
   -- the call fails by the number of segments exactly where there are more than a reader accepts
   pub count : KeepsCount segments result
   -- with no more than that it fails for want of memory alone

@@ -26,16 +26,16 @@ pub fn message_has_a_frame()
 
 /// With zero padding, the only framed encoding of a message is the one that is written.
 pub fn zero_padding_leaves_one_frame()
-    ensures { (text : List ℕ) (segments : List (List ℕ)) →
-        IsFrame Padding.Zero text segments → text ≡ frame_bytes segments }
+    ensures { (encoding : List ℕ) (segments : List (List ℕ)) →
+        IsFrame Padding.Zero encoding segments → encoding ≡ frame_bytes segments }
 {}
 
 /// By the rule of zero padding, bytes are a table exactly where they are one by the rule of any
 /// padding and are the table that is written, whose padding is zero. The same holds of a message
 /// that is read by requests of any source.
 pub fn zero_padding_is_some_padding<R: Read>()
-    ensures table { (text ns : List ℕ) → IsTable Padding.Zero text ns
-        ↔ (IsTable Padding.Any text ns × (text ≡ zero_padded_table ns)) }
+    ensures table { (encoding ns : List ℕ) → IsTable Padding.Zero encoding ns
+        ↔ (IsTable Padding.Any encoding ns × (encoding ≡ zero_padded_table ns)) }
     ensures is_found { (m : List (List ℕ)) (raw rest : List ℕ) →
         MessageFound Padding.Zero R.gives m raw rest
         ↔ ((any : MessageFound Padding.Any R.gives m raw rest)
@@ -45,17 +45,17 @@ pub fn zero_padding_is_some_padding<R: Read>()
 /// No framed encoding is the start of a different one, by either rule of padding, and each encodes
 /// only one message. So joined encodings can be taken apart in only one way.
 pub fn frames_part_in_one_way()
-    ensures { (rule also : Padding) (text other rest left : List ℕ)
+    ensures { (rule also : Padding) (encoding other rest left : List ℕ)
         (segments others : List (List ℕ)) →
-        IsFrame rule text segments → IsFrame also other others → text ++ rest ≡ other ++ left →
-        (text ≡ other) × (segments ≡ others) × (rest ≡ left) }
+        IsFrame rule encoding segments → IsFrame also other others → encoding ++ rest ≡ other ++ left →
+        (encoding ≡ other) × (segments ≡ others) × (rest ≡ left) }
 {}
 
 /// The three requests for a message take exactly its framed encoding from a plain source.
 pub fn plain_requests_take_a_frame()
     ensures { (rule : Padding) (segments : List (List ℕ)) (raw rest : List ℕ) →
         MessageFound rule Splits segments raw rest
-        ↔ ((text : List ℕ) × IsFrame rule text segments × (raw ≡ text ++ rest)) }
+        ↔ ((encoding : List ℕ) × IsFrame rule encoding segments × (raw ≡ encoding ++ rest)) }
 {}
 
 /// Reading a message of more words than the limit fails with `MessageTooLarge`, of how many words
@@ -78,8 +78,8 @@ pub fn smaller_messages_take_no_memory<R: Read>()
 
 /// Chunks that a plain sink takes are joined there.
 pub fn plain_chunks_are_joined()
-    ensures { (chunks : List (List ℕ)) (text : List ℕ) → AppendsAll AppendsSame chunks text
-        ↔ (text ≡ concat chunks) }
+    ensures { (chunks : List (List ℕ)) (encoding : List ℕ) → AppendsAll AppendsSame chunks encoding
+        ↔ (encoding ≡ concat chunks) }
 {}
 
 /// The chunks that are handed to a sink, joined, are the framed encoding, and
@@ -93,10 +93,10 @@ pub fn chunks_are_the_frame()
 /// If a plain sink keeps at most the start of a chunk in a call that fails, it keeps the start of
 /// the framed encoding where writing a message fails.
 pub fn what_is_left_of_a_message_is_a_front<W: Write>()
-    ensures { ((chunk text : List ℕ) → W.leaves chunk text → LeavesFront chunk text) →
-        (segments : List (List ℕ)) (text : List ℕ) →
-        LeavesSome AppendsSame W.leaves (chunks segments) text →
-        IsFront text (frame_bytes segments) }
+    ensures { ((chunk encoding : List ℕ) → W.leaves chunk encoding → LeavesFront chunk encoding) →
+        (segments : List (List ℕ)) (encoding : List ℕ) →
+        LeavesSome AppendsSame W.leaves (chunks segments) encoding →
+        IsFront encoding (frame_bytes segments) }
 {}
 
 /// The readers of slices and buffers accept the same bytes with the same segments: where one form

@@ -27,7 +27,7 @@ fn pack_case(rt: &(impl Abort + AllocGlobal), case: &Packed) -> Result<()> {
     let at = At::case(case.name);
     let mut sink = FailingSink::new(Vec::new(rt.alloc()), 0);
     pack(&mut sink, case.chunks)?;
-    assert_bytes(rt, sink.written.as_slice(), case.text, at);
+    assert_bytes(rt, sink.written.as_slice(), case.encoding, at);
     assert_calls(rt, sink.calls, case.handed.unwrap_or(sink.calls), at);
     Ok(())
 }
@@ -43,8 +43,8 @@ fn unpack_each(rt: &impl Abort, case: &Packed) -> Result<()> {
 // Of a source that shows a chunk whole, it asks once for each, and nothing for no bytes.
 fn unpack_case(rt: &impl Abort, case: &Packed, most: usize) -> Result<()> {
     let at = At::new(case.name, most as u64);
-    let mut source = Failing::new(Trickle::new(case.text, most), 0);
-    let mut parts = Trickle::new(case.text, most);
+    let mut source = Failing::new(Trickle::new(case.encoding, most), 0);
+    let mut parts = Trickle::new(case.encoding, most);
     let mut asked: u64 = 0;
     for chunk in case.chunks {
         unpack_chunk(rt, &mut source, &mut parts, chunk, at)?;
@@ -55,7 +55,7 @@ fn unpack_case(rt: &impl Abort, case: &Packed, most: usize) -> Result<()> {
         source.source.bytes.is_empty() && parts.bytes.is_empty(),
         at,
     );
-    if case.text.len() <= most {
+    if case.encoding.len() <= most {
         assert_calls(rt, source.calls, asked, at);
         assert_calls(rt, source.source.reads, 0, at);
     }
@@ -91,24 +91,24 @@ const PARTS_OF_WORDS: [(&str, &[u8], usize); 4] = [
 
 #[test]
 fn parts_of_words_are_failed(rt: HostRuntime) {
-    for &(name, text, length) in &PARTS_OF_WORDS {
+    for &(name, encoding, length) in &PARTS_OF_WORDS {
         for most in [1, 24] {
-            assert_failure(&rt, text, length, At::new(name, most));
+            assert_failure(&rt, encoding, length, At::new(name, most));
         }
     }
 }
 
 // For a part of a word nothing is asked, and nothing is written.
-fn assert_failure(rt: &impl Abort, text: &[u8], length: usize, at: At<'_>) {
+fn assert_failure(rt: &impl Abort, encoding: &[u8], length: usize, at: At<'_>) {
     let kind = ErrorKind::NotWholeWords;
-    let mut source = Trickle::new(text, at.number as usize);
+    let mut source = Trickle::new(encoding, at.number as usize);
     let mut space = [0xaa; 12];
     let room = &mut space[..length.min(12)];
     assert_fails(rt, unpack(&mut source, room), kind, at);
     assert_fails(rt, unpack_some(&mut source, room), kind, at);
     assert_holds(
         rt,
-        source.bytes == text && source.fills == 0 && source.reads == 0,
+        source.bytes == encoding && source.fills == 0 && source.reads == 0,
         at,
     );
     assert_bytes(rt, &space, &[0xaa; 12], at);
@@ -146,8 +146,8 @@ fn end_after(rt: &impl Abort, at: At<'_>) -> Result<()> {
 fn a_tag_alone_leaves_the_word(rt: HostRuntime) {
     for tag in [0, 1, 2, 0x24, 0x80, 0xf0, 0xfe, 0xff] {
         let at = At::new("a tag alone", u64::from(tag));
-        let text = [tag];
-        let mut source = Failing::new(Trickle::new(&text, 1), 2);
+        let encoding = [tag];
+        let mut source = Failing::new(Trickle::new(&encoding, 1), 2);
         let mut word = [0xaa; 8];
         assert_fails(
             &rt,
@@ -213,9 +213,9 @@ const THREE_WORDS: [(&str, &[u8]); 2] = [
 // However many bytes a `read` returns, they are the next ones, and none only at the end.
 #[test]
 fn reads_return_the_words_in_order(rt: HostRuntime) -> Result<()> {
-    for &(name, text) in &THREE_WORDS {
+    for &(name, encoding) in &THREE_WORDS {
         for most in 1..=16 {
-            read_in_order(&rt, text, At::new(name, most))?;
+            read_in_order(&rt, encoding, At::new(name, most))?;
         }
     }
     Ok(())
@@ -225,8 +225,8 @@ const SEVEN_AND_ZEROS: [u8; 24] = [
     7, 0, 0, 0, 0, 0, 0, 0, 0, 0, 0, 0, 0, 0, 0, 0, 0, 0, 0, 0, 0, 0, 0, 0,
 ];
 
-fn read_in_order(rt: &impl Abort, text: &[u8], at: At<'_>) -> Result<()> {
-    let mut source = Trickle::new(text, at.number as usize);
+fn read_in_order(rt: &impl Abort, encoding: &[u8], at: At<'_>) -> Result<()> {
+    let mut source = Trickle::new(encoding, at.number as usize);
     let mut words = [0xaa; 24];
     let mut filled = 0;
     for _ in 0..24 {

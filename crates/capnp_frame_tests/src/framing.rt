@@ -33,7 +33,7 @@ pub fn write_packed<W: Write>(
 }
 
 /// A message's framed encoding.
-pub fn text_of(rt: &(impl Abort + AllocGlobal), segments: &[&[u8]]) -> Result<Vec<u8>> {
+pub fn encoding_of(rt: &(impl Abort + AllocGlobal), segments: &[&[u8]]) -> Result<Vec<u8>> {
     let array = SegmentArray::new(segments);
     assert!(rt; is_writable(&array));
     segments_to_words(rt.alloc(), &array)

@@ -45,7 +45,7 @@ pub mod sources;
 #[cfg(test)]
 mod tables;
 #[cfg(test)]
-mod texts;
+mod sentences;
 #[cfg(test)]
 mod values;
 #[cfg(test)]

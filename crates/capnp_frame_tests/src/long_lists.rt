@@ -99,7 +99,7 @@ pub fn append(bytes: &mut Vec<u8>, word: u64) -> Result<()> {
 
 /// Appends the packed encoding of a word that has a zero byte, and after which no word is zero: the
 /// tag and the bytes that aren't zero, and where there are none the count of further zero words.
-pub fn append_packed(text: &mut Vec<u8>, word: u64) -> Result<()> {
+pub fn append_packed(encoding: &mut Vec<u8>, word: u64) -> Result<()> {
     let bytes = word.to_le_bytes();
     let mut tag = 0u8;
     let mut bit = 1u8;
@@ -109,14 +109,14 @@ pub fn append_packed(text: &mut Vec<u8>, word: u64) -> Result<()> {
         }
         bit = bit.wrapping_mul(2);
     }
-    text.push(tag)?;
+    encoding.push(tag)?;
     for byte in &bytes {
         if *byte != 0 {
-            text.push(*byte)?;
+            encoding.push(*byte)?;
         }
     }
     if tag == 0 {
-        text.push(0)?;
+        encoding.push(0)?;
     }
     Ok(())
 }

@@ -110,9 +110,9 @@ pub fn shows<S: ReaderSegments>(segments: &S, id: u32, bytes: &[u8]) -> bool {
     }
 }
 
-/// Whether `text` is a table and these segments after it.
-pub fn is_framed(text: &[u8], table: &[u8], segments: &[&[u8]]) -> bool {
-    let Some(mut left) = text.strip_prefix(table) else {
+/// Whether `encoding` is a table and these segments after it.
+pub fn is_framed(encoding: &[u8], table: &[u8], segments: &[&[u8]]) -> bool {
+    let Some(mut left) = encoding.strip_prefix(table) else {
         return false;
     };
     for segment in segments {

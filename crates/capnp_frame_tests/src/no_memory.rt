@@ -106,8 +106,8 @@ const PACKED_WORDS: [u8; 13] = [0x24, 12, 34, 0xff, 1, 2, 3, 4, 5, 6, 7, 8, 0];
 #[test]
 fn chunks_are_packed(rt: HostRuntime) -> Result<()> {
     let at = At::case("two words");
-    let mut text = [9; 13];
-    let mut left: &mut [u8] = &mut text;
+    let mut encoding = [9; 13];
+    let mut left: &mut [u8] = &mut encoding;
     pack(&mut left, &[&WORDS])?;
     assert_holds(&rt, left.is_empty(), at);
     assert_fails(
@@ -116,7 +116,7 @@ fn chunks_are_packed(rt: HostRuntime) -> Result<()> {
         ErrorKind::BufferNotLargeEnough,
         at,
     );
-    assert_bytes(&rt, &text, &PACKED_WORDS, at);
+    assert_bytes(&rt, &encoding, &PACKED_WORDS, at);
     Ok(())
 }
 
@@ -143,8 +143,8 @@ const FAILING: [(&str, &[u8], ErrorKind); 3] = [
 
 #[test]
 fn packed_messages_that_take_no_memory(rt: HostRuntime) -> Result<()> {
-    for &(name, text, kind) in &FAILING {
-        let mut source = text;
+    for &(name, encoding, kind) in &FAILING {
+        let mut source = encoding;
         assert_fails(
             &rt,
             read_packed(rt.alloc(), &mut source, &[]),
@@ -167,7 +167,7 @@ const FRAME_AND_MORE: [u8; 56] = [
 
 // The encoding of that message as it is written, in a buffer of ones.
 #[rattlefmt::skip]
-const TEXT_AND_ROOM: [u8; 48] = [
+const ENCODING_AND_ROOM: [u8; 48] = [
     1, 0, 0, 0, 1, 0, 0, 0, 2, 0, 0, 0, 0, 0, 0, 0,
     123, 0, 0, 0, 0, 0, 0, 0,
     4, 0, 0, 0, 0, 0, 0, 0, 5, 0, 0, 0, 0, 0, 0, 0,
@@ -175,8 +175,8 @@ const TEXT_AND_ROOM: [u8; 48] = [
 ];
 
 #[test]
-fn a_text_in_a_buffer(rt: HostRuntime) -> Result<()> {
-    let at = At::case("a framed text");
+fn a_framed_message_in_a_buffer(rt: HostRuntime) -> Result<()> {
+    let at = At::case("a framed message");
     let mut source = FRAME_AND_MORE.as_slice();
     let mut room = [1; 48];
     let found = try_read_framed_into(&mut source, STRICT, &mut room)?;
@@ -185,7 +185,7 @@ fn a_text_in_a_buffer(rt: HostRuntime) -> Result<()> {
     };
     assert_count(&rt, info.segment_table_length_bytes, 16, at);
     assert_count(&rt, info.total_segments_length_bytes, 24, at);
-    assert_bytes(&rt, &room, &TEXT_AND_ROOM, at);
+    assert_bytes(&rt, &room, &ENCODING_AND_ROOM, at);
     assert_count(&rt, source.len(), 16, at);
     Ok(())
 }
@@ -197,8 +197,8 @@ const PACKED_NINES: [u8; 13] = [0x10, 1, 0xff, 9, 9, 9, 9, 9, 9, 9, 9, 0, 7];
 const NINES_AND_ROOM: [u8; 17] = [0, 0, 0, 0, 1, 0, 0, 0, 9, 9, 9, 9, 9, 9, 9, 9, 1];
 
 #[test]
-fn a_packed_text_in_a_buffer(rt: HostRuntime) -> Result<()> {
-    let at = At::case("a packed text");
+fn a_packed_message_in_a_buffer(rt: HostRuntime) -> Result<()> {
+    let at = At::case("a packed message");
     let mut source = PACKED_NINES.as_slice();
     let mut room = [1; 17];
     let found = try_read_packed_framed_into(&mut source, STRICT, &mut room)?;

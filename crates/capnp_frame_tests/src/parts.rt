@@ -18,7 +18,7 @@ const ZERO: [u8; 8] = [0; 8];
 pub struct Parts {
     pub name: &'static str,
     pub words: &'static [[u8; 8]],
-    pub text: &'static [u8],
+    pub encoding: &'static [u8],
     pub parts: u64,
 }
 
@@ -27,34 +27,34 @@ pub const PARTS: [Parts; 12] = [
     Parts {
         name: "a literal run of three words",
         words: &[A, B, C],
-        text: &[0xff, 1, 2, 3, 4, 5, 6, 7, 8, 2, 9, 10, 11, 12, 13, 14, 15, 16, 17, 18, 19, 20, 21, 22,
+        encoding: &[0xff, 1, 2, 3, 4, 5, 6, 7, 8, 2, 9, 10, 11, 12, 13, 14, 15, 16, 17, 18, 19, 20, 21, 22,
                 23, 24],
         parts: 1,
     },
     Parts {
         name: "two literal runs of two words, a zero word between them",
         words: &[A, B, ZERO, C, A],
-        text: &[0xff, 1, 2, 3, 4, 5, 6, 7, 8, 1, 9, 10, 11, 12, 13, 14, 15, 16, 0, 0, 0xff, 17, 18, 19,
+        encoding: &[0xff, 1, 2, 3, 4, 5, 6, 7, 8, 1, 9, 10, 11, 12, 13, 14, 15, 16, 0, 0, 0xff, 17, 18, 19,
                 20, 21, 22, 23, 24, 1, 1, 2, 3, 4, 5, 6, 7, 8],
         parts: 1,
     },
     Parts {
         name: "the same, and a word after them",
         words: &[A, B, ZERO, C, A, SEVEN],
-        text: &[0xff, 1, 2, 3, 4, 5, 6, 7, 8, 1, 9, 10, 11, 12, 13, 14, 15, 16, 0, 0, 0xff, 17, 18, 19,
+        encoding: &[0xff, 1, 2, 3, 4, 5, 6, 7, 8, 1, 9, 10, 11, 12, 13, 14, 15, 16, 0, 0, 0xff, 17, 18, 19,
                 20, 21, 22, 23, 24, 1, 1, 2, 3, 4, 5, 6, 7, 8, 1, 7],
         parts: 1,
     },
     Parts {
         name: "words before a literal run",
         words: &[SEVEN, ZERO, ZERO, A, B],
-        text: &[1, 7, 0, 1, 0xff, 1, 2, 3, 4, 5, 6, 7, 8, 1, 9, 10, 11, 12, 13, 14, 15, 16],
+        encoding: &[1, 7, 0, 1, 0xff, 1, 2, 3, 4, 5, 6, 7, 8, 1, 9, 10, 11, 12, 13, 14, 15, 16],
         parts: 1,
     },
     Parts {
         name: "a literal run of seven words",
         words: &[A, B, C, A, B, C, A],
-        text: &[0xff, 1, 2, 3, 4, 5, 6, 7, 8, 6, 9, 10, 11, 12, 13, 14, 15, 16, 17, 18, 19, 20, 21, 22,
+        encoding: &[0xff, 1, 2, 3, 4, 5, 6, 7, 8, 6, 9, 10, 11, 12, 13, 14, 15, 16, 17, 18, 19, 20, 21, 22,
                 23, 24, 1, 2, 3, 4, 5, 6, 7, 8, 9, 10, 11, 12, 13, 14, 15, 16, 17, 18, 19, 20, 21, 22,
                 23, 24, 1, 2, 3, 4, 5, 6, 7, 8],
         parts: 1,
@@ -62,7 +62,7 @@ pub const PARTS: [Parts; 12] = [
     Parts {
         name: "a literal run of eight words",
         words: &[A, B, C, A, B, C, A, B],
-        text: &[0xff, 1, 2, 3, 4, 5, 6, 7, 8, 7, 9, 10, 11, 12, 13, 14, 15, 16, 17, 18, 19, 20, 21, 22,
+        encoding: &[0xff, 1, 2, 3, 4, 5, 6, 7, 8, 7, 9, 10, 11, 12, 13, 14, 15, 16, 17, 18, 19, 20, 21, 22,
                 23, 24, 1, 2, 3, 4, 5, 6, 7, 8, 9, 10, 11, 12, 13, 14, 15, 16, 17, 18, 19, 20, 21, 22,
                 23, 24, 1, 2, 3, 4, 5, 6, 7, 8, 9, 10, 11, 12, 13, 14, 15, 16],
         parts: 2,
@@ -70,7 +70,7 @@ pub const PARTS: [Parts; 12] = [
     Parts {
         name: "two literal runs of eight words, a zero word between them",
         words: &[A, B, C, A, B, C, A, B, ZERO, C, A, B, C, A, B, C, A],
-        text: &[0xff, 1, 2, 3, 4, 5, 6, 7, 8, 7, 9, 10, 11, 12, 13, 14, 15, 16, 17, 18, 19, 20, 21, 22,
+        encoding: &[0xff, 1, 2, 3, 4, 5, 6, 7, 8, 7, 9, 10, 11, 12, 13, 14, 15, 16, 17, 18, 19, 20, 21, 22,
                 23, 24, 1, 2, 3, 4, 5, 6, 7, 8, 9, 10, 11, 12, 13, 14, 15, 16, 17, 18, 19, 20, 21, 22,
                 23, 24, 1, 2, 3, 4, 5, 6, 7, 8, 9, 10, 11, 12, 13, 14, 15, 16, 0, 0, 0xff, 17, 18, 19,
                 20, 21, 22, 23, 24, 7, 1, 2, 3, 4, 5, 6, 7, 8, 9, 10, 11, 12, 13, 14, 15, 16, 17, 18,
@@ -81,7 +81,7 @@ pub const PARTS: [Parts; 12] = [
     Parts {
         name: "the two, and a word after them",
         words: &[A, B, C, A, B, C, A, B, ZERO, C, A, B, C, A, B, C, A, SEVEN],
-        text: &[0xff, 1, 2, 3, 4, 5, 6, 7, 8, 7, 9, 10, 11, 12, 13, 14, 15, 16, 17, 18, 19, 20, 21, 22,
+        encoding: &[0xff, 1, 2, 3, 4, 5, 6, 7, 8, 7, 9, 10, 11, 12, 13, 14, 15, 16, 17, 18, 19, 20, 21, 22,
                 23, 24, 1, 2, 3, 4, 5, 6, 7, 8, 9, 10, 11, 12, 13, 14, 15, 16, 17, 18, 19, 20, 21, 22,
                 23, 24, 1, 2, 3, 4, 5, 6, 7, 8, 9, 10, 11, 12, 13, 14, 15, 16, 0, 0, 0xff, 17, 18, 19,
                 20, 21, 22, 23, 24, 7, 1, 2, 3, 4, 5, 6, 7, 8, 9, 10, 11, 12, 13, 14, 15, 16, 17, 18,
@@ -92,7 +92,7 @@ pub const PARTS: [Parts; 12] = [
     Parts {
         name: "words before a literal run of seven words",
         words: &[SEVEN, ZERO, ZERO, A, B, C, A, B, C, A],
-        text: &[1, 7, 0, 1, 0xff, 1, 2, 3, 4, 5, 6, 7, 8, 6, 9, 10, 11, 12, 13, 14, 15, 16, 17, 18, 19,
+        encoding: &[1, 7, 0, 1, 0xff, 1, 2, 3, 4, 5, 6, 7, 8, 6, 9, 10, 11, 12, 13, 14, 15, 16, 17, 18, 19,
                 20, 21, 22, 23, 24, 1, 2, 3, 4, 5, 6, 7, 8, 9, 10, 11, 12, 13, 14, 15, 16, 17, 18, 19,
                 20, 21, 22, 23, 24, 1, 2, 3, 4, 5, 6, 7, 8],
         parts: 1,
@@ -100,13 +100,13 @@ pub const PARTS: [Parts; 12] = [
     Parts {
         name: "words before a literal run of eight words",
         words: &[SEVEN, ZERO, ZERO, A, B, C, A, B, C, A, B],
-        text: &[1, 7, 0, 1, 0xff, 1, 2, 3, 4, 5, 6, 7, 8, 7, 9, 10, 11, 12, 13, 14, 15, 16, 17, 18, 19,
+        encoding: &[1, 7, 0, 1, 0xff, 1, 2, 3, 4, 5, 6, 7, 8, 7, 9, 10, 11, 12, 13, 14, 15, 16, 17, 18, 19,
                 20, 21, 22, 23, 24, 1, 2, 3, 4, 5, 6, 7, 8, 9, 10, 11, 12, 13, 14, 15, 16, 17, 18, 19,
                 20, 21, 22, 23, 24, 1, 2, 3, 4, 5, 6, 7, 8, 9, 10, 11, 12, 13, 14, 15, 16],
         parts: 2,
     },
-    Parts { name: "two bytes a word, of forty", words: &[SEVEN; 40], text: &SEVENS, parts: 2 },
-    Parts { name: "no part", words: &[], text: &[], parts: 0 },
+    Parts { name: "two bytes a word, of forty", words: &[SEVEN; 40], encoding: &SEVENS, parts: 2 },
+    Parts { name: "no part", words: &[], encoding: &[], parts: 0 },
 ];
 
 #[rattlefmt::skip]

@@ -1,6 +1,6 @@
 //! A sink that fails at its nth chunk, and a caller-provided slice that is too short.
 use crate::assertions::{At, assert_bytes, assert_calls, assert_count, assert_holds, assert_kind};
-use crate::framing::{text_of, write, write_packed};
+use crate::framing::{encoding_of, write, write_packed};
 use crate::messages::{MESSAGES, Message};
 use crate::packing::pack;
 use crate::parts::{PARTS, Parts};
@@ -77,7 +77,7 @@ fn write_to(
     at: At<'_>,
 ) -> Result<()> {
     let chunks = (ends as u64).saturating_sub(1);
-    let text = text_of(rt, segments)?;
+    let encoding = encoding_of(rt, segments)?;
     let mut sink = sink_that_fails(rt.alloc(), at.number)?;
     let returned = write(rt, &mut sink, segments);
     let is_whole = is_taken(rt, returned, at)?;
@@ -86,12 +86,12 @@ fn write_to(
     assert_calls(rt, sink.calls, at.number.min(chunks), at);
     let written = written(&sink);
     assert_count(rt, written.len(), end, at);
-    assert_bytes(rt, written, text.get(..end).unwrap_or(&[]), at);
+    assert_bytes(rt, written, encoding.get(..end).unwrap_or(&[]), at);
     Ok(())
 }
 
 #[test]
-fn packed_texts_before_the_error(rt: HostRuntime) -> Result<()> {
+fn packed_encodings_before_the_error(rt: HostRuntime) -> Result<()> {
     for message in &MESSAGES {
         let mut calls = 0;
         for fails_at in 1..=64 {
@@ -134,7 +134,7 @@ fn parts_of_chunks_before_the_error(rt: HostRuntime) -> Result<()> {
 fn pack_to(rt: &(impl Abort + AllocGlobal), case: &Parts, fails_at: u64) -> Result<bool> {
     let mut sink = sink_that_fails(rt.alloc(), fails_at)?;
     let returned = pack(&mut sink, &[case.words.as_flattened()]);
-    is_front(rt, returned, &sink, case.text, At::new(case.name, fails_at))
+    is_front(rt, returned, &sink, case.encoding, At::new(case.name, fails_at))
 }
 
 // Whether the run meets no failure. What was written stays at the front, and a front of the encoding
@@ -143,19 +143,19 @@ fn is_front(
     rt: &impl Abort,
     returned: Result<()>,
     sink: &FailingSink,
-    text: &[u8],
+    encoding: &[u8],
     at: At<'_>,
 ) -> Result<bool> {
     let written = written(sink);
     let is_whole = is_taken(rt, returned, at)?;
     if is_whole {
-        assert_bytes(rt, written, text, at);
+        assert_bytes(rt, written, encoding, at);
         assert_calls(rt, sink.failures, 0, at);
         return Ok(true);
     }
     assert_holds(
         rt,
-        text.starts_with(written) && written.len() < text.len(),
+        encoding.starts_with(written) && written.len() < encoding.len(),
         at,
     );
     assert_holds(rt, written.is_empty() == (at.number == 1), at);
@@ -204,8 +204,8 @@ fn write_into(
     assert_kind(rt, returned, failed, at);
     assert_holds(rt, failed.is_some() || fits == whole, at);
     assert_count(rt, left, room.saturating_sub(fits), at);
-    let text = text_of(rt, segments)?;
-    let front = text.get(..fits).unwrap_or(&[]);
+    let encoding = encoding_of(rt, segments)?;
+    let front = encoding.get(..fits).unwrap_or(&[]);
     assert_count(rt, front.len(), fits, at);
     assert_filled(rt, &space, front, at);
     Ok(())

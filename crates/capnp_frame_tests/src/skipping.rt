@@ -115,24 +115,24 @@ const FAILING: [(&str, &[u8], Option<usize>, ErrorKind, usize); 20] = [
 
 #[test]
 fn messages_fail(rt: HostRuntime) {
-    for &(name, text, limit, kind, unread) in &FAILING {
+    for &(name, encoding, limit, kind, unread) in &FAILING {
         for most in 1..=24 {
-            assert_failure(&rt, (text, limit), kind, unread, At::new(name, most));
+            assert_failure(&rt, (encoding, limit), kind, unread, At::new(name, most));
         }
     }
 }
 
 fn assert_failure(
     rt: &(impl Abort + AllocGlobal),
-    (text, limit): (&[u8], Option<usize>),
+    (encoding, limit): (&[u8], Option<usize>),
     kind: ErrorKind,
     unread: usize,
     at: At<'_>,
 ) {
-    let mut source = Trickle::new(text, at.number as usize);
+    let mut source = Trickle::new(encoding, at.number as usize);
     let mut found = error_of(rt.alloc(), &mut source, limit);
     if found == Some(ErrorKind::OutOfMemory) {
-        source = Trickle::new(text, at.number as usize);
+        source = Trickle::new(encoding, at.number as usize);
         found = error_of(rt.alloc(), &mut source, limit);
     }
     assert_kind(rt, found, Some(kind), at);
@@ -173,38 +173,38 @@ fn a_padding_is_skipped_by_its_rule(rt: HostRuntime) -> Result<()> {
 // A segment of 600 words without a zero byte, in literal groups of 256 words, of 256 and of 88, and
 // a byte after it.
 fn large_message(alloc: Global) -> Result<Vec<u8>> {
-    let mut text = Vec::new(alloc);
+    let mut encoding = Vec::new(alloc);
     for byte in [0x30, 0x58, 2] {
-        text.push(byte)?;
+        encoding.push(byte)?;
     }
     for words in [256, 256, 88usize] {
-        text.push(0xff)?;
+        encoding.push(0xff)?;
         for _ in 0..8 {
-            text.push(7)?;
+            encoding.push(7)?;
         }
-        text.push((words - 1) as u8)?;
+        encoding.push((words - 1) as u8)?;
         for _ in 0..8 * (words - 1) {
-            text.push(7)?;
+            encoding.push(7)?;
         }
     }
-    text.push(9)?;
-    Ok(text)
+    encoding.push(9)?;
+    Ok(encoding)
 }
 
 #[test]
 fn the_longest_groups_are_skipped(rt: HostRuntime) -> Result<()> {
-    let text = retried!(large_message(rt.alloc()))?;
+    let encoding = retried!(large_message(rt.alloc()))?;
     for most in [1, 9, 100, 2048, 2059, 10000] {
-        skip_large(&rt, text.as_slice(), most)?;
+        skip_large(&rt, encoding.as_slice(), most)?;
     }
     Ok(())
 }
 
-fn skip_large(rt: &(impl Abort + AllocGlobal), text: &[u8], most: usize) -> Result<()> {
+fn skip_large(rt: &(impl Abort + AllocGlobal), encoding: &[u8], most: usize) -> Result<()> {
     let at = At::new("600 words", most as u64);
-    let mut source = Trickle::new(text, most);
+    let mut source = Trickle::new(encoding, most);
     let lengths = retried!({
-        source = Trickle::new(text, most);
+        source = Trickle::new(encoding, most);
         let lengths = SegmentLengthsBuilder::empty(rt.alloc());
         skip(&mut source, STRICT, lengths)
     })?;

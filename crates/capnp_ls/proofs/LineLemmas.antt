@@ -13,13 +13,13 @@ past_end : {X : Type 0} (xs : List X) (i : ℕ) → None ≡ slice_get xs i → 
 past_end xs i none = elim ((slice_get_cases xs i).1) [ inl there ↦ absurd (none-some there.0 (none ∙ there.2)) | inr past ↦ past.0 ]
 
 -- the first lengths are listed, each after a space
-pub record ListsLengths (ns : List ℕ) (count : ℕ) (text : List ℕ) : Type 0 where
+pub record ListsLengths (ns : List ℕ) (count : ℕ) (shown : List ℕ) : Type 0 where
   pub within : count ≤ length ns
-  pub spelled : text ≡ flat_map spaced (take count ns)
+  pub spelled : shown ≡ flat_map spaced (take count ns)
 
-pub ListsLengths-next : (ns : List ℕ) (count n : ℕ) (text more : List ℕ) → ListsLengths ns count text → Some n ≡ slice_get ns count
-    → more ≡ text ++ spaced n → ListsLengths ns (count + 1) more
-ListsLengths-next ns count n text more listed here longer =
+pub ListsLengths-next : (ns : List ℕ) (count n : ℕ) (shown more : List ℕ) → ListsLengths ns count shown → Some n ≡ slice_get ns count
+    → more ≡ shown ++ spaced n → ListsLengths ns (count + 1) more
+ListsLengths-next ns count n shown more listed here longer =
     let within : count < length ns = slice_get_within ns count n (sym here) in
     let next : take (count + 1) ns ≡ take count ns ++ n ∷ [] =
     take_more ns count n within ∙ ap (λ k. take count ns ++ k ∷ []) (get_or_from_slice_get ns count n n (sym here)) in
@@ -33,8 +33,8 @@ ListsLengths-next ns count n text more listed here longer =
           ∙ ap (flat_map spaced) (sym next);
     }
 
-pub ListsLengths-whole : (ns : List ℕ) (count : ℕ) (text : List ℕ) → ListsLengths ns count text → None ≡ slice_get ns count → text ≡ flat_map spaced ns
-ListsLengths-whole ns count text listed none = listed.spelled ∙ ap (flat_map spaced) (take_all count ns (past_end ns count none))
+pub ListsLengths-whole : (ns : List ℕ) (count : ℕ) (shown : List ℕ) → ListsLengths ns count shown → None ≡ slice_get ns count → shown ≡ flat_map spaced ns
+ListsLengths-whole ns count shown listed none = listed.spelled ∙ ap (flat_map spaced) (take_all count ns (past_end ns count none))
 
 -- the line of a message is that of its lengths
 pub line_declared : (index : ℕ) (message : List (List ℕ)) (ns : List ℕ) → lengths message ≡ ns → line_of index ns ≡ line index message

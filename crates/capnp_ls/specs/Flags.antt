@@ -10,6 +10,6 @@ IsFlag Help words = (words ≡ codes "--help" ∷ []) ⊎ (words ≡ codes "-h" 
 IsFlag Version words = (words ≡ codes "--version" ∷ []) ⊎ (words ≡ codes "-V" ∷ [])
 
 -- the bytes that it prints
-abbrev pub text_of : Flag → List ℕ
-text_of Help = HELP.now
-text_of Version = VERSION.now
+abbrev pub lines_of : Flag → List ℕ
+lines_of Help = HELP.now
+lines_of Version = VERSION.now

@@ -21,14 +21,14 @@ line_of index ns = decimal index ++ spaced (length ns) ++ spaced (sum ns) ++ fla
 
 -- the chunks of a message's canonical form
 abbrev pub PrintsForm : Appending → Writing
-PrintsForm appends index segments text = AppendsForm (default_root segments) appends text
+PrintsForm appends index segments output = AppendsForm (default_root segments) appends output
 
 -- What a sink adds for the message of this index: its line; its chunks, packed or as they are; or
 -- the chunks of its canonical form.
 abbrev pub Prints : Command → Appending → Writing
-Prints (Listing format padding) appends index segments text = appends (line index segments) text
-Prints (Transcoding way padding) appends index segments text = Transcodes way appends index segments text
-Prints (Canonical format) appends index segments text = PrintsForm appends index segments text
+Prints (Listing format padding) appends index segments output = appends (line index segments) output
+Prints (Transcoding way padding) appends index segments output = Transcodes way appends index segments output
+Prints (Canonical format) appends index segments output = PrintsForm appends index segments output
 
 -- how writing a message's canonical form may fail: it has none, or the sink fails for a chunk of it
 abbrev pub FormErrors : Appending → Leaving → Declining → WritingErrors
@@ -47,7 +47,7 @@ PrintedErrors (Listing format padding) appends leaves refuses = record {
   message_error = λ index segments kind. ⊥;
   sink_error = λ index segments. refuses (line index segments);
   takes_memory = λ index segments. ⊤;
-  leaves = λ index segments text. (text ≡ []) ⊎ leaves (line index segments) text;
+  leaves = λ index segments output. (output ≡ []) ⊎ leaves (line index segments) output;
 }
 PrintedErrors (Transcoding way padding) appends leaves refuses = TranscodedErrors way appends leaves refuses
 PrintedErrors (Canonical format) appends leaves refuses = FormErrors appends leaves refuses

@@ -18,11 +18,11 @@ error_front message kind = codes "capnp_ls: message " ++ (decimal message ++ (co
 -- `line` reports the stop; the wording for an error is left open
 abbrev pub IsLineOf : Stop → List ℕ → Type 0
 IsLineOf Usage line = line ≡ usage_line
-IsLineOf (Refused message error) line = (text : List ℕ) × (line ≡ error_front message error.kind ++ (text ++ newline))
+IsLineOf (Refused message error) line = (reason : List ℕ) × (line ≡ error_front message error.kind ++ (reason ++ newline))
 
 -- `line` says why a stream of this name failed; the wording of the reason is left open
 abbrev pub IsDeviceErrorLine : List ℕ → List ℕ → Type 0
-IsDeviceErrorLine name line = (text : List ℕ) × (line ≡ codes "capnp_ls: " ++ (name ++ (codes ": " ++ (text ++ newline))))
+IsDeviceErrorLine name line = (reason : List ℕ) × (line ≡ codes "capnp_ls: " ++ (name ++ (codes ": " ++ (reason ++ newline))))
 
 -- the status that the program ends with
 abbrev pub status_of : Stop → ℕ

@@ -2,7 +2,7 @@
 ghost use Rattle.std.specs.Prelude.{◌≡◌, ◌⊎◌, map, string_bytes, IfSome, IfNone, IfErr, OnOk};
 ghost use Rattle.capnp.specs.Prelude.{ErrorKind, Fails, IfKnown, Adds, Grows};
 ghost use Rattle.capnp_ls.specs.declared.flags.Flag.{Flag};
-ghost use Rattle.capnp_ls.specs.Flags.{IsFlag, text_of};
+ghost use Rattle.capnp_ls.specs.Flags.{IsFlag, lines_of};
 
 use capnp::Result;
 use capnp::io::Write;
@@ -64,8 +64,8 @@ impl Flag {
     }
 
     /// What it prints.
-    fn text(self) -> &'static str
-        ensures { result.now ≡ text_of self }
+    fn lines(self) -> &'static str
+        ensures { result.now ≡ lines_of self }
     {
         match self {
             Flag::Help => HELP,
@@ -76,13 +76,13 @@ impl Flag {
 
 /// Writes what a flag prints, in one chunk.
 pub fn print_flag<W: Write>(flag: Flag, sink: &mut W) -> Result<()>
-    ensures text { OnOk result (IfKnown (W.written sink.old) (W.written sink.new)
-        (Adds (W.appends (text_of flag)))) }
+    ensures lines { OnOk result (IfKnown (W.written sink.old) (W.written sink.new)
+        (Adds (W.appends (lines_of flag)))) }
     ensures failed { IfErr result (λ error. error.kind ≡ ErrorKind.DeviceFailed →
         Fails (W.failures sink.old) (W.failures sink.new)) }
     ensures errors { IfErr result (λ error. (error.kind ≡ ErrorKind.DeviceFailed)
-        ⊎ W.refuses (text_of flag) error.kind) }
+        ⊎ W.refuses (lines_of flag) error.kind) }
     ensures grows { Grows W.written W.failures W.same sink.old sink.new }
 {
-    sink.write_all(flag.text().as_bytes())
+    sink.write_all(flag.lines().as_bytes())
 }

@@ -27,14 +27,14 @@ pub fn list_each<R: BufRead, W: Write>(
         (PrintedErrors (Command.Listing format padding) W.appends W.leaves W.refuses) result }
 {
     let mut spare = SegmentLengthsBuilder::empty(alloc);
-    let mut text = Vec::new(alloc);
+    let mut line = Vec::new(alloc);
     for message in 0..u64::MAX {
         let lengths = match skip_next(source, format, padding, spare) {
             Ok(Some(lengths)) => lengths,
             Ok(None) => return Ok(()),
             Err(error) => return Err(FailedAt { message, error }),
         };
-        match print_line(sink, message, &lengths, &mut text) {
+        match print_line(sink, message, &lengths, &mut line) {
             Ok(()) => spare = lengths,
             Err(error) => return Err(FailedAt { message, error }),
         }
@@ -60,12 +60,12 @@ fn skip_next<R: BufRead>(
     }
 }
 
-// Prints the line for a message of these lengths. The line is made in `text`.
+// Prints the line for a message of these lengths. The line is made in `line`.
 fn print_line<W: Write>(
     sink: &mut W,
     index: u64,
     lengths: &SegmentLengthsBuilder,
-    text: &mut Vec<u8>,
+    line: &mut Vec<u8>,
 ) -> Result<()>
     requires { length lengths.now < 2 ^ 32 }
     ensures written { OnOk result (IfKnown (W.written sink.old) (W.written sink.new)
@@ -80,6 +80,6 @@ fn print_line<W: Write>(
         Fails (W.failures sink.old) (W.failures sink.new)) }
     ensures grows { Grows W.written W.failures W.same sink.old sink.new }
 {
-    write_line(text, index, lengths)?;
-    sink.write_all(text)
+    write_line(line, index, lengths)?;
+    sink.write_all(line)
 }

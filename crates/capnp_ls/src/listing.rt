@@ -7,38 +7,38 @@ use capnp::Result;
 use capnp::io::Write;
 use capnp::serialize::SegmentLengthsBuilder;
 
-/// Makes `text` the line for a message of these lengths: its index, the number of its segments, the
+/// Makes `line` the line for a message of these lengths: its index, the number of its segments, the
 /// words of all of them, and the words of each.
-pub fn write_line(text: &mut Vec<u8>, index: u64, lengths: &SegmentLengthsBuilder) -> Result<()>
+pub fn write_line(line: &mut Vec<u8>, index: u64, lengths: &SegmentLengthsBuilder) -> Result<()>
     requires { length lengths.now < 2 ^ 32 }
-    ensures ok { OnOk result (text.new.items ≡ line_of index lengths.now) }
+    ensures ok { OnOk result (line.new.items ≡ line_of index lengths.now) }
     ensures memory { IfErr result (λ error. error.kind ≡ ErrorKind.OutOfMemory) }
 {
-    text.clear();
-    push_decimal(text, index)?;
-    push_spaced(text, lengths.segments_count() as u64)?;
-    push_spaced(text, lengths.total_words() as u64)?;
+    line.clear();
+    push_decimal(line, index)?;
+    push_spaced(line, lengths.segments_count() as u64)?;
+    push_spaced(line, lengths.total_words() as u64)?;
     let mut id = 0;
     while let Some(words) = lengths.length_of(id) {
-        push_spaced(text, words as u64)?;
+        push_spaced(line, words as u64)?;
         id += 1;
     }
-    text.push(b'\n')?;
+    line.push(b'\n')?;
     Ok(())
 }
 
 // Adds a space and a number.
-fn push_spaced(text: &mut Vec<u8>, number: u64) -> Result<()>
-    ensures ok { OnOk result (text.new.items ≡ text.old.items ++ spaced number) }
+fn push_spaced(line: &mut Vec<u8>, number: u64) -> Result<()>
+    ensures ok { OnOk result (line.new.items ≡ line.old.items ++ spaced number) }
     ensures memory { IfErr result (λ error. error.kind ≡ ErrorKind.OutOfMemory) }
 {
-    text.push(b' ')?;
-    push_decimal(text, number)
+    line.push(b' ')?;
+    push_decimal(line, number)
 }
 
 // Adds a number in decimal.
-fn push_decimal(text: &mut Vec<u8>, number: u64) -> Result<()>
-    ensures ok { OnOk result (text.new.items ≡ text.old.items ++ decimal number) }
+fn push_decimal(line: &mut Vec<u8>, number: u64) -> Result<()>
+    ensures ok { OnOk result (line.new.items ≡ line.old.items ++ decimal number) }
     ensures memory { IfErr result (λ error. error.kind ≡ ErrorKind.OutOfMemory) }
 {
     let mut digits = [0; 20];
@@ -51,6 +51,6 @@ fn push_decimal(text: &mut Vec<u8>, number: u64) -> Result<()>
     }
     at -= 1;
     digits[at] = 48 + left as u8;
-    text.write_all(&digits[at..])?;
+    line.write_all(&digits[at..])?;
     Ok(())
 }

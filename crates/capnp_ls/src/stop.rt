@@ -39,7 +39,7 @@ impl Stop {
 /// line, which that of the usage doesn't take.
 pub fn report<W: Write>(alloc: Global, stop: &Stop, sink: &mut W) -> Result<()>
     ensures line { OnOk result (IfKnown (W.written sink.old) (W.written sink.new)
-        (Adds (λ text. (line : List ℕ) × IsLineOf stop.now line × W.appends line text))) }
+        (Adds (λ added. (line : List ℕ) × IsLineOf stop.now line × W.appends line added))) }
     ensures failed { IfErr result (λ error. error.kind ≡ ErrorKind.DeviceFailed →
         Fails (W.failures sink.old) (W.failures sink.new)) }
     ensures errors { IfErr result (λ error. (error.kind ≡ ErrorKind.DeviceFailed)
@@ -69,9 +69,9 @@ fn error_line(
     ensures { IfOk result (λ line. IsLineOf (Refused message error.now) (string_bytes line)) }
 {
     let number = error.kind.number();
-    let text = error.to_string(alloc)?;
+    let reason = error.to_string(alloc)?;
     let mut line = format!(in alloc; "capnp_ls: message {message}: error {number} ")?;
-    line.push_str(&text)?;
+    line.push_str(&reason)?;
     line.push('\n')?;
     Ok(line)
 }
@@ -86,7 +86,7 @@ pub fn report_device_error<W: Write>(
     sink: &mut W,
 ) -> Result<()>
     ensures line { OnOk result (IfKnown (W.written sink.old) (W.written sink.new)
-        (Adds (λ text. (line : List ℕ) × IsDeviceErrorLine name.now line × W.appends line text))) }
+        (Adds (λ added. (line : List ℕ) × IsDeviceErrorLine name.now line × W.appends line added))) }
     ensures failed { IfErr result (λ error. error.kind ≡ ErrorKind.DeviceFailed →
         Fails (W.failures sink.old) (W.failures sink.new)) }
     ensures errors { IfErr result (λ error. (error.kind ≡ ErrorKind.DeviceFailed)
@@ -107,9 +107,9 @@ fn device_error_line(
 ) -> std::result::Result<String, AllocError>
     ensures { IfOk result (λ line. IsDeviceErrorLine name.now (string_bytes line)) }
 {
-    let text = device_error.to_string(alloc)?;
+    let reason = device_error.to_string(alloc)?;
     let mut line = format!(in alloc; "capnp_ls: {name}: ")?;
-    line.push_str(&text)?;
+    line.push_str(&reason)?;
     line.push('\n')?;
     Ok(line)
 }

@@ -4,7 +4,7 @@ use Rattle.std.specs.Borrow.{Bor}
 use Rattle.capnp_layout.specs.Prelude.{struct, null, pointers, Trees, none, tree}
 use Rattle.capnp_wire.specs.Prelude.{IsTextTree}
 use Rattle.capnp_values.specs.DataSections.{with_field}
-use Rattle.capnp_orphans.specs.Held.{AreTrees}
+use Rattle.capnp_orphans.specs.Holds.{AreTrees}
 
 -- the data words of a node
 abbrev pub node_words : ℕ → List ℕ

@@ -2,7 +2,7 @@
 ghost use Rattle.std.specs.Prelude.{◌≡◌, ◌∷◌, [], ℕ, IfOk};
 ghost use Rattle.capnp_layout.specs.Prelude.{none, message_of, At, root, numbers_of, canon};
 ghost use Rattle.capnp_orphans.specs.Adding.{Adds};
-ghost use Rattle.capnp_orphans.specs.Held.{HoldsStruct, HoldsValue, word_of};
+ghost use Rattle.capnp_orphans.specs.Holds.{HoldsStruct, HoldsValue, word_of};
 ghost use Rattle.capnp_orphans.specs.Segments.{body_of};
 ghost use Rattle.capnp_orphan_tests.specs.Uses.{binary, IsBinary, IsTextList, node_words};
 

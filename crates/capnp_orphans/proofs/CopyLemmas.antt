@@ -19,7 +19,7 @@ use Rattle.capnp_wire.proofs.views.PartWordLemmas.{null_reported}
 use Rattle.capnp_layout.proofs.words.PutLemmas.{words_split}
 use Rattle.capnp_orphans.specs.Orphans.{link, IsOrphan}
 use Rattle.capnp_orphans.specs.Segments.{Segment, body_of, Appends, IsPastMost}
-use Rattle.capnp_orphans.specs.Held.{HoldsValue}
+use Rattle.capnp_orphans.specs.Holds.{HoldsValue}
 use Rattle.capnp_orphans.specs.Adding.{Fails}
 use Rattle.capnp_orphans.specs.Copied.{TakesCopy, CopyError, TakesCopies}
 

@@ -10,7 +10,7 @@ use Rattle.capnp_frame.specs.declared.error.ErrorKind.TheVariants.{AllocationToo
 use Rattle.capnp_layout.specs.Prelude.{Trees, total_words, nothing, output, too_large}
 use Rattle.capnp_wire.specs.Prelude.{LeadsToTree, Struct, Pointer, Denotes, pointer_in}
 use Rattle.capnp_orphans.specs.Segments.{Segment, body_of, Appends}
-use Rattle.capnp_orphans.specs.Held.{AreValues, HoldsValue}
+use Rattle.capnp_orphans.specs.Holds.{AreValues, HoldsValue}
 use Rattle.capnp_orphans.specs.Adding.{Keeps, Adds, Fails, Writes, HasRoom, RoomError}
 use Rattle.capnp_orphans.specs.Copied.{pointers_in, TakesCopy, CopyError, TakesCopies, Copies}
 use Rattle.capnp_orphans.specs.OrphanLaws.{one_value_more, keeps_on}
@@ -43,7 +43,7 @@ none_copied fields old pointers = record {
   most = refl;
   memory = omega arith;
   within_memory = λ some. absurd (omega (arith, some));
-  stays_within = λ held. held;
+  stays_within = λ within. within;
 }
 
 -- one more is
@@ -81,7 +81,7 @@ one_copied {T} fields count old between new pointers pointer word object same wi
       most = writes.most ∙ so.most;
       memory = omega (arith, so.memory, writes.memory);
       within_memory = λ some. writes.within_memory;
-      stays_within = λ held. writes.within_memory;
+      stays_within = λ within. writes.within_memory;
     }
 
 -- a copy of too many words
@@ -172,7 +172,7 @@ copy_failed {T} {U} fields count index old between new pointers pointer made err
       most = writes.most ∙ so.most;
       memory = omega (arith, so.memory, writes.memory);
       within_memory = tt;
-      stays_within = λ held. subst (λ (s : Segment). length s.bytes ≤ s.capacity) stays (so.stays_within held);
+      stays_within = λ within. subst (λ (s : Segment). length s.bytes ≤ s.capacity) stays (so.stays_within within);
     })
 
 -- what is said of the pointers is said of what has them

@@ -15,7 +15,7 @@ use Rattle.capnp_wire.proofs.views.ValueLemmas.{put_whole}
 use Rattle.capnp_values.proofs.structs.SectionLemmas.{data_put}
 use Rattle.capnp_orphans.specs.declared.draft.StructDraft.{StructDraft}
 use Rattle.capnp_orphans.specs.Orphans.{link, links, IsOrphan, AreOrphans}
-use Rattle.capnp_orphans.specs.Held.{words_of_each, adopted_by, elements, AreSized}
+use Rattle.capnp_orphans.specs.Holds.{words_of_each, adopted_by, elements, AreSized}
 use Rattle.capnp_orphans.proofs.LinkLemmas.{length-links_at, read_link}
 use Rattle.capnp_orphans.proofs.OrphanLemmas.{orphans_are_at, words_appended}
 

@@ -7,7 +7,7 @@ use Rattle.capnp_layout.specs.Prelude.{words_of, words_for, numbers, none, tree,
 use Rattle.capnp_layout.proofs.words.BytesLemmas.{padded, text_own, long_end}
 use Rattle.capnp_wire.specs.Prelude.{HasWords, IsTextTree}
 use Rattle.capnp_orphans.specs.Orphans.{IsOrphan}
-use Rattle.capnp_orphans.specs.Held.{HoldsValue}
+use Rattle.capnp_orphans.specs.Holds.{HoldsValue}
 use Rattle.capnp_orphans.proofs.OrphanLemmas.{value_is_orphan}
 use Rattle.capnp_orphans.proofs.WrittenLemmas.{last_part}
 

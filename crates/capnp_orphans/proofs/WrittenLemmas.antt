@@ -11,7 +11,7 @@ use Rattle.capnp_layout.proofs.trees.PlacedLemmas.{alone}
 use Rattle.capnp_wire.proofs.layouts.FreeLemmas.{whole_written}
 use Rattle.capnp_orphans.specs.declared.draft.StructDraft.{StructDraft}
 use Rattle.capnp_orphans.specs.Orphans.{links, IsOrphan}
-use Rattle.capnp_orphans.specs.Held.{HoldsValue, HoldsStruct, HoldsPointers, HoldsStructs, words_of_each, elements, AreSized}
+use Rattle.capnp_orphans.specs.Holds.{HoldsValue, HoldsStruct, HoldsPointers, HoldsStructs, words_of_each, elements, AreSized}
 use Rattle.capnp_orphans.proofs.OrphanLemmas.{struct_is_orphan, pointers_are_orphan, value_is_orphan}
 use Rattle.capnp_orphans.proofs.StructListLemmas.{structs_are_orphan}
 

@@ -7,7 +7,7 @@ use Rattle.capnp_frame.specs.declared.error.ErrorKind.TheVariants.{AllocationToo
 use Rattle.capnp_layout.specs.Prelude.{nothing, Trees, total_words}
 use Rattle.capnp_wire.specs.Prelude.{HasWords, WordsError, LeadsToTree, WalkErrorFrom, Struct, Pointer, Denotes, pointer_in}
 use Rattle.capnp_orphans.specs.Segments.{Segment, body_of, Appends, IsPastMost}
-use Rattle.capnp_orphans.specs.Held.{AreValues}
+use Rattle.capnp_orphans.specs.Holds.{AreValues}
 use Rattle.capnp_orphans.specs.Adding.{Keeps, RoomError, HasRoom}
 
 -- the data words of a struct, cut to this many or filled up with zeros

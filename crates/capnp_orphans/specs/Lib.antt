@@ -1,7 +1,7 @@
 -- What is in a segment that is built from the bottom up.
 pub mod Orphans
 pub mod Segments
-pub mod Held
+pub mod Holds
 pub mod Adding
 pub mod Copied
 pub mod OrphanLaws

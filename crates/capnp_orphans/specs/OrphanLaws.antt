@@ -7,7 +7,7 @@ use Rattle.capnp_layout.specs.Prelude.{Form, struct, structs, pointers, Trees, n
 use Rattle.capnp_orphans.specs.declared.draft.StructDraft.{StructDraft}
 use Rattle.capnp_orphans.specs.Orphans.{link, TreeIsAt, IsOrphan, AreOrphans}
 use Rattle.capnp_orphans.specs.Segments.{Segment, body_of}
-use Rattle.capnp_orphans.specs.Held.{HoldsValue, HoldsStruct, HoldsPointers, HoldsStructs, words_of_each, adopted_by, AreValues, AreTrees}
+use Rattle.capnp_orphans.specs.Holds.{HoldsValue, HoldsStruct, HoldsPointers, HoldsStructs, words_of_each, adopted_by, AreValues, AreTrees}
 use Rattle.capnp_orphans.specs.Adding.{Keeps, SetsRoot}
 
 -- an orphan is still one of the same tree when words are appended

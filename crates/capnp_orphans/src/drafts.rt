@@ -52,7 +52,7 @@ impl<'a, T, const D: usize, const P: usize, B: Draft<T, D, P>> DraftSource<T, D,
 
 impl<S: GrowingSegment> Orphanage<S> {
     ghost use Rattle.capnp_orphans.specs.Adding.{Adds, Writes};
-    ghost use Rattle.capnp_orphans.specs.Held.{word_of, HoldsStructs, TakesStructs, ManyStructs};
+    ghost use Rattle.capnp_orphans.specs.Holds.{word_of, HoldsStructs, TakesStructs, ManyStructs};
     ghost use Rattle.capnp_orphans.specs.Segments.{body_of};
 
     /// Writes a list of structs of a schema's own type, by their builders, as an orphan of the type

@@ -4,7 +4,7 @@ ghost use Rattle.std.specs.Prelude.{◌≡◌, ◌+◌, ◌*◌, ◌≤◌, ℕ,
 ghost use Rattle.capnp_layout.specs.Prelude.{Form, Trees, null, none};
 ghost use Rattle.capnp_orphans.specs.Orphans.{AreOrphans, IsOrphan};
 ghost use Rattle.capnp_orphans.specs.Segments.{Segment, body_of};
-ghost use Rattle.capnp_orphans.specs.Held.{AreTrees, AreValues, HoldsValue};
+ghost use Rattle.capnp_orphans.specs.Holds.{AreTrees, AreValues, HoldsValue};
 ghost use Rattle.capnp_orphans.specs.Adding.{Keeps};
 ghost use Rattle.capnp_orphans.specs.Copied.{words_in};
 ghost use Rattle.capnp_wire.specs.Prelude.{field, Struct};

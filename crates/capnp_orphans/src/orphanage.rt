@@ -4,7 +4,7 @@ ghost use Rattle.capnp_frame.specs.declared.error.ErrorKind.TheVariants.{OutOfMe
 ghost use Rattle.capnp_wire.specs.Prelude.{HasWords, WordsError, IsTextTree, LongText, IsBytes, ManyBytes};
 ghost use Rattle.capnp_values.specs.NumberLists.{IsNumberList, ManyNumbers};
 ghost use Rattle.capnp_orphans.specs.Segments.{body_of, with_root_alone};
-ghost use Rattle.capnp_orphans.specs.Held.{word_of, HoldsValue, HoldsStruct, HoldsPointers, HoldsStructs, TakesStruct, StructSizeError, TakesPointers, ManyPointers, TakesStructs, ManyStructs};
+ghost use Rattle.capnp_orphans.specs.Holds.{word_of, HoldsValue, HoldsStruct, HoldsPointers, HoldsStructs, TakesStruct, StructSizeError, TakesPointers, ManyPointers, TakesStructs, ManyStructs};
 ghost use Rattle.capnp_orphans.specs.Adding.{Adds, Writes, Fails, SetsRoot, AddsRoot};
 
 mod built;

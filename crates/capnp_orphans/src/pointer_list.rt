@@ -26,7 +26,7 @@ impl<'a, T> PointerList<'a, T> {
 // 2^29 pointers and more fail with `AllocationTooLarge` of their number.
 impl<'a, T> Object for PointerList<'a, T> {
     ghost use Rattle.std.specs.Prelude.{false, length, map};
-    ghost use Rattle.capnp_orphans.specs.Held.{HoldsPointers, TakesPointers, ManyPointers, word_of};
+    ghost use Rattle.capnp_orphans.specs.Holds.{HoldsPointers, TakesPointers, ManyPointers, word_of};
 
     ghost holds = { λ list old new word. HoldsPointers old (map word_of list.items.now) new word };
 

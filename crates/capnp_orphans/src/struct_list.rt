@@ -1,7 +1,7 @@
 //! Lists of structs as objects.
 ghost use Rattle.std.specs.Prelude.{◌≡◌, ◌+◌, ◌*◌, ◌<◌, ◌^◌, length};
 ghost use Rattle.capnp_layout.specs.Prelude.{words_of};
-ghost use Rattle.capnp_orphans.specs.Held.{AreSized, elements};
+ghost use Rattle.capnp_orphans.specs.Holds.{AreSized, elements};
 
 use crate::draft::writing::draft_fits;
 use crate::draft_source::DraftSource;
@@ -37,7 +37,7 @@ impl<'a, T, const D: usize, const P: usize, S: DraftSource<T, D, P>> StructList<
 impl<'a, T, const D: usize, const P: usize, S: DraftSource<T, D, P>> Object
     for StructList<'a, T, D, P, S> {
     ghost use Rattle.std.specs.Prelude.{false, length};
-    ghost use Rattle.capnp_orphans.specs.Held.{HoldsStructs, TakesStructs, ManyStructs};
+    ghost use Rattle.capnp_orphans.specs.Holds.{HoldsStructs, TakesStructs, ManyStructs};
 
     ghost holds = { λ list old new word. HoldsStructs old (S.drafts list.source.now) new word };
 

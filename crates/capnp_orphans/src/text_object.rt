@@ -28,7 +28,7 @@ impl<'a> TextObject<'a> {
 impl<'a> Object for TextObject<'a> {
     ghost use Rattle.std.specs.Prelude.{false, true};
     ghost use Rattle.capnp_wire.specs.Values.{HasWords, WordsError, IsTextTree, LongText};
-    ghost use Rattle.capnp_orphans.specs.Held.{HoldsValue};
+    ghost use Rattle.capnp_orphans.specs.Holds.{HoldsValue};
 
     ghost holds = { λ object old new word. HoldsValue (IsTextTree object.text.now) new word };
 

@@ -29,7 +29,7 @@ impl<'a, T, V> Value<'a, T, V> {
 impl<'a, T, V: SetterInput<T>> Object for Value<'a, T, V> {
     ghost use Rattle.std.specs.Prelude.{false, true};
     ghost use Rattle.capnp_wire.specs.Values.{HasWords, WordsError};
-    ghost use Rattle.capnp_orphans.specs.Held.{HoldsValue};
+    ghost use Rattle.capnp_orphans.specs.Holds.{HoldsValue};
 
     ghost holds = { λ object old new word. HoldsValue (V.has_tree object.value.now) new word };
 

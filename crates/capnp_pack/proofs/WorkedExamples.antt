@@ -54,8 +54,8 @@ five_packed = record {
   one_word = refl;
   table = record { can = record { some = lit< tt; count = lit≤ tt; each = (lit< tt, (lit< tt, (lit< tt, (lit< tt, (lit< tt, tt))))) }; padding = []; padded = refl; kept = refl; spelled = refl };
   whole = (refl, (refl, (refl, (refl, (refl, tt)))));
-  first_text = 0x11 ∷ 4 ∷ 1 ∷ [];
-  others_text = 0 ∷ 1 ∷ [];
+  first_encoding = 0x11 ∷ 4 ∷ 1 ∷ [];
+  others_encoding = 0 ∷ 1 ∷ [];
   segments_encoding = 0 ∷ 0 ∷ [];
   first_packed = record {
     groups = tagged 0x11 (4 ∷ 0 ∷ 0 ∷ 0 ∷ 1 ∷ 0 ∷ 0 ∷ 0 ∷ []) ∷ [];

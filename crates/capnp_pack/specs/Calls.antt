@@ -12,8 +12,8 @@ use Rattle.capnp_pack.specs.Steps.{LeavesParts}
 -- of some bytes of which `remains` holds, the first parts are handed on, and of the next part what
 -- the sink leaves of it
 abbrev pub LeavesOf : {S : Type 0} → Sink S → S → S → (List ℕ → Type 0) → Type 0
-LeavesOf sink old new remains = (text : List ℕ) × remains text
-    × IfKnown (sink.written old) (sink.written new) (Adds (LeavesParts sink.appends sink.leaves text))
+LeavesOf sink old new remains = (encoding : List ℕ) × remains encoding
+    × IfKnown (sink.written old) (sink.written new) (Adds (LeavesParts sink.appends sink.leaves encoding))
 
 -- A call that hands bytes on to a sink. `sink` is what is seen of the sink (the members of the
 -- trait Write), `old` and `new` are the sink before the call and after it. `remains` holds of the

@@ -2,7 +2,7 @@
 use Rattle.std.specs.Prelude.{◌≡◌, ◌≢◌, ℕ, ◌<◌, ◌≤◌, List, [], ◌∷◌, length, ⊤}
 use Rattle.std.specs.List.{concat, AllByRecursion}
 use Rattle.capnp_pack.specs.Group.{Group, tagged, zeros, literal, IsGroup, zero_word, zero_bytes, marked}
-use Rattle.capnp_pack.specs.Chunk.{text_of, words_of_groups}
+use Rattle.capnp_pack.specs.Chunk.{encoding_of, words_of_groups}
 
 -- P holds of the first of the words, if there is one
 abbrev pub IfFirst : List (List ℕ) → (List ℕ → Type 0) → Type 0
@@ -24,10 +24,10 @@ abbrev pub AreLongest : List Group → Type 0
 AreLongest [] = ⊤
 AreLongest (group ∷ groups) = IsLongest group (words_of_groups groups) × AreLongest groups
 
--- `text` is what a packer makes of `bytes`.
-pub record Packs (bytes text : List ℕ) : Type 0 where
+-- `encoding` is what a packer makes of `bytes`.
+pub record Packs (bytes encoding : List ℕ) : Type 0 where
   pub groups : List Group
   pub each : AllByRecursion IsGroup groups
   pub longest : AreLongest groups
-  pub spelled : text ≡ text_of groups
+  pub spelled : encoding ≡ encoding_of groups
   pub unpacked : bytes ≡ concat (words_of_groups groups)

@@ -6,14 +6,14 @@ use Rattle.std.specs.List.{concat, AllByRecursion}
 use Rattle.capnp_frame.specs.declared.error.ErrorKind.{ErrorKind}
 use Rattle.capnp_frame.specs.Prelude.{IsSource, same_front}
 use Rattle.capnp_pack.specs.Group.{Group, tagged, zeros, literal, IsGroup, AreZero, group_encoding, group_words, marked, unmarked}
-use Rattle.capnp_pack.specs.Chunk.{text_of, words_of_groups}
+use Rattle.capnp_pack.specs.Chunk.{encoding_of, words_of_groups}
 use Rattle.capnp_pack.specs.PackedSource.{Unpacks, head_encoding, run_encoding, group_size, IsHeadCut, IsHeadAt, GroupError, PackedError, ChunkError}
 use Rattle.capnp_pack.specs.UnpackingLaws.{length-words, same_word, same_group, unpack_whole, unpack_once, none_unpacked, takes_no_group}
 
-text_parts : (g : Group) → group_encoding g ≡ head_encoding g ++ run_encoding g
-text_parts (tagged tag word) = sym (append-nil (tag ∷ marked tag word))
-text_parts (zeros more) = refl
-text_parts (literal word further) = ap (λ l. 255 ∷ l) (sym (append_assoc word (length further ∷ []) (concat further)))
+encoding_parts : (g : Group) → group_encoding g ≡ head_encoding g ++ run_encoding g
+encoding_parts (tagged tag word) = sym (append-nil (tag ∷ marked tag word))
+encoding_parts (zeros more) = refl
+encoding_parts (literal word further) = ap (λ l. 255 ∷ l) (sym (append_assoc word (length further ∷ []) (concat further)))
 
 -- what a head says of its group
 record SameHead (g h : Group) (x y : List ℕ) : Type 0 where
@@ -25,13 +25,13 @@ record SameHead (g h : Group) (x y : List ℕ) : Type 0 where
 same_head : (g h : Group) (x y : List ℕ) → IsGroup g → IsGroup h → head_encoding g ++ x ≡ head_encoding h ++ y → SameHead g h x y
 same_head (tagged t w) (tagged u v) x y p q e =
     let tags : t ≡ u = cc in
-    let texts : marked t w ++ x ≡ marked u v ++ y = cc in
-    let word = same_word w v t x y (p.2 ∙ sym q.2) p.3 (subst (λ k. AreZero (unmarked k v)) (sym tags) q.3) (texts ∙ ap (λ k. marked k v ++ y) (sym tags)) in
+    let encodings : marked t w ++ x ≡ marked u v ++ y = cc in
+    let word = same_word w v t x y (p.2 ∙ sym q.2) p.3 (subst (λ k. AreZero (unmarked k v)) (sym tags) q.3) (encodings ∙ ap (λ k. marked k v ++ y) (sym tags)) in
     record { following = word.1; size = ap (λ l. length (l ++ [])) word.0; run = refl }
 same_head (zeros m) (zeros n) x y p q e = let more : m ≡ n = cc in let rest : x ≡ y = cc in record { following = rest; size = ap (λ k. group_size (zeros k)) more; run = refl }
 same_head (literal w fs) (literal v hs) x y p q e =
-    let texts : (w ++ length fs ∷ []) ++ x ≡ (v ++ length hs ∷ []) ++ y = cc in
-    let words = same_front w v (length fs ∷ x) (length hs ∷ y) (p.0 ∙ sym q.0) (sym (append_assoc w (length fs ∷ []) x) ∙ texts ∙ append_assoc v (length hs ∷ []) y) in
+    let encodings : (w ++ length fs ∷ []) ++ x ≡ (v ++ length hs ∷ []) ++ y = cc in
+    let words = same_front w v (length fs ∷ x) (length hs ∷ y) (p.0 ∙ sym q.0) (sym (append_assoc w (length fs ∷ []) x) ∙ encodings ∙ append_assoc v (length hs ∷ []) y) in
     let after : length fs ∷ x ≡ length hs ∷ y = words.1 in
     let counts : length fs ≡ length hs = cc in
     let rests : x ≡ y = cc in
@@ -81,7 +81,7 @@ no_error g left rest n kind is e fits error = elim error [
 ]
   where
     at : IsHeadAt g left (run_encoding g ++ rest)
-    at = record { is = is; spelled = e ∙ ap (λ l. l ++ rest) (text_parts g) ∙ append_assoc (head_encoding g) (run_encoding g) rest }
+    at = record { is = is; spelled = e ∙ ap (λ l. l ++ rest) (encoding_parts g) ∙ append_assoc (head_encoding g) (run_encoding g) rest }
 
 words_size : (g : Group) (gs : List Group) → length (concat (words_of_groups (g ∷ gs))) ≡ group_size g + length (concat (words_of_groups gs))
 words_size g gs = ap length (concat-append (group_words g) (words_of_groups gs)) ∙ length-append (concat (group_words g)) (concat (words_of_groups gs))
@@ -96,7 +96,7 @@ error_later g rest n kind is p =
       groups = g ∷ p.groups;
       each = (is, p.each);
       left = p.left;
-      spelled = ap (λ l. group_encoding g ++ l) p.spelled ∙ sym (append_assoc (group_encoding g) (text_of p.groups) p.left);
+      spelled = ap (λ l. group_encoding g ++ l) p.spelled ∙ sym (append_assoc (group_encoding g) (encoding_of p.groups) p.left);
       fewer = omega (arith, size, fewer);
       error = subst (λ k. GroupError p.left k kind) len p.error;
     }
@@ -104,41 +104,41 @@ error_later g rest n kind is p =
 pub error_after : (g : Group) (rest : List ℕ) (n : ℕ) (kind : ErrorKind) → IsGroup g → group_size g ≤ n → PackedError (group_encoding g ++ rest) n kind → PackedError rest (n - group_size g) kind
 error_after g rest n kind is fits p = after p.groups p.each p.spelled p.fewer p.error
   where
-    after : (gs : List Group) → AllByRecursion IsGroup gs → group_encoding g ++ rest ≡ text_of gs ++ p.left → length (concat (words_of_groups gs)) < n →
+    after : (gs : List Group) → AllByRecursion IsGroup gs → group_encoding g ++ rest ≡ encoding_of gs ++ p.left → length (concat (words_of_groups gs)) < n →
         GroupError p.left (n - length (concat (words_of_groups gs))) kind → PackedError rest (n - group_size g) kind
     after [] each e fewer error = absurd (no_error g p.left rest (n - 0) kind is (sym e) (omega arith) error)
     after (h ∷ hs) each e fewer error =
-        let same = same_group g h rest (text_of hs ++ p.left) is each.0 (e ∙ append_assoc (group_encoding h) (text_of hs) p.left) in
+        let same = same_group g h rest (encoding_of hs ++ p.left) is each.0 (e ∙ append_assoc (group_encoding h) (encoding_of hs) p.left) in
         let size = words_size h hs in
         let sizes : group_size g ≡ group_size h = ap length same.0 in
         let len : n - length (concat (words_of_groups (h ∷ hs))) ≡ (n - group_size g) - length (concat (words_of_groups hs)) = omega (arith, size, sizes) in
         record { groups = hs; each = each.1; left = p.left; spelled = same.1; fewer = omega (arith, size, sizes, fewer); error = subst (λ k. GroupError p.left k kind) len error }
 
 -- a whole chunk has no error
-error_apart : (gs : List Group) (raw rest : List ℕ) (n : ℕ) (kind : ErrorKind) → AllByRecursion IsGroup gs → raw ≡ text_of gs ++ rest →
+error_apart : (gs : List Group) (raw rest : List ℕ) (n : ℕ) (kind : ErrorKind) → AllByRecursion IsGroup gs → raw ≡ encoding_of gs ++ rest →
     length (concat (words_of_groups gs)) ≡ n → PackedError raw n kind → ⊥
 error_apart [] raw rest n kind each e len p = absurd (omega (arith, p.fewer))
 error_apart (g ∷ gs) raw rest n kind each e len p =
     let size = words_size g gs in
-    error_apart gs (text_of gs ++ rest) rest (n - group_size g) kind each.1 refl (omega (arith, size))
-    (error_after g (text_of gs ++ rest) n kind each.0 (omega (arith, size)) (subst (λ l. PackedError l n kind) (e ∙ append_assoc (group_encoding g) (text_of gs) rest) p))
+    error_apart gs (encoding_of gs ++ rest) rest (n - group_size g) kind each.1 refl (omega (arith, size))
+    (error_after g (encoding_of gs ++ rest) n kind each.0 (omega (arith, size)) (subst (λ l. PackedError l n kind) (e ∙ append_assoc (group_encoding g) (encoding_of gs) rest) p))
 
 -- there is at most one first error
-error_once : (gs : List Group) (raw left : List ℕ) (n : ℕ) (kind other : ErrorKind) → AllByRecursion IsGroup gs → raw ≡ text_of gs ++ left →
+error_once : (gs : List Group) (raw left : List ℕ) (n : ℕ) (kind other : ErrorKind) → AllByRecursion IsGroup gs → raw ≡ encoding_of gs ++ left →
     length (concat (words_of_groups gs)) < n → GroupError left (n - length (concat (words_of_groups gs))) kind → PackedError raw n other → kind ≡ other
 error_once [] raw left n kind other each e fewer error q = first q.groups q.each q.spelled q.fewer q.error
   where
-    first : (hs : List Group) → AllByRecursion IsGroup hs → raw ≡ text_of hs ++ q.left → length (concat (words_of_groups hs)) < n →
+    first : (hs : List Group) → AllByRecursion IsGroup hs → raw ≡ encoding_of hs ++ q.left → length (concat (words_of_groups hs)) < n →
         GroupError q.left (n - length (concat (words_of_groups hs))) other → kind ≡ other
     first [] each spelled fewer found = GroupError-once left (n - 0) kind other error (subst (λ l. GroupError l (n - 0) other) (sym spelled ∙ e) found)
     first (h ∷ hs) each spelled fewer found =
         let size = words_size h hs in
-        absurd (no_error h left (text_of hs ++ q.left) (n - 0) kind each.0 (sym e ∙ spelled ∙ append_assoc (group_encoding h) (text_of hs) q.left) (omega (arith, size, fewer)) error)
+        absurd (no_error h left (encoding_of hs ++ q.left) (n - 0) kind each.0 (sym e ∙ spelled ∙ append_assoc (group_encoding h) (encoding_of hs) q.left) (omega (arith, size, fewer)) error)
 error_once (g ∷ gs) raw left n kind other each e fewer error q =
     let size = words_size g gs in
     let len : n - length (concat (words_of_groups (g ∷ gs))) ≡ (n - group_size g) - length (concat (words_of_groups gs)) = omega (arith, size) in
-    error_once gs (text_of gs ++ left) left (n - group_size g) kind other each.1 refl (omega (arith, size, fewer)) (subst (λ k. GroupError left k kind) len error)
-    (error_after g (text_of gs ++ left) n other each.0 (omega (arith, size, fewer)) (subst (λ l. PackedError l n other) (e ∙ append_assoc (group_encoding g) (text_of gs) left) q))
+    error_once gs (encoding_of gs ++ left) left (n - group_size g) kind other each.1 refl (omega (arith, size, fewer)) (subst (λ k. GroupError left k kind) len error)
+    (error_after g (encoding_of gs ++ left) n other each.0 (omega (arith, size, fewer)) (subst (λ l. PackedError l n other) (e ∙ append_assoc (group_encoding g) (encoding_of gs) left) q))
 
 pub PackedError-once : (raw : List ℕ) (n : ℕ) (kind other : ErrorKind) → PackedError raw n kind → PackedError raw n other → kind ≡ other
 PackedError-once raw n kind other p q = error_once p.groups raw p.left n kind other p.each p.spelled p.fewer p.error q

@@ -7,21 +7,21 @@ use Rattle.capnp_frame.specs.declared.serialize.segment_table.Padding.{Padding}
 use Rattle.capnp_pack.specs.Chunk.{IsChunk}
 use Rattle.capnp_pack.specs.Packed.{Packs}
 
--- `text` is three chunks, joined: of the table's first word, of its other words, and of all
+-- `encoding` is three chunks, joined: of the table's first word, of its other words, and of all
 -- segments joined. The rule accepts the table's padding.
-pub record IsPackedFrame (rule : Padding) (text : List ℕ) (segments : List (List ℕ)) : Type 0 where
+pub record IsPackedFrame (rule : Padding) (encoding : List ℕ) (segments : List (List ℕ)) : Type 0 where
   pub first : List ℕ
   pub others : List ℕ
   pub one_word : length first ≡ 8
   pub table : IsTable rule (first ++ others) (lengths segments)
   pub whole : AllByRecursion IsWholeWords segments
-  pub first_text : List ℕ
-  pub others_text : List ℕ
+  pub first_encoding : List ℕ
+  pub others_encoding : List ℕ
   pub segments_encoding : List ℕ
-  pub first_packed : IsChunk first_text first
-  pub others_packed : IsChunk others_text others
+  pub first_packed : IsChunk first_encoding first
+  pub others_packed : IsChunk others_encoding others
   pub segments_packed : IsChunk segments_encoding (concat segments)
-  pub spelled : text ≡ first_text ++ others_text ++ segments_encoding
+  pub spelled : encoding ≡ first_encoding ++ others_encoding ++ segments_encoding
 
 -- the table whose padding is zero: its first word, and its other words
 abbrev pub table_first : List (List ℕ) → List ℕ
@@ -32,15 +32,15 @@ table_others segments = drop 8 (zero_padded_table (lengths segments))
 
 -- The encoding that is written: what a packer makes of the first word of this table, of its other
 -- words, and of each segment.
-pub record IsPackedEncoding (text : List ℕ) (segments : List (List ℕ)) : Type 0 where
-  pub first_text : List ℕ
-  pub others_text : List ℕ
+pub record IsPackedEncoding (encoding : List ℕ) (segments : List (List ℕ)) : Type 0 where
+  pub first_encoding : List ℕ
+  pub others_encoding : List ℕ
   pub segments_encoding : List ℕ
-  pub first_packed : Packs (table_first segments) first_text
-  pub others_packed : Packs (table_others segments) others_text
+  pub first_packed : Packs (table_first segments) first_encoding
+  pub others_packed : Packs (table_others segments) others_encoding
   pub each_packed : AppendsAll Packs segments segments_encoding
-  pub spelled : text ≡ first_text ++ others_text ++ segments_encoding
+  pub spelled : encoding ≡ first_encoding ++ others_encoding ++ segments_encoding
 
 -- a packed encoding of the message is at the front
 abbrev pub PackedFound : Padding → List (List ℕ) → List ℕ → List ℕ → Type 0
-PackedFound rule segments raw rest = (text : List ℕ) × IsPackedFrame rule text segments × (raw ≡ text ++ rest)
+PackedFound rule segments raw rest = (encoding : List ℕ) × IsPackedFrame rule encoding segments × (raw ≡ encoding ++ rest)

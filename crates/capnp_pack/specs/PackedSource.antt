@@ -6,11 +6,11 @@ use Rattle.capnp_frame.specs.declared.error.ErrorKind.{ErrorKind}
 use Rattle.capnp_frame.specs.declared.error.ErrorKind.TheVariants.{FailedToFillTheWholeBuffer, PrematureEndOfPackedInput, PackedInputDidNotEndCleanlyOnASegmentBoundary, NotWholeWords}
 use Rattle.capnp_frame.specs.Prelude.{Unless, Giving, Refusing, IfKnown}
 use Rattle.capnp_pack.specs.Group.{Group, tagged, zeros, literal, IsGroup, group_words, marked}
-use Rattle.capnp_pack.specs.Chunk.{IsChunk, text_of, words_of_groups}
+use Rattle.capnp_pack.specs.Chunk.{IsChunk, encoding_of, words_of_groups}
 
 -- a packed request takes a chunk of n bytes
 abbrev pub Unpacks : Giving
-Unpacks raw n bytes rest = (text : List ℕ) × IsChunk text bytes × (raw ≡ text ++ rest) × (length bytes ≡ n)
+Unpacks raw n bytes rest = (encoding : List ℕ) × IsChunk encoding bytes × (raw ≡ encoding ++ rest) × (length bytes ≡ n)
 
 -- A group's encoding is its head and, after the count of a literal group, its run.
 abbrev pub head_encoding : Group → List ℕ
@@ -66,7 +66,7 @@ pub record PackedError (raw : List ℕ) (n : ℕ) (kind : ErrorKind) : Type 0 wh
   pub groups : List Group
   pub each : AllByRecursion IsGroup groups
   pub left : List ℕ
-  pub spelled : raw ≡ text_of groups ++ left
+  pub spelled : raw ≡ encoding_of groups ++ left
   pub fewer : length (concat (words_of_groups groups)) < n
   pub error : GroupError left (n - length (concat (words_of_groups groups))) kind
 
@@ -79,7 +79,7 @@ pub record LeavesOverrun (n : ℕ) (raw left : List ℕ) : Type 0 where
   pub group : Group
   pub is : IsGroup group
   pub long : n < length (concat (words_of_groups groups)) + group_size group
-  pub spelled : raw ≡ text_of groups ++ (head_encoding group ++ left)
+  pub spelled : raw ≡ encoding_of groups ++ (head_encoding group ++ left)
 
 -- where a call fails by such a count, `leaves` relates what was unread before it and after it
 abbrev pub Overran : {X : Type 0} → Result X Error → Option (List ℕ) → Option (List ℕ) → (List ℕ → List ℕ → Type 0) → Type 0

@@ -1,6 +1,6 @@
 -- The definitions that proofs and other crates cite, passed on from one place. Declares nothing.
 pub use Rattle.capnp_pack.specs.Calls.{HandsOn, LeavesOf, TakesFrom, TakesNext}
-pub use Rattle.capnp_pack.specs.Chunk.{IsChunk, text_of, words_of_groups}
+pub use Rattle.capnp_pack.specs.Chunk.{IsChunk, encoding_of, words_of_groups}
 pub use Rattle.capnp_pack.specs.Group.{AreZero, Group, IsGroup, IsWord, bytes_at, group_encoding, group_words, literal, marked, tagged, unmarked, zero_bytes, zero_word, zeros}
 pub use Rattle.capnp_pack.specs.Packed.{AreLongest, IfFirst, IsLongest, Packs}
 pub use Rattle.capnp_pack.specs.PackedFrame.{IsPackedEncoding, IsPackedFrame, PackedFound, table_first, table_others}

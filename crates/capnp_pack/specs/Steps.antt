@@ -5,7 +5,7 @@ use Rattle.capnp_frame.specs.declared.error.ErrorKind.{ErrorKind}
 use Rattle.capnp_frame.specs.declared.error.ErrorKind.TheVariants.{PrematureEndOfPackedInput, PackedInputDidNotEndCleanlyOnASegmentBoundary}
 use Rattle.capnp_frame.specs.Prelude.{Appending, Leaving, AppendsAll, LeavesSome, Refusing, RunsShort, IfKnown, ReturnsPart}
 use Rattle.capnp_pack.specs.Group.{Group, IsGroup, AreZero, group_encoding, group_words, marked, unmarked, zero_bytes, zero_word}
-use Rattle.capnp_pack.specs.Chunk.{IsChunk, text_of, words_of_groups}
+use Rattle.capnp_pack.specs.Chunk.{IsChunk, encoding_of, words_of_groups}
 use Rattle.capnp_pack.specs.Packed.{IfFirst, IsLongest}
 use Rattle.capnp_pack.specs.PackedSource.{Unpacks, GroupError, PackedError, head_encoding, group_size}
 
@@ -28,9 +28,9 @@ abbrev pub MarkedAt : ℕ → List ℕ → List ℕ → List ℕ → Type 0
 MarkedAt tag word raw left = (raw ≡ marked tag word ++ left) × AreZero (unmarked tag word)
 
 -- The first `used` bytes, at most eight, are the bytes of a word that a tag marks.
-pub record TakesMarked (tag : ℕ) (text word : List ℕ) (used : ℕ) : Type 0 where
+pub record TakesMarked (tag : ℕ) (encoding word : List ℕ) (used : ℕ) : Type 0 where
   pub used_within : used ≤ 8
-  pub marked : MarkedAt tag word text (drop used text)
+  pub marked : MarkedAt tag word encoding (drop used encoding)
 
 -- how many of a given number of bytes a tag marks
 abbrev pub marked_count : ℕ → ℕ → ℕ
@@ -59,16 +59,16 @@ pub record GroupFollowing (tag : ℕ) (following buffer : List ℕ) (used filled
   pub group : GroupAt tag (take filled buffer) following (drop used following)
 
 -- The first `used` bytes are groups, which fill `filled` bytes of a buffer.
-pub record Unpacked (text buffer : List ℕ) (used filled : ℕ) : Type 0 where
-  pub used_within : used ≤ length text
+pub record Unpacked (encoding buffer : List ℕ) (used filled : ℕ) : Type 0 where
+  pub used_within : used ≤ length encoding
   pub some : 0 < filled → 0 < used
   pub filled_within : filled ≤ length buffer
   pub whole : filled % 8 ≡ 0
-  pub chunk : IsChunk (take used text) (take filled buffer)
+  pub chunk : IsChunk (take used encoding) (take filled buffer)
 
 -- whole groups, whose words have this many bytes, are taken from the front
 abbrev pub HasProgress : ℕ → List ℕ → List ℕ → Type 0
-HasProgress count raw left = (groups : List Group) × AllByRecursion IsGroup groups × (raw ≡ text_of groups ++ left)
+HasProgress count raw left = (groups : List Group) × AllByRecursion IsGroup groups × (raw ≡ encoding_of groups ++ left)
     × (length (concat (words_of_groups groups)) ≡ count)
 
 -- the head of a group is at the front, its tag has been read, and its words have more than n bytes
@@ -88,12 +88,12 @@ TakesGroups old new buffer count = (0 < count) × (count ≤ length buffer) × (
     × IfKnown old new (ReturnsPart Unpacks PackedError (length buffer) (take count buffer))
 
 -- The first `used` bytes are groups, whose words have `filled` bytes, at most a given number.
-pub record Passes (text : List ℕ) (most used filled : ℕ) : Type 0 where
-  pub used_within : used ≤ length text
+pub record Passes (encoding : List ℕ) (most used filled : ℕ) : Type 0 where
+  pub used_within : used ≤ length encoding
   pub some : 0 < filled → 0 < used
   pub filled_within : filled ≤ most
   pub whole : filled % 8 ≡ 0
-  pub groups : HasProgress filled text (drop used text)
+  pub groups : HasProgress filled encoding (drop used encoding)
 
 -- Groups are passed over whose words have `count` bytes, at most a given number, and something was
 -- unread before them.
@@ -136,24 +136,24 @@ abbrev pub EndsGroup : List ℕ → List (List ℕ) → ℕ → List ℕ → Lis
 EndsGroup word others count old new = (group : Group) × IsGroupOf word others count group
     × ((front : List ℕ) → old ≡ front ++ tag_of word ∷ nonzero word → new ≡ front ++ group_encoding group)
 
--- Of a buffer's bytes and the bytes `text` after them, some parts are handed on, and the buffer
+-- Of a buffer's bytes and the bytes `encoding` after them, some parts are handed on, and the buffer
 -- keeps the rest.
-pub record Hands (appends : Appending) (old text new before after : List ℕ) : Type 0 where
+pub record Hands (appends : Appending) (old encoding new before after : List ℕ) : Type 0 where
   pub parts : List (List ℕ)
   pub handed : List ℕ
   pub declared : AppendsAll appends parts handed
   pub added : after ≡ before ++ handed
-  pub kept : old ++ text ≡ concat parts ++ new
+  pub kept : old ++ encoding ≡ concat parts ++ new
 
 -- Some bytes are cut into parts in any way. The first parts are added, and of the next one nothing,
 -- or what a call that fails leaves of it.
 abbrev pub LeavesParts : Appending → Leaving → List ℕ → List ℕ → Type 0
-LeavesParts appends leaves text left = (parts : List (List ℕ)) × (concat parts ≡ text) × LeavesSome appends leaves parts left
+LeavesParts appends leaves encoding left = (parts : List (List ℕ)) × (concat parts ≡ encoding) × LeavesSome appends leaves parts left
 
 -- the bytes of a buffer, followed by the count of a literal run and its words
 abbrev pub LiteralAfter : List ℕ → List (List ℕ) → List ℕ → Type 0
-LiteralAfter buffer others text = (count : ℕ) × IsRun HasFewZeros others count × (text ≡ buffer ++ count ∷ concat (take count others))
+LiteralAfter buffer others encoding = (count : ℕ) × IsRun HasFewZeros others count × (encoding ≡ buffer ++ count ∷ concat (take count others))
 
 -- the bytes of a buffer, followed by the group of a word and some of the words after it
 abbrev pub GroupAfter : List ℕ → List ℕ → List (List ℕ) → List ℕ → Type 0
-GroupAfter buffer word others text = (count : ℕ) × (group : Group) × IsGroupOf word others count group × (text ≡ buffer ++ group_encoding group)
+GroupAfter buffer word others encoding = (count : ℕ) × (group : Group) × IsGroupOf word others count group × (encoding ≡ buffer ++ group_encoding group)

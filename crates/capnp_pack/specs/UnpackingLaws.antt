@@ -7,7 +7,7 @@ use Rattle.std.specs.Prelude.{◌==◌, if◌then◌else◌}
 use Rattle.std.specs.List.{concat, AllByRecursion}
 use Rattle.capnp_frame.specs.Prelude.{IsPlain, same_front}
 use Rattle.capnp_pack.specs.Group.{Group, tagged, zeros, literal, IsGroup, IsWord, AreZero, zero_word, group_encoding, group_words, marked, unmarked}
-use Rattle.capnp_pack.specs.Chunk.{text_of, words_of_groups}
+use Rattle.capnp_pack.specs.Chunk.{encoding_of, words_of_groups}
 use Rattle.capnp_pack.specs.PackedSource.{Unpacks}
 
 pub length-words : (words : List (List ℕ)) → AllByRecursion IsWord words → length (concat words) ≡ 8 * length words
@@ -39,11 +39,11 @@ no_groups gs each none = let whole = words_len gs each in nil_groups gs (omega (
     nil_groups [] e = refl
     nil_groups (g ∷ gs) e = absurd (omega arith)
 
-no_text : (gs : List Group) → text_of gs ≡ [] → gs ≡ []
-no_text [] e = refl
-no_text (tagged tag word ∷ gs) e = cc
-no_text (zeros more ∷ gs) e = cc
-no_text (literal word further ∷ gs) e = cc
+no_encoding : (gs : List Group) → encoding_of gs ≡ [] → gs ≡ []
+no_encoding [] e = refl
+no_encoding (tagged tag word ∷ gs) e = cc
+no_encoding (zeros more ∷ gs) e = cc
+no_encoding (literal word further ∷ gs) e = cc
 
 pub unpack_whole : (raw : List ℕ) (n : ℕ) (bytes rest : List ℕ) → Unpacks raw n bytes rest → n % 8 ≡ 0
 unpack_whole raw n bytes rest p =
@@ -56,15 +56,15 @@ not_plain plain = let odd = unpack_whole (0 ∷ []) 1 (0 ∷ []) [] (plain (0 �
 pub unpack_nothing : (raw bytes rest : List ℕ) → Unpacks raw 0 bytes rest → (bytes ≡ []) × (rest ≡ raw)
 unpack_nothing raw bytes rest p =
     let none : p.1.groups ≡ [] = no_groups p.1.groups p.1.each (sym (ap length p.1.unpacked) ∙ p.3) in
-    (nil_from_length bytes p.3, sym (p.2 ∙ ap (λ l. l ++ rest) (p.1.spelled ∙ ap text_of none)))
+    (nil_from_length bytes p.3, sym (p.2 ∙ ap (λ l. l ++ rest) (p.1.spelled ∙ ap encoding_of none)))
 
 pub takes_no_group : (raw : List ℕ) → Unpacks raw 0 [] raw
 takes_no_group raw = ([], record { groups = []; each = tt; spelled = refl; unpacked = refl }, refl, refl)
 
 pub none_unpacked : (n : ℕ) (bytes rest : List ℕ) → Unpacks [] n bytes rest → n ≡ 0
 none_unpacked n bytes rest p =
-    let text_none : p.0 ≡ [] = nil_from_length p.0 (omega (arith, ap length p.2, length-append p.0 rest)) in
-    let none : p.1.groups ≡ [] = no_text p.1.groups (sym p.1.spelled ∙ text_none) in
+    let encoding_none : p.0 ≡ [] = nil_from_length p.0 (omega (arith, ap length p.2, length-append p.0 rest)) in
+    let none : p.1.groups ≡ [] = no_encoding p.1.groups (sym p.1.spelled ∙ encoding_none) in
     sym p.3 ∙ ap length p.1.unpacked ∙ ap (λ gs. length (concat (words_of_groups gs))) none
 
 pub bit_cases : (r : ℕ) → r < 2 → (((r == 1) ≡ true) × ((r == 0) ≡ false)) ⊎ (((r == 1) ≡ false) × ((r == 0) ≡ true))
@@ -100,14 +100,14 @@ same_word (b ∷ w) (c ∷ v) tag x y len p q e =
 pub same_group : (g h : Group) (x y : List ℕ) → IsGroup g → IsGroup h → group_encoding g ++ x ≡ group_encoding h ++ y → (concat (group_words g) ≡ concat (group_words h)) × (x ≡ y)
 same_group (tagged t w) (tagged u v) x y p q e =
     let tags : t ≡ u = cc in
-    let texts : marked t w ++ x ≡ marked u v ++ y = cc in
-    let word = same_word w v t x y (p.2 ∙ sym q.2) p.3 (subst (λ k. AreZero (unmarked k v)) (sym tags) q.3) (texts ∙ ap (λ k. marked k v ++ y) (sym tags)) in
+    let encodings : marked t w ++ x ≡ marked u v ++ y = cc in
+    let word = same_word w v t x y (p.2 ∙ sym q.2) p.3 (subst (λ k. AreZero (unmarked k v)) (sym tags) q.3) (encodings ∙ ap (λ k. marked k v ++ y) (sym tags)) in
     (ap (λ l. l ++ []) word.0, word.1)
 same_group (zeros m) (zeros n) x y p q e = let more : m ≡ n = cc in let rest : x ≡ y = cc in (ap (λ k. concat (zero_word ∷ replicate k zero_word)) more, rest)
 same_group (literal w fs) (literal v hs) x y p q e =
-    let texts : (w ++ length fs ∷ concat fs) ++ x ≡ (v ++ length hs ∷ concat hs) ++ y = cc in
+    let encodings : (w ++ length fs ∷ concat fs) ++ x ≡ (v ++ length hs ∷ concat hs) ++ y = cc in
     let words = same_front w v (length fs ∷ concat fs ++ x) (length hs ∷ concat hs ++ y) (p.0 ∙ sym q.0)
-    (sym (append_assoc w (length fs ∷ concat fs) x) ∙ texts ∙ append_assoc v (length hs ∷ concat hs) y) in
+    (sym (append_assoc w (length fs ∷ concat fs) x) ∙ encodings ∙ append_assoc v (length hs ∷ concat hs) y) in
     let after : length fs ∷ concat fs ++ x ≡ length hs ∷ concat hs ++ y = words.1 in
     let counts : length fs ≡ length hs = cc in
     let runs : concat fs ++ x ≡ concat hs ++ y = cc in
@@ -121,13 +121,13 @@ same_group (literal w fs) (tagged u v) x y p q e = let tags : 255 ≡ u = cc in 
 same_group (literal w fs) (zeros n) x y p q e = let tags : ◌≡◌ {A = ℕ} 255 0 = cc in absurd (omega arith)
 
 -- no chunk of this many words is the start of another
-same_chunk : (gs hs : List Group) (x y : List ℕ) → AllByRecursion IsGroup gs → AllByRecursion IsGroup hs → text_of gs ++ x ≡ text_of hs ++ y →
+same_chunk : (gs hs : List Group) (x y : List ℕ) → AllByRecursion IsGroup gs → AllByRecursion IsGroup hs → encoding_of gs ++ x ≡ encoding_of hs ++ y →
     length (concat (words_of_groups gs)) ≡ length (concat (words_of_groups hs)) → (concat (words_of_groups gs) ≡ concat (words_of_groups hs)) × (x ≡ y)
 same_chunk [] [] x y p q e len = (refl, e)
 same_chunk [] (h ∷ hs) x y p q e len = let whole = words_len (h ∷ hs) q in absurd (omega (arith, whole.1))
 same_chunk (g ∷ gs) [] x y p q e len = let whole = words_len (g ∷ gs) p in absurd (omega (arith, whole.1))
 same_chunk (g ∷ gs) (h ∷ hs) x y p q e len =
-    let first = same_group g h (text_of gs ++ x) (text_of hs ++ y) p.0 q.0 (sym (append_assoc (group_encoding g) (text_of gs) x) ∙ e ∙ append_assoc (group_encoding h) (text_of hs) y) in
+    let first = same_group g h (encoding_of gs ++ x) (encoding_of hs ++ y) p.0 q.0 (sym (append_assoc (group_encoding g) (encoding_of gs) x) ∙ e ∙ append_assoc (group_encoding h) (encoding_of hs) y) in
     let left : concat (words_of_groups (g ∷ gs)) ≡ concat (group_words g) ++ concat (words_of_groups gs) = concat-append (group_words g) (words_of_groups gs) in
     let right : concat (words_of_groups (h ∷ hs)) ≡ concat (group_words h) ++ concat (words_of_groups hs) = concat-append (group_words h) (words_of_groups hs) in
     let others = same_chunk gs hs x y p.1 q.1 first.1 (omega (

@@ -23,7 +23,7 @@ pub(crate) const MOST_USED: usize = BUFFER_BYTES - 10;
 #[inline(always)]
 pub(crate) fn flush<W: Write>(sink: &mut W, bytes: &[u8; BUFFER_BYTES], used: usize) -> Result<()>
     requires { used ≤ BUFFER_BYTES }
-    ensures hands { HandsOn W.Write sink.old sink.new (λ text. text ≡ take used bytes.now) (λ _.
+    ensures hands { HandsOn W.Write sink.old sink.new (λ encoding. encoding ≡ take used bytes.now) (λ _.
         IfKnown (W.written sink.old) (W.written sink.new)
         (Hands W.appends (take used bytes.now) [] [])) result }
     ensures granted { (more : ℕ) → W.grants sink.old (used + more) →

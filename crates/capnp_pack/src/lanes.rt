@@ -10,16 +10,16 @@ use std::simd::prelude::*;
 // Fills a word with the bytes that a tag marks, where eight bytes are shown, and returns how many
 // it marks.
 #[inline(always)]
-pub(crate) fn unpack_word(tag: u8, text: &[u8], word: &mut [u8]) -> usize
-    requires long { 8 ≤ length text.now }
+pub(crate) fn unpack_word(tag: u8, shown: &[u8], word: &mut [u8]) -> usize
+    requires long { 8 ≤ length shown.now }
     requires word { length word.old ≡ 8 }
     ensures count { result ≡ count_ones tag }
-    ensures taken { TakesMarked tag text.now word.new result }
+    ensures taken { TakesMarked tag shown.now word.new result }
 {
     let places = u8x16::from_array(EXPAND_SHUFFLE[tag as usize]);
     let bytes = u8x16::from_array([
-        text[0], text[1], text[2], text[3], text[4], text[5], text[6], text[7], 0, 0, 0, 0, 0, 0,
-        0, 0,
+        shown[0], shown[1], shown[2], shown[3], shown[4], shown[5], shown[6], shown[7], 0, 0, 0, 0,
+        0, 0, 0, 0,
     ]);
     bytes
         .swizzle_dyn(places)
@@ -30,13 +30,13 @@ pub(crate) fn unpack_word(tag: u8, text: &[u8], word: &mut [u8]) -> usize
 
 // Does the same where fewer than eight bytes may be shown, but all that the tag marks.
 #[inline(always)]
-pub(crate) fn unpack_short_word(tag: u8, text: &[u8], word: &mut [u8]) -> usize
-    requires long { count_ones tag ≤ length text.now }
+pub(crate) fn unpack_short_word(tag: u8, shown: &[u8], word: &mut [u8]) -> usize
+    requires long { count_ones tag ≤ length shown.now }
     requires word { length word.old ≡ 8 }
     ensures count { result ≡ count_ones tag }
-    ensures taken { TakesMarked tag text.now word.new result }
+    ensures taken { TakesMarked tag shown.now word.new result }
 {
     let mut bytes = [0; 8];
-    copy_bytes(text.len().min(8), text, &mut bytes);
+    copy_bytes(shown.len().min(8), shown, &mut bytes);
     unpack_word(tag, &bytes, word)
 }

@@ -26,73 +26,73 @@ pub fn packed_requests_take_a_packed_frame()
 /// No packed encoding of a message is the start of a different one, by either rule of padding, and
 /// each encodes only one message. So joined encodings can be taken apart in only one way.
 pub fn packed_frames_part_in_one_way()
-    ensures { (rule also : Padding) (text other rest left : List ℕ)
+    ensures { (rule also : Padding) (encoding other rest left : List ℕ)
         (segments others : List (List ℕ)) →
-        IsPackedFrame rule text segments → IsPackedFrame also other others → text ++ rest ≡ other ++ left →
-        (text ≡ other) × (segments ≡ others) × (rest ≡ left) }
+        IsPackedFrame rule encoding segments → IsPackedFrame also other others → encoding ++ rest ≡ other ++ left →
+        (encoding ≡ other) × (segments ≡ others) × (rest ≡ left) }
 {}
 
 /// What is written of a message is a packed encoding of it.
 pub fn packed_encoding_is_a_packed_frame()
-    ensures { (rule : Padding) (text : List ℕ) (segments : List (List ℕ)) →
-        HasTable (lengths segments) → IsPackedEncoding text segments → IsPackedFrame rule text segments }
+    ensures { (rule : Padding) (encoding : List ℕ) (segments : List (List ℕ)) →
+        HasTable (lengths segments) → IsPackedEncoding encoding segments → IsPackedFrame rule encoding segments }
 {}
 
 /// By the rule of zero padding, the table in a packed encoding is the one that is written. Its
 /// chunks may still be packed in other ways than a writer packs them.
 pub fn zero_padding_leaves_one_table()
-    ensures { (text : List ℕ) (segments : List (List ℕ)) →
-        (frame : IsPackedFrame Padding.Zero text segments) →
+    ensures { (encoding : List ℕ) (segments : List (List ℕ)) →
+        (frame : IsPackedFrame Padding.Zero encoding segments) →
         frame.first ++ frame.others ≡ zero_padded_table (lengths segments) }
 {}
 
 /// Each message of whole words has a packed encoding that a writer writes.
 pub fn message_has_a_packed_encoding()
     ensures { (segments : List (List ℕ)) → AllByRecursion IsWholeWords segments →
-        (text : List ℕ) × IsPackedEncoding text segments }
+        (encoding : List ℕ) × IsPackedEncoding encoding segments }
 {}
 
 /// Whole words have a packed encoding.
 pub fn words_have_a_packed_encoding()
-    ensures { (bytes : List ℕ) → IsWholeWords bytes → (text : List ℕ) × Packs bytes text }
+    ensures { (bytes : List ℕ) → IsWholeWords bytes → (encoding : List ℕ) × Packs bytes encoding }
 {}
 
 /// Whole words have only one packed encoding.
 pub fn packed_encoding_is_unique()
-    ensures { (bytes text other : List ℕ) → Packs bytes text → Packs bytes other → text ≡ other }
+    ensures { (bytes encoding other : List ℕ) → Packs bytes encoding → Packs bytes other → encoding ≡ other }
 {}
 
 /// A request for as many bytes as were packed returns these bytes, whatever follows, and takes only
 /// their packed encoding.
 pub fn packed_encoding_unpacks()
-    ensures given { (bytes text rest : List ℕ) → Packs bytes text →
-        Unpacks (text ++ rest) (length bytes) bytes rest }
-    ensures alone { (bytes text rest others left : List ℕ) → Packs bytes text →
-        Unpacks (text ++ rest) (length bytes) others left → (others ≡ bytes) × (left ≡ rest) }
+    ensures given { (bytes encoding rest : List ℕ) → Packs bytes encoding →
+        Unpacks (encoding ++ rest) (length bytes) bytes rest }
+    ensures alone { (bytes encoding rest others left : List ℕ) → Packs bytes encoding →
+        Unpacks (encoding ++ rest) (length bytes) others left → (others ≡ bytes) × (left ≡ rest) }
 {}
 
 /// Of n words, at least one, the packed encoding has at most `8 * n + (n + 3) / 2` bytes.
 pub fn packed_encoding_is_short()
-    ensures { (bytes text : List ℕ) (n : ℕ) → Packs bytes text → length bytes ≡ 8 * n → 0 < n →
-        length text ≤ 8 * n + (n + 3) / 2 }
+    ensures { (bytes encoding : List ℕ) (n : ℕ) → Packs bytes encoding → length bytes ≡ 8 * n → 0 < n →
+        length encoding ≤ 8 * n + (n + 3) / 2 }
 {}
 
 /// What a plain sink gets of a chunk that is written packed is exactly the packed encoding.
 pub fn plain_sink_gets_the_packed_encoding()
-    ensures { (chunk text : List ℕ) → AppendsPacked AppendsSame chunk text ↔ Packs chunk text }
+    ensures { (chunk encoding : List ℕ) → AppendsPacked AppendsSame chunk encoding ↔ Packs chunk encoding }
 {}
 
 /// If a plain sink keeps at most the start of a chunk in a call that fails, it keeps the start of
 /// the packed encoding where writing packed words fails.
 pub fn what_is_left_of_packed_words_is_a_front<W: Write>()
-    ensures { ((chunk text : List ℕ) → W.leaves chunk text → LeavesFront chunk text) →
-        (chunk text packed : List ℕ) → LeavesPacked AppendsSame W.leaves chunk text →
-        Packs chunk packed → IsFront text packed }
+    ensures { ((chunk encoding : List ℕ) → W.leaves chunk encoding → LeavesFront chunk encoding) →
+        (chunk encoding packed : List ℕ) → LeavesPacked AppendsSame W.leaves chunk encoding →
+        Packs chunk packed → IsFront encoding packed }
 {}
 
 /// A plain sink gets the packed encoding of a message, if its chunks are handed on one after
 /// another, as `write_segments` does.
 pub fn plain_sink_gets_the_packed_message()
-    ensures { (segments : List (List ℕ)) (text : List ℕ) →
-        AppendsAll (AppendsPacked AppendsSame) (chunks segments) text ↔ IsPackedEncoding text segments }
+    ensures { (segments : List (List ℕ)) (encoding : List ℕ) →
+        AppendsAll (AppendsPacked AppendsSame) (chunks segments) encoding ↔ IsPackedEncoding encoding segments }
 {}

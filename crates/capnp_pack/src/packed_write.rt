@@ -24,10 +24,10 @@ use capnp_frame::{Error, ErrorKind, Result};
 /// with `NotWholeWords`, and nothing is written of it.
 ///
 /// ```
-/// let mut text = Vec::new(alloc);
-/// let mut packed = PackedWrite::new(&mut text);
+/// let mut encoding = Vec::new(alloc);
+/// let mut packed = PackedWrite::new(&mut encoding);
 /// packed.write_all(&[8, 0, 0, 0, 3, 0, 2, 0])?;
-/// assert_eq!(rt; text.as_slice(), [0x51, 8, 3, 2].as_slice());
+/// assert_eq!(rt; encoding.as_slice(), [0x51, 8, 3, 2].as_slice());
 /// ```
 #[derive(Drop)]
 pub struct PackedWrite<'a, W: Write> {
@@ -79,8 +79,8 @@ impl<'a, W: Write> Write for PackedWrite<'a, W> {
             IsErrAnd result (λ error. error.kind ≡ ErrorKind.NotWholeWords)
             × (self.new.sink.now ≡ self.old.sink.now) }
         // Where the sink grants the packed encoding, the call succeeds.
-        ensures packed_granted { (text : List ℕ) (more : ℕ) → Packs chunk.now text →
-            W.grants self.old.sink.now (length text + more) →
+        ensures packed_granted { (encoding : List ℕ) (more : ℕ) → Packs chunk.now encoding →
+            W.grants self.old.sink.now (length encoding + more) →
             IsOk result × W.grants self.new.sink.now more }
     {
         if chunk.len() % 8 != 0 {
@@ -107,8 +107,8 @@ fn pack<W: Write>(sink: &mut W, chunk: &[u8]) -> Result<()>
     requires { IsWholeWords chunk.now }
     ensures writes { WritesTo W.Write sink.old sink.new (AppendsPacked W.appends chunk.now)
         (LeavesPacked W.appends W.leaves chunk.now) (AnyChunkError W.refuses) result }
-    ensures granted { (text : List ℕ) (more : ℕ) → Packs chunk.now text →
-        W.grants sink.old (length text + more) → IsOk result × W.grants sink.new more }
+    ensures granted { (encoding : List ℕ) (more : ℕ) → Packs chunk.now encoding →
+        W.grants sink.old (length encoding + more) → IsOk result × W.grants sink.new more }
 {
     let (words, _) = chunk.as_chunks::<8>();
     let mut left = words;
@@ -148,8 +148,8 @@ fn pack_next<W: Write>(
         (λ packed. HandsTo W.appends words.now (drop packed.words words.now)
         (take used bytes.old) (take packed.used bytes.new)
         (W.written sink.old) (W.written sink.new)) result }
-    ensures granted { (text : List ℕ) (more : ℕ) → PacksWords words.now text →
-        W.grants sink.old (used + (length text + more)) →
+    ensures granted { (encoding : List ℕ) (more : ℕ) → PacksWords words.now encoding →
+        W.grants sink.old (used + (length encoding + more)) →
         IsOkAnd result (λ packed.
         GrantsTo (W.grants sink.new) (drop packed.words words.now) packed.used more) }
 {

@@ -1,6 +1,6 @@
 -- The lemmas.
 pub mod ElementLemmas
 pub mod ObjectLemmas
-pub mod TextLemmas
+pub mod EscapeLemmas
 pub mod FrontLemmas
 pub mod RunLemmas

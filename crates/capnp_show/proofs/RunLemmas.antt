@@ -9,12 +9,12 @@ use Rattle.std.proofs.lemmas.List.{get_or_append_left, get_or-append-add, take-a
 use Rattle.std.proofs.lemmas.Bool.{cases_lt}
 use Rattle.std.proofs.lemmas.Str.{encode_ascii, encodes-chars, chars-append, chars_past_char, IsUtf8-take, IsUtf8-drop, length-encode, len_utf8_bounds}
 use Rattle.std.proofs.str.Laws.{two}
-use Rattle.capnp_show.specs.declared.text.Escape.{Escape}
-use Rattle.capnp_show.specs.declared.text.Escape.TheVariants.{Plain}
+use Rattle.capnp_show.specs.declared.escapes.Escape.{Escape}
+use Rattle.capnp_show.specs.declared.escapes.Escape.TheVariants.{Plain}
 use Rattle.capnp_show.specs.declared.markup.Mark.{Mark}
 use Rattle.capnp_show.specs.declared.markup.Mark.TheVariants.{Plain as PlainMark}
 use Rattle.capnp_show.specs.Plain.{IsPlainByte}
-use Rattle.capnp_show.specs.Texts.{IsControl, IsEscapeOf, IsMarkOf, IsMarked, AreEscaped, none_shown, one_shown, escaped, AreMarked, none_marked, one_marked}
+use Rattle.capnp_show.specs.Output.{IsControl, IsEscapeOf, IsMarkOf, IsMarked, AreEscaped, none_shown, one_shown, escaped, AreMarked, none_marked, one_marked}
 
 -- the bytes before others, and those after others
 all_front : (front back : List ℕ) → All IsPlainByte (front ++ back) → All IsPlainByte front
@@ -51,7 +51,7 @@ plain_mark c all = ⊎_elim
     (λ low. low_mark c low ((subst (All IsPlainByte) (encode_ascii c low) all) 0 0 (omega arith)))
     (λ high. high_mark c high all) (cases_lt c 128)
 
--- what is shown of a text, and then of what follows it
+-- what is shown of a string, and then of what follows it
 escaped_append : (xs bs ys cs : List ℕ) → AreEscaped xs bs → AreEscaped ys cs → AreEscaped (xs ++ ys) (bs ++ cs)
 escaped_append xs bs _ _ one none_shown = subst (λ (l : List ℕ). AreEscaped l (bs ++ [])) (sym (append-nil xs)) (subst (AreEscaped xs) (sym (append-nil bs)) one)
 escaped_append xs bs _ _ one (one_shown ys cs c e before is) =
@@ -82,29 +82,29 @@ run_marked (c ∷ cs) all =
     (run_marked cs (all_back (encode c) (encodes cs) all))
 
 pub plain_escaped : (bytes : List ℕ) → IsUtf8 bytes → All IsPlainByte bytes → AreEscaped (chars bytes) bytes
-plain_escaped bytes text all = subst (AreEscaped (chars bytes)) (encodes-chars bytes text)
-    (run_escaped (chars bytes) (subst (All IsPlainByte) (sym (encodes-chars bytes text)) all))
+plain_escaped bytes utf8 all = subst (AreEscaped (chars bytes)) (encodes-chars bytes utf8)
+    (run_escaped (chars bytes) (subst (All IsPlainByte) (sym (encodes-chars bytes utf8)) all))
 
 pub plain_marked : (bytes : List ℕ) → IsUtf8 bytes → All IsPlainByte bytes → AreMarked (chars bytes) bytes
-plain_marked bytes text all = subst (AreMarked (chars bytes)) (encodes-chars bytes text)
-    (run_marked (chars bytes) (subst (All IsPlainByte) (sym (encodes-chars bytes text)) all))
+plain_marked bytes utf8 all = subst (AreMarked (chars bytes)) (encodes-chars bytes utf8)
+    (run_marked (chars bytes) (subst (All IsPlainByte) (sym (encodes-chars bytes utf8)) all))
 
 -- a run, and one more character
 pub escaped_more : (shown bytes plain : List ℕ) (c : ℕ) (e : Escape) → AreEscaped shown bytes → IsUtf8 plain → All IsPlainByte plain → IsEscapeOf c e
     → AreEscaped ((shown ++ chars plain) ++ c ∷ []) ((bytes ++ plain) ++ escaped c e)
-escaped_more shown bytes plain c e before text all is =
-    one_shown (shown ++ chars plain) (bytes ++ plain) c e (escaped_append shown bytes (chars plain) plain before (plain_escaped plain text all)) is
+escaped_more shown bytes plain c e before utf8 all is =
+    one_shown (shown ++ chars plain) (bytes ++ plain) c e (escaped_append shown bytes (chars plain) plain before (plain_escaped plain utf8 all)) is
 
 pub marked_more : (shown bytes plain added : List ℕ) (c : ℕ) (mark : Mark) → AreMarked shown bytes → IsUtf8 plain → All IsPlainByte plain → IsMarkOf c mark
     → IsMarked c mark added → AreMarked ((shown ++ chars plain) ++ c ∷ []) ((bytes ++ plain) ++ added)
-marked_more shown bytes plain added c mark before text all is gives =
-    one_marked (shown ++ chars plain) (bytes ++ plain) added c mark (marked_append shown bytes (chars plain) plain before (plain_marked plain text all)) is gives
+marked_more shown bytes plain added c mark before utf8 all is gives =
+    one_marked (shown ++ chars plain) (bytes ++ plain) added c mark (marked_append shown bytes (chars plain) plain before (plain_marked plain utf8 all)) is gives
 
 pub escaped_last : (shown bytes plain : List ℕ) → AreEscaped shown bytes → IsUtf8 plain → All IsPlainByte plain → AreEscaped (shown ++ chars plain) (bytes ++ plain)
-escaped_last shown bytes plain before text all = escaped_append shown bytes (chars plain) plain before (plain_escaped plain text all)
+escaped_last shown bytes plain before utf8 all = escaped_append shown bytes (chars plain) plain before (plain_escaped plain utf8 all)
 
 pub marked_last : (shown bytes plain : List ℕ) → AreMarked shown bytes → IsUtf8 plain → All IsPlainByte plain → AreMarked (shown ++ chars plain) (bytes ++ plain)
-marked_last shown bytes plain before text all = marked_append shown bytes (chars plain) plain before (plain_marked plain text all)
+marked_last shown bytes plain before utf8 all = marked_append shown bytes (chars plain) plain before (plain_marked plain utf8 all)
 
 -- the characters that are shown so far and those that follow, after a run and one more
 pub characters_more : (all shown rest plain after : List ℕ) (c : ℕ) → all ≡ shown ++ chars rest → chars rest ≡ chars plain ++ c ∷ chars after
@@ -112,13 +112,13 @@ pub characters_more : (all shown rest plain after : List ℕ) (c : ℕ) → all 
 characters_more all shown rest plain after c before is =
     before ∙ ap (λ (l : List ℕ). shown ++ l) is ∙ sym (append_assoc shown (chars plain) (c ∷ chars after)) ∙ sym (append_assoc (shown ++ chars plain) (c ∷ []) (chars after))
 
--- a text that is cut before a character
+-- a string that is cut before a character
 pub cut_before : (shown front back after : List ℕ) (n c : ℕ) → IsUtf8 shown → IsCharBoundary shown n → front ≡ take n shown → back ≡ drop n shown
     → back ≡ encode_utf8 c ++ after → (length after < length shown) × (chars shown ≡ chars front ++ c ∷ chars after)
-cut_before shown front back after n c text boundary is_front is_back next =
+cut_before shown front back after n c utf8 boundary is_front is_back next =
     let whole : shown ≡ front ++ back = sym (ap (λ (l : List ℕ). l ++ back) is_front ∙ ap (λ (l : List ℕ). take n shown ++ l) is_back ∙ take-append-drop n shown) in
-    let front_text : IsUtf8 front = subst IsUtf8 (sym is_front) (IsUtf8-take shown n text boundary) in
-    let back_text : IsUtf8 back = subst IsUtf8 (sym is_back) (IsUtf8-drop shown n text boundary) in (
+    let front_utf8 : IsUtf8 front = subst IsUtf8 (sym is_front) (IsUtf8-take shown n utf8 boundary) in
+    let back_utf8 : IsUtf8 back = subst IsUtf8 (sym is_back) (IsUtf8-drop shown n utf8 boundary) in (
       omega (arith, ap length whole, length-append front back, ap length next, length-append (encode_utf8 c) after, length-encode c, (len_utf8_bounds c).0),
-      ap chars whole ∙ chars-append front back front_text ∙ ap (λ (l : List ℕ). chars front ++ l) (chars_past_char back after c back_text next),
+      ap chars whole ∙ chars-append front back front_utf8 ∙ ap (λ (l : List ℕ). chars front ++ l) (chars_past_char back after c back_utf8 next),
     )

@@ -44,19 +44,19 @@ pub record AsksForm (found : Found) (form : Form) : Type 0 where
 
 -- A number is given for an option: a numeral below 2 ^ 64, which may have a plus in front.
 pub record GivesNumber (found : Found) (name : List ℕ) (number : ℕ) : Type 0 where
-  pub text : List ℕ
-  pub given : one_text found name ≡ Some text
-  pub numeral : IsNumeral 10 (without_leading_plus text)
-  pub fits : digits_value 10 (without_leading_plus text) < 2 ^ 64
-  pub value : number ≡ digits_value 10 (without_leading_plus text)
+  pub argument : List ℕ
+  pub given : one_text found name ≡ Some argument
+  pub numeral : IsNumeral 10 (without_leading_plus argument)
+  pub fits : digits_value 10 (without_leading_plus argument) < 2 ^ 64
+  pub value : number ≡ digits_value 10 (without_leading_plus argument)
 
 -- A number of 32 bits is given for an option: a numeral, which may have a sign in front.
 pub record GivesSigned (found : Found) (name : List ℕ) (number : ℤ) : Type 0 where
-  pub text : List ℕ
-  pub given : one_text found name ≡ Some text
-  pub numeral : IsNumeral 10 (without_leading_sign text)
-  pub fits : FitsSigned w32 (signed_digits_value 10 text)
-  pub value : number ≡ signed_digits_value 10 text
+  pub argument : List ℕ
+  pub given : one_text found name ≡ Some argument
+  pub numeral : IsNumeral 10 (without_leading_sign argument)
+  pub fits : FitsSigned w32 (signed_digits_value 10 argument)
+  pub value : number ≡ signed_digits_value 10 argument
 
 -- how many messages are shown: as many as --first says, and all where it is left out
 pub record AsksFirst (found : Found) (first : ℕ) : Type 0 where

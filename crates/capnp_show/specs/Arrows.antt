@@ -8,7 +8,7 @@ use Rattle.capnp_show.specs.declared.owners.Owners.{Owners}
 use Rattle.capnp_show.specs.declared.owners.Word.{Word}
 use Rattle.capnp_show.specs.declared.owners.Lead.TheVariants.{Object}
 use Rattle.capnp_show.specs.Words.{IsDrawnAsPointer, word_in}
-use Rattle.capnp_show.specs.Texts.{counted}
+use Rattle.capnp_show.specs.Output.{counted}
 
 -- the sum of two sizes, at most the largest number
 abbrev pub plus : ℕ → ℕ → ℕ
@@ -73,8 +73,8 @@ HasNoArrow grid owners place word = (number : ℕ) (start : Place) → IsDrawnAs
     → (word_in owners start ≡ None) ⊎ (slice_get grid.tops.items place.segment ≡ None) ⊎ (slice_get grid.tops.items start.segment ≡ None)
 
 -- the sizes, as the style names them
-abbrev pub sizes_text : List ℕ
-sizes_text = counted (codes ":root { --number-width: ") 44 ++ (counted (codes "px; --cell-width: ") 132
+abbrev pub sizes_rule : List ℕ
+sizes_rule = counted (codes ":root { --number-width: ") 44 ++ (counted (codes "px; --cell-width: ") 132
     ++ (counted (codes "px; --cell-height: ") 26 ++ (counted (codes "px; --column-gap: ") 40
     ++ (counted (codes "px; --row-gap: ") 14 ++ (counted (codes "px; --heading-height: ") 34
     ++ (counted (codes "px; --drawing-width: ") 772 ++ codes "px; }\n"))))))

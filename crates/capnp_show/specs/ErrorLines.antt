@@ -2,7 +2,7 @@
 use Rattle.std.specs.Prelude.{ℕ, List, [], ◌++◌, codes}
 use Rattle.capnp.specs.Prelude.{ErrorKind}
 use Rattle.capnp_frame.specs.declared.error.ErrorKind.TheVariants.{FailedToFillTheWholeBuffer, BufferNotLargeEnough, EmptyBuffer, EmptySlice, InvalidNumberOfSegments, MessageEndsPrematurely, MessageSizeOverflow, MessageTooLarge, PrematureEndOfFile, PrematureEndOfPackedInput, PackedInputDidNotEndCleanlyOnASegmentBoundary, OutOfMemory, DeviceFailed, NotWholeWords, AllocationTooLarge, SegmentTaken, PointerOutOfBounds, InvalidSegmentId, NestingLimitExceeded, ReadLimitExceeded, CapabilityRefused, WrongPointerKind, TextNotTerminated, CanonicalTooLarge, NotOneSegment, NonZeroPadding}
-use Rattle.capnp_show.specs.Texts.{AddsEscaped}
+use Rattle.capnp_show.specs.Output.{AddsEscaped}
 
 -- what is said of an error of this kind, in one sentence
 abbrev pub sentence_of : ErrorKind → List ℕ

@@ -18,10 +18,10 @@ pub record IsHashOf (pointer : Pointer) (hash : List ℕ) : Type 0 where
 
 -- the hash in hexadecimal digits, or the reason why there is no canonical form
 abbrev pub ShowsHash : Pointer → Hash → Type 0
-ShowsHash pointer (Of text) = (hash : List ℕ) × IsHashOf pointer hash × (string_bytes text ≡ encode_lower hash)
+ShowsHash pointer (Of digits) = (hash : List ℕ) × IsHashOf pointer hash × (string_bytes digits ≡ encode_lower hash)
 ShowsHash pointer (WithoutForm kind) = CanonicalFormError pointer kind
 
--- a fact about the text of a hash, where there is one
+-- a fact about the digits of a hash, where there is one
 abbrev pub IfHash : Hash → (List ℕ → Type 0) → Type 0
-IfHash (Of text) fact = fact (string_bytes text)
+IfHash (Of digits) fact = fact (string_bytes digits)
 IfHash (WithoutForm kind) fact = ⊤

@@ -1,5 +1,5 @@
 -- The definitions that contracts cite, by subject.
-pub mod Texts
+pub mod Output
 pub mod Hashes
 pub mod Fronts
 pub mod Objects

@@ -1,4 +1,4 @@
--- What is listed of a message, and when a text is written on (src/messages.rt, src/shown.rt).
+-- What is listed of a message, and when output is written on (src/messages.rt, src/shown.rt).
 use Rattle.std.specs.Prelude.{◌≡◌, ◌<◌, ◌≤◌, ◌-◌, ◌^◌, ℕ, List, [], Option, length, min, take}
 use Rattle.capnp_frame.specs.Prelude.{size_in_words, Appending, Adds, IfKnown}
 use Rattle.capnp_frame.specs.declared.serialize.segment_table.TheConstants.{SEGMENTS_COUNT_LIMIT}
@@ -13,8 +13,8 @@ pub record Lists (number start size : ℕ) (message : List (List ℕ)) (listed :
   pub segments : listed.segments ≡ min (length message) SEGMENTS_COUNT_LIMIT
   pub words : listed.words ≡ min (size_in_words (take SEGMENTS_COUNT_LIMIT message)) (2 ^ 64 - 1)
 
--- A text that was `old` is `new`, and a sink was known to hold `before` and holds `after`: a text of `most` bytes or more
--- is written as it is and cleared, and a shorter one stays, and nothing is written.
+-- Output that was `old` is `new`, and a sink was known to hold `before` and holds `after`: output of `most` bytes or more
+-- is written as it is and cleared, and shorter output stays, and nothing is written.
 pub record WritesFull (most : ℕ) (appends : Appending) (old new : List ℕ) (before after : Option (List ℕ))
     : Type 0 where
   pub kept : length old < most → new ≡ old

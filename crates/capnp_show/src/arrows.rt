@@ -6,8 +6,8 @@
 //! segment of up to eight rows no arrow runs over one to another object: in the gap after a column
 //! each row has a lane of its own, and in the gap above a row each column has one.
 ghost use Rattle.std.specs.Prelude.{◌≡◌, ◌⊎◌, ◌+◌, ◌*◌, ◌/◌, ◌^◌, ◌<◌, ℕ, None, length, slice_get, MatchOption, ◌++◌, IfOk, OnOk, codes, string_bytes};
-ghost use Rattle.capnp_show.specs.Arrows.{height_of, AreTops, IsCorner, AddsArrowOf, HasNoArrow, arrow_front, arrow_head, arrow_of, turns_between, sizes_text};
-ghost use Rattle.capnp_show.specs.Texts.{counted};
+ghost use Rattle.capnp_show.specs.Arrows.{height_of, AreTops, IsCorner, AddsArrowOf, HasNoArrow, arrow_front, arrow_head, arrow_of, turns_between, sizes_rule};
+ghost use Rattle.capnp_show.specs.Output.{counted};
 
 use crate::drawn::{ROW_WORDS, colour_of};
 use crate::numbers::push_counted;
@@ -46,11 +46,11 @@ const LANE_STEP: u64 = 3;
 const WIDTH: u64 = FIRST_LEFT + 4 * COLUMN_STEP;
 
 /// Adds the sizes that the style names.
-pub fn push_sizes(text: &mut String) -> Result<(), AllocError>
-    ensures { OnOk result (string_bytes text.new ≡ string_bytes text.old ++ sizes_text) }
+pub fn push_sizes(markup: &mut String) -> Result<(), AllocError>
+    ensures { OnOk result (string_bytes markup.new ≡ string_bytes markup.old ++ sizes_rule) }
 {
     write!(
-        text,
+        markup,
         ":root {{ --number-width: {NUMBER_WIDTH}px; --cell-width: {CELL_WIDTH}px; \
 --cell-height: {CELL_HEIGHT}px; --column-gap: {COLUMN_GAP}px; --row-gap: {ROW_GAP}px; \
 --heading-height: {HEADING_HEIGHT}px; --drawing-width: {WIDTH}px; }}\n"
@@ -98,12 +98,12 @@ impl Grid {
     /// Adds the arrow of the word at a place, where it leads to a word.
     pub fn push_arrow(
         &self,
-        text: &mut String,
+        markup: &mut String,
         owners: &Owners,
         place: Place,
         word: &Word,
     ) -> Result<(), AllocError>
-        ensures { let old = string_bytes text.old in let new = string_bytes text.new in OnOk result
+        ensures { let old = string_bytes markup.old in let new = string_bytes markup.new in OnOk result
             (AddsArrowOf self.now place word.now old new
             ⊎ ((new ≡ old) × HasNoArrow self.now owners.now place word.now)) }
     {
@@ -114,7 +114,7 @@ impl Grid {
             return Ok(());
         }
         match (self.corner(place), self.corner(start)) {
-            (Some(from), Some(to)) => push_path(text, number, from, to),
+            (Some(from), Some(to)) => push_path(markup, number, from, to),
             _ => Ok(()),
         }
     }
@@ -135,38 +135,38 @@ impl Grid {
 }
 
 // Adds the arrow to the object of this number, from one cell to another.
-fn push_path(text: &mut String, number: u64, from: Corner, to: Corner) -> Result<(), AllocError>
-    ensures { OnOk result (string_bytes text.new ≡ string_bytes text.old ++ arrow_of number from to) }
+fn push_path(markup: &mut String, number: u64, from: Corner, to: Corner) -> Result<(), AllocError>
+    ensures { OnOk result (string_bytes markup.new ≡ string_bytes markup.old ++ arrow_of number from to) }
 {
-    push_arrow_front(text, number, from)?;
-    push_turns(text, from, to)?;
-    push_arrow_head(text, to)
+    push_arrow_front(markup, number, from)?;
+    push_turns(markup, from, to)?;
+    push_arrow_head(markup, to)
 }
 
 // Adds the front of an arrow, from the cell where it begins.
-fn push_arrow_front(text: &mut String, number: u64, from: Corner) -> Result<(), AllocError>
-    ensures { OnOk result (string_bytes text.new ≡ string_bytes text.old ++ arrow_front number from) }
+fn push_arrow_front(markup: &mut String, number: u64, from: Corner) -> Result<(), AllocError>
+    ensures { OnOk result (string_bytes markup.new ≡ string_bytes markup.old ++ arrow_front number from) }
 {
     let colour = colour_of(number);
     let right = from.left.saturating_add(CELL_WIDTH);
     let middle = from.top.saturating_add(CELL_HEIGHT / 2);
-    push_counted(text, "<path class=\"c", colour)?;
-    push_counted(text, "\" d=\"M", right)?;
-    push_counted(text, " ", middle)
+    push_counted(markup, "<path class=\"c", colour)?;
+    push_counted(markup, "\" d=\"M", right)?;
+    push_counted(markup, " ", middle)
 }
 
 // Adds the head of an arrow, at the cell where it ends.
-fn push_arrow_head(text: &mut String, to: Corner) -> Result<(), AllocError>
-    ensures { OnOk result (string_bytes text.new ≡ string_bytes text.old ++ arrow_head to) }
+fn push_arrow_head(markup: &mut String, to: Corner) -> Result<(), AllocError>
+    ensures { OnOk result (string_bytes markup.new ≡ string_bytes markup.old ++ arrow_head to) }
 {
     let end = to.left.saturating_sub(2);
-    push_counted(text, "H", end)?;
-    text.push_str("m-5 -3l5 3l-5 3\"/>")
+    push_counted(markup, "H", end)?;
+    markup.push_str("m-5 -3l5 3l-5 3\"/>")
 }
 
 // Adds the turns of an arrow, where it does not lead to the next cell.
-fn push_turns(text: &mut String, from: Corner, to: Corner) -> Result<(), AllocError>
-    ensures { OnOk result (string_bytes text.new ≡ string_bytes text.old ++ turns_between from to) }
+fn push_turns(markup: &mut String, from: Corner, to: Corner) -> Result<(), AllocError>
+    ensures { OnOk result (string_bytes markup.new ≡ string_bytes markup.old ++ turns_between from to) }
 {
     let right = from.left.saturating_add(CELL_WIDTH);
     if from.top == to.top && to.left == right.saturating_add(COLUMN_GAP) {
@@ -178,8 +178,8 @@ fn push_turns(text: &mut String, from: Corner, to: Corner) -> Result<(), AllocEr
         .saturating_sub(3 + to.left / COLUMN_STEP % ROW_WORDS as u64 * LANE_STEP);
     let entry = to.left.saturating_sub(9);
     let middle = to.top.saturating_add(CELL_HEIGHT / 2);
-    push_counted(text, "H", channel)?;
-    push_counted(text, "V", lane)?;
-    push_counted(text, "H", entry)?;
-    push_counted(text, "V", middle)
+    push_counted(markup, "H", channel)?;
+    push_counted(markup, "V", lane)?;
+    push_counted(markup, "H", entry)?;
+    push_counted(markup, "V", middle)
 }

@@ -4,7 +4,7 @@ ghost use Rattle.std.specs.Prelude.{◌↔◌, ◌≤◌, IsTrue};
 use crate::arrows::Grid;
 use crate::drawn::{Anchor, Drawn, ROW_WORDS, push_row};
 use crate::html::{push_no_root, push_object, push_part};
-use crate::listing::push_node_text;
+use crate::listing::push_unindented;
 use crate::objects::moved;
 use crate::owners::{MOST_NODES, Owners, Word};
 use crate::shown::write_full;
@@ -31,15 +31,15 @@ pub fn show_drawing<S: ReaderSegments, W: Write>(
     limits: ReaderOptions,
     anchor: Anchor,
     segments: &S,
-    text: &mut String,
+    markup: &mut String,
     sink: &mut W,
 ) -> Result<()> {
     let owners = Owners::of_message(alloc, limits, segments)?;
-    show_words(alloc, anchor, &owners, text, sink)?;
+    show_words(alloc, anchor, &owners, markup, sink)?;
     if let Some(kind) = owners.no_root() {
-        push_no_root(text, kind)?;
+        push_no_root(markup, kind)?;
     }
-    show_objects(alloc, limits, segments, text, sink)
+    show_objects(alloc, limits, segments, markup, sink)
 }
 
 // Shows the words of a message, segment by segment.
@@ -47,7 +47,7 @@ fn show_words<W: Write>(
     alloc: Global,
     anchor: Anchor,
     owners: &Owners,
-    text: &mut String,
+    markup: &mut String,
     sink: &mut W,
 ) -> Result<()> {
     let grid = Grid::new(alloc, owners)?;
@@ -56,13 +56,13 @@ fn show_words<W: Write>(
         owners,
         grid: &grid,
     };
-    text.push_str("<div class=\"drawing\">\n")?;
+    markup.push_str("<div class=\"drawing\">\n")?;
     let mut segment: u32 = 0;
     for words in owners.segments() {
-        show_segment(drawn, segment, words.as_slice(), text, sink)?;
+        show_segment(drawn, segment, words.as_slice(), markup, sink)?;
         segment = segment.saturating_add(1);
     }
-    text.push_str("</div>\n")?;
+    markup.push_str("</div>\n")?;
     Ok(())
 }
 
@@ -71,17 +71,17 @@ fn show_segment<W: Write>(
     drawn: Drawn<'_>,
     segment: u32,
     words: &[Word],
-    text: &mut String,
+    markup: &mut String,
     sink: &mut W,
 ) -> Result<()> {
-    push_part(text, segment, words.len())?;
+    push_part(markup, segment, words.len())?;
     let mut first = Place { segment, word: 0 };
     for row in words.chunks(ROW_WORDS) {
-        push_row(text, drawn, first, row)?;
+        push_row(markup, drawn, first, row)?;
         first = moved(first, ROW_WORDS as u64);
-        write_full(text, sink)?;
+        write_full(markup, sink)?;
     }
-    text.push_str("</table>\n</div>\n")?;
+    markup.push_str("</table>\n</div>\n")?;
     Ok(())
 }
 
@@ -91,13 +91,13 @@ fn show_object<S: ReaderSegments, W: Write>(
     node: &Node,
     number: u64,
     line: &mut String,
-    text: &mut String,
+    markup: &mut String,
     sink: &mut W,
 ) -> Result<()> {
     line.clear();
-    push_node_text(line, segments, node)?;
-    push_object(text, number, line.as_str())?;
-    write_full(text, sink)
+    push_unindented(line, segments, node)?;
+    push_object(markup, number, line.as_str())?;
+    write_full(markup, sink)
 }
 
 // Shows the objects of a message, one by one.
@@ -105,26 +105,26 @@ fn show_objects<S: ReaderSegments, W: Write>(
     alloc: Global,
     limits: ReaderOptions,
     segments: &S,
-    text: &mut String,
+    markup: &mut String,
     sink: &mut W,
 ) -> Result<()> {
     let mut walk = Walk::new(alloc, limits)?;
     let mut line = String::new(alloc);
     let mut objects: u64 = 0;
-    text.push_str("<ol class=\"objects\" start=\"0\">\n")?;
+    markup.push_str("<ol class=\"objects\" start=\"0\">\n")?;
     for _ in 0..MOST_NODES {
         let Some(node) = walk.next(segments)? else {
-            text.push_str("</ol>\n")?;
+            markup.push_str("</ol>\n")?;
             return Ok(());
         };
         if let Found::Object(_) = node.found {
-            show_object(segments, &node, objects, &mut line, text, sink)?;
+            show_object(segments, &node, objects, &mut line, markup, sink)?;
             objects = objects.saturating_add(1);
         }
     }
-    text.push_str("</ol>\n")?;
+    markup.push_str("</ol>\n")?;
     if walk.next(segments)?.is_some() {
-        text.push_str("<p class=\"more\">Only the first 65536 nodes are drawn.</p>\n")?;
+        markup.push_str("<p class=\"more\">Only the first 65536 nodes are drawn.</p>\n")?;
     }
     Ok(())
 }

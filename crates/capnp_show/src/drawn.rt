@@ -1,6 +1,6 @@
 //! The words of a segment, as rows of a table.
 ghost use Rattle.std.specs.Prelude.{◌≡◌, ◌%◌, ◌++◌, None, OnOk, codes, string_bytes};
-ghost use Rattle.capnp_show.specs.Texts.{counted, message_name, word_name, null_class, owner_classes, error_class, word_classes, where_of, owner_name, drawn_lead, title_of};
+ghost use Rattle.capnp_show.specs.Output.{counted, message_name, word_name, null_class, owner_classes, error_class, word_classes, where_of, owner_name, drawn_lead, title_of};
 
 use crate::arrows::Grid;
 use crate::numbers::{push_counted, push_hexadecimal};
@@ -25,20 +25,20 @@ pub struct Anchor {
 
 impl Anchor {
     /// Adds the name of the message.
-    pub fn push(self, text: &mut String) -> Result<(), AllocError>
-        ensures { OnOk result (string_bytes text.new ≡ string_bytes text.old ++ message_name self) }
+    pub fn push(self, markup: &mut String) -> Result<(), AllocError>
+        ensures { OnOk result (string_bytes markup.new ≡ string_bytes markup.old ++ message_name self) }
     {
-        push_counted(text, "m", self.input)?;
-        push_counted(text, "-", self.message)
+        push_counted(markup, "m", self.input)?;
+        push_counted(markup, "-", self.message)
     }
 
     // Adds the name of a word.
-    fn push_word(self, text: &mut String, place: Place) -> Result<(), AllocError>
-        ensures { OnOk result (string_bytes text.new ≡ string_bytes text.old ++ word_name self place) }
+    fn push_word(self, markup: &mut String, place: Place) -> Result<(), AllocError>
+        ensures { OnOk result (string_bytes markup.new ≡ string_bytes markup.old ++ word_name self place) }
     {
-        self.push(text)?;
-        push_counted(text, "-", u64::from(place.segment))?;
-        push_counted(text, "-", place.word as u64)
+        self.push(markup)?;
+        push_counted(markup, "-", u64::from(place.segment))?;
+        push_counted(markup, "-", place.word as u64)
     }
 }
 
@@ -51,13 +51,13 @@ pub struct Drawn<'a> {
 }
 
 /// Adds the classes of an object.
-pub fn push_object_classes(text: &mut String, number: u64) -> Result<(), AllocError>
-    ensures { OnOk result (string_bytes text.new ≡ string_bytes text.old
+pub fn push_object_classes(markup: &mut String, number: u64) -> Result<(), AllocError>
+    ensures { OnOk result (string_bytes markup.new ≡ string_bytes markup.old
         ++ (counted (codes "o") number ++ counted (codes " c") (number % COLOURS))) }
 {
     let colour = colour_of(number);
-    push_counted(text, "o", number)?;
-    push_counted(text, " c", colour)
+    push_counted(markup, "o", number)?;
+    push_counted(markup, " c", colour)
 }
 
 /// The colour of an object: the colours are used in turn, and then again from the first.
@@ -69,79 +69,79 @@ pub fn colour_of(number: u64) -> u64
 
 /// Adds a row of words, the first of which is at this place.
 pub fn push_row(
-    text: &mut String,
+    markup: &mut String,
     drawn: Drawn<'_>,
     first: Place,
     words: &[Word],
 ) -> Result<(), AllocError> {
-    push_counted(text, "<tr><th>", first.word as u64)?;
-    text.push_str("</th>")?;
+    push_counted(markup, "<tr><th>", first.word as u64)?;
+    markup.push_str("</th>")?;
     let mut place = first;
     for word in words {
-        push_cell(text, drawn, place, word)?;
+        push_cell(markup, drawn, place, word)?;
         place = moved(place, 1);
     }
-    text.push_str("</tr>\n")
+    markup.push_str("</tr>\n")
 }
 
 // Adds the cell of a word.
 fn push_cell(
-    text: &mut String,
+    markup: &mut String,
     drawn: Drawn<'_>,
     place: Place,
     word: &Word,
 ) -> Result<(), AllocError> {
-    text.push_str("<td id=\"")?;
-    drawn.anchor.push_word(text, place)?;
-    text.push_str("\" class=\"")?;
-    push_classes(text, word)?;
-    text.push_str("\" title=\"")?;
-    push_title(text, place, word)?;
-    text.push_str("\">")?;
+    markup.push_str("<td id=\"")?;
+    drawn.anchor.push_word(markup, place)?;
+    markup.push_str("\" class=\"")?;
+    push_classes(markup, word)?;
+    markup.push_str("\" title=\"")?;
+    push_title(markup, place, word)?;
+    markup.push_str("\">")?;
     match word.target() {
         Some((_, start)) if drawn.owners.word(start).is_some() => {
-            push_link(text, drawn, place, word, start)?;
+            push_link(markup, drawn, place, word, start)?;
         }
-        _ => push_hexadecimal(text, word.bytes)?,
+        _ => push_hexadecimal(markup, word.bytes)?,
     }
-    text.push_str("</td>")
+    markup.push_str("</td>")
 }
 
 // Adds the link of a word that leads to the word at which an object begins, with its arrow, so that
 // a mouse over one of the two is over both.
 fn push_link(
-    text: &mut String,
+    markup: &mut String,
     drawn: Drawn<'_>,
     place: Place,
     word: &Word,
     start: Place,
 ) -> Result<(), AllocError> {
-    text.push_str("<a href=\"#")?;
-    drawn.anchor.push_word(text, start)?;
-    text.push_str("\">")?;
-    push_hexadecimal(text, word.bytes)?;
-    text.push_str("<svg>")?;
-    drawn.grid.push_arrow(text, drawn.owners, place, word)?;
-    text.push_str("</svg></a>")
+    markup.push_str("<a href=\"#")?;
+    drawn.anchor.push_word(markup, start)?;
+    markup.push_str("\">")?;
+    push_hexadecimal(markup, word.bytes)?;
+    markup.push_str("<svg>")?;
+    drawn.grid.push_arrow(markup, drawn.owners, place, word)?;
+    markup.push_str("</svg></a>")
 }
 
 // Adds the classes of a word: its role in the object that it belongs to, and whether its pointer is
 // followed.
-fn push_classes(text: &mut String, word: &Word) -> Result<(), AllocError>
-    ensures { OnOk result (string_bytes text.new ≡ string_bytes text.old ++ word_classes word.now) }
+fn push_classes(markup: &mut String, word: &Word) -> Result<(), AllocError>
+    ensures { OnOk result (string_bytes markup.new ≡ string_bytes markup.old ++ word_classes word.now) }
 {
-    push_owner(text, word.owner)?;
-    push_null(text, word)?;
-    push_not_followed(text, word)
+    push_owner(markup, word.owner)?;
+    push_null(markup, word)?;
+    push_not_followed(markup, word)
 }
 
 // Adds the role of a word in the object that it belongs to.
-fn push_owner(text: &mut String, owner: Owner) -> Result<(), AllocError>
-    ensures { OnOk result (string_bytes text.new ≡ string_bytes text.old ++ owner_classes owner) }
+fn push_owner(markup: &mut String, owner: Owner) -> Result<(), AllocError>
+    ensures { OnOk result (string_bytes markup.new ≡ string_bytes markup.old ++ owner_classes owner) }
 {
     match owner {
-        Owner::Free => text.push_str("free"),
-        Owner::Root => text.push_str("pointer root"),
+        Owner::Free => markup.push_str("free"),
+        Owner::Root => markup.push_str("pointer root"),
         Owner::Object(number, role) => {
             let class = match role {
                 Role::Data => "data",
@@ -149,67 +149,67 @@ fn push_owner(text: &mut String, owner: Owner) -> Result<(), AllocError>
                 Role::Tag => "tag",
                 Role::Landing => "landing",
             };
-            text.push_str(class)?;
-            text.push(' ')?;
-            push_object_classes(text, number)
+            markup.push_str(class)?;
+            markup.push(' ')?;
+            push_object_classes(markup, number)
         }
     }
 }
 
 // Adds that a word is a null pointer.
-fn push_null(text: &mut String, word: &Word) -> Result<(), AllocError>
-    ensures { OnOk result (string_bytes text.new
-        ≡ string_bytes text.old ++ null_class word.now.owner word.now.lead) }
+fn push_null(markup: &mut String, word: &Word) -> Result<(), AllocError>
+    ensures { OnOk result (string_bytes markup.new
+        ≡ string_bytes markup.old ++ null_class word.now.owner word.now.lead) }
 {
     if word.is_pointer() && matches!(word.lead, Lead::Null) {
-        text.push_str(" null")?;
+        markup.push_str(" null")?;
     }
     Ok(())
 }
 
 // Adds that the pointer at a word is not followed.
-fn push_not_followed(text: &mut String, word: &Word) -> Result<(), AllocError>
-    ensures { OnOk result (string_bytes text.new
-        ≡ string_bytes text.old ++ error_class word.now.error) }
+fn push_not_followed(markup: &mut String, word: &Word) -> Result<(), AllocError>
+    ensures { OnOk result (string_bytes markup.new
+        ≡ string_bytes markup.old ++ error_class word.now.error) }
 {
     if word.error.is_some() {
-        text.push_str(" refused")?;
+        markup.push_str(" refused")?;
     }
     Ok(())
 }
 
 // Adds what is said of a word: why its pointer is not followed, or where it is, and its role in
 // which object.
-fn push_title(text: &mut String, place: Place, word: &Word) -> Result<(), AllocError>
+fn push_title(markup: &mut String, place: Place, word: &Word) -> Result<(), AllocError>
     ensures { word.now.error ≡ None → OnOk result
-        (string_bytes text.new ≡ string_bytes text.old ++ title_of place word.now) }
+        (string_bytes markup.new ≡ string_bytes markup.old ++ title_of place word.now) }
 {
     match word.error {
-        Some(kind) => push_error(text, kind),
+        Some(kind) => push_error(markup, kind),
         None => {
-            push_where(text, place)?;
-            push_owner_name(text, word.owner)?;
-            push_lead(text, word)
+            push_where(markup, place)?;
+            push_owner_name(markup, word.owner)?;
+            push_lead(markup, word)
         }
     }
 }
 
 // Adds where a word is.
-fn push_where(text: &mut String, place: Place) -> Result<(), AllocError>
-    ensures { OnOk result (string_bytes text.new ≡ string_bytes text.old ++ where_of place) }
+fn push_where(markup: &mut String, place: Place) -> Result<(), AllocError>
+    ensures { OnOk result (string_bytes markup.new ≡ string_bytes markup.old ++ where_of place) }
 {
-    push_counted(text, "word ", u64::from(place.segment))?;
-    push_counted(text, ":", place.word as u64)?;
-    text.push_str(", ")
+    push_counted(markup, "word ", u64::from(place.segment))?;
+    push_counted(markup, ":", place.word as u64)?;
+    markup.push_str(", ")
 }
 
 // Adds the role of a word in which object.
-fn push_owner_name(text: &mut String, owner: Owner) -> Result<(), AllocError>
-    ensures { OnOk result (string_bytes text.new ≡ string_bytes text.old ++ owner_name owner) }
+fn push_owner_name(markup: &mut String, owner: Owner) -> Result<(), AllocError>
+    ensures { OnOk result (string_bytes markup.new ≡ string_bytes markup.old ++ owner_name owner) }
 {
     match owner {
-        Owner::Free => text.push_str("of no object that is reached"),
-        Owner::Root => text.push_str("the root pointer"),
+        Owner::Free => markup.push_str("of no object that is reached"),
+        Owner::Root => markup.push_str("the root pointer"),
         Owner::Object(object, role) => {
             let said = match role {
                 Role::Data => "data",
@@ -217,23 +217,23 @@ fn push_owner_name(text: &mut String, owner: Owner) -> Result<(), AllocError>
                 Role::Tag => "tag",
                 Role::Landing => "landing pad",
             };
-            text.push_str(said)?;
-            push_counted(text, " of object ", object)
+            markup.push_str(said)?;
+            push_counted(markup, " of object ", object)
         }
     }
 }
 
 // Adds where a word leads that is drawn as a pointer.
-fn push_lead(text: &mut String, word: &Word) -> Result<(), AllocError>
-    ensures { OnOk result (string_bytes text.new
-        ≡ string_bytes text.old ++ drawn_lead word.now.owner word.now.lead) }
+fn push_lead(markup: &mut String, word: &Word) -> Result<(), AllocError>
+    ensures { OnOk result (string_bytes markup.new
+        ≡ string_bytes markup.old ++ drawn_lead word.now.owner word.now.lead) }
 {
     if !word.is_pointer() {
         return Ok(());
     }
     match word.lead {
         Lead::Nowhere => Ok(()),
-        Lead::Null => text.push_str(", null"),
-        Lead::Object(object, _) => push_counted(text, ", to object ", object),
+        Lead::Null => markup.push_str(", null"),
+        Lead::Object(object, _) => push_counted(markup, ", to object ", object),
     }
 }

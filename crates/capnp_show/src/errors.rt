@@ -1,9 +1,9 @@
 //! What is said of errors.
 ghost use Rattle.std.specs.Prelude.{◌≡◌, ◌++◌, [], IfOk, codes, string_bytes};
 ghost use Rattle.capnp_show.specs.ErrorLines.{IsDeviceErrorLine, sentence_of, unwritten_of};
-ghost use Rattle.capnp_show.specs.Texts.{AddsEscaped};
+ghost use Rattle.capnp_show.specs.Output.{AddsEscaped};
 
-use crate::text::push_escaped;
+use crate::escapes::push_escaped;
 use capnp::{Error, ErrorKind};
 use std::alloc::{AllocError, Global};
 use std::fmt::Write;
@@ -48,9 +48,9 @@ pub fn sentence(kind: ErrorKind) -> &'static str
 }
 
 /// Adds what is said of a pointer that is not followed.
-pub fn push_error(text: &mut String, kind: ErrorKind) -> Result<(), AllocError> {
+pub fn push_error(output: &mut String, kind: ErrorKind) -> Result<(), AllocError> {
     let said = sentence(kind);
-    write!(text, "refused, since {said} ({kind})")
+    write!(output, "refused, since {said} ({kind})")
 }
 
 /// Why the messages of an input are not shown to its end.
@@ -96,7 +96,7 @@ pub fn device_error_line(alloc: Global, name: &str, error: &io::Error) -> Result
 }
 
 /// The line that says this of an input.
-#[tactic(auto, using(crate::proofs::TextLemmas::escaped_and_more))]
+#[tactic(auto, using(crate::proofs::EscapeLemmas::escaped_and_more))]
 pub fn input_line(alloc: Global, name: &str, said: &str) -> Result<String, AllocError>
     ensures { IfOk result (λ line. AddsEscaped (codes "capnp_show: ") name.now
         (codes ": " ++ (said.now ++ codes "\n")) [] (string_bytes line)) }
@@ -107,7 +107,7 @@ pub fn input_line(alloc: Global, name: &str, said: &str) -> Result<String, Alloc
 }
 
 /// The front of a line about an input.
-#[tactic(auto, using(crate::proofs::TextLemmas::escaped_between))]
+#[tactic(auto, using(crate::proofs::EscapeLemmas::escaped_between))]
 pub fn named_line(alloc: Global, name: &str) -> Result<String, AllocError>
     ensures { IfOk result (λ line. AddsEscaped (codes "capnp_show: ") name.now (codes ": ")
         [] (string_bytes line)) }

@@ -28,13 +28,13 @@ pub fn show_files<W: Write>(
     if !matches!(settings.form, Form::Html) {
         return show_each(rt, settings, names, sink);
     }
-    let mut text = String::new(rt.alloc());
-    push_page(&mut text)?;
-    sink.write_all(text.as_bytes())?;
+    let mut output = String::new(rt.alloc());
+    push_page(&mut output)?;
+    sink.write_all(output.as_bytes())?;
     let is_whole = show_each(rt, settings, names, sink)?;
-    text.clear();
-    push_end(&mut text)?;
-    sink.write_all(text.as_bytes())?;
+    output.clear();
+    push_end(&mut output)?;
+    sink.write_all(output.as_bytes())?;
     Ok(is_whole)
 }
 
@@ -119,9 +119,9 @@ fn show_name<W: Write>(rt: HostRuntime, showing: Showing<'_>, sink: &mut W) -> R
     if !matches!(showing.settings.form, Form::Html) {
         return Ok(());
     }
-    let mut text = String::new(rt.alloc());
-    push_input(&mut text, showing.name)?;
-    sink.write_all(text.as_bytes())
+    let mut output = String::new(rt.alloc());
+    push_input(&mut output, showing.name)?;
+    sink.write_all(output.as_bytes())
 }
 
 // How progress is reported while a file is read: for regular files, and only where standard error

@@ -1,7 +1,7 @@
 //! The parts of a page that is complete in itself, except for the drawings.
 ghost use Rattle.std.specs.Prelude.{◌≡◌, ◌++◌, OnOk, codes, string_bytes};
 ghost use Rattle.capnp_show.specs.Arrows.{height_of};
-ghost use Rattle.capnp_show.specs.Texts.{AddsMarked, counted, message_name, object_classes};
+ghost use Rattle.capnp_show.specs.Output.{AddsMarked, counted, message_name, object_classes};
 
 use crate::arrows::{part_height, push_sizes};
 use crate::drawn::{Anchor, push_object_classes};
@@ -13,92 +13,92 @@ use std::alloc::AllocError;
 use std::fmt::Write;
 
 /// Adds the front of a page.
-pub fn push_page(text: &mut String) -> Result<(), AllocError> {
-    text.push_str(
+pub fn push_page(markup: &mut String) -> Result<(), AllocError> {
+    markup.push_str(
         "<!DOCTYPE html>\n<html lang=\"en\">\n<head>\n<meta charset=\"utf-8\">\n\
 <meta name=\"viewport\" content=\"width=device-width\">\n\
 <title>capnp_show</title>\n<style>\n",
     )?;
-    push_sizes(text)?;
-    text.push_str(STYLE)?;
-    text.push_str("</style>\n</head>\n<body>\n")?;
-    text.push_str(LEGEND)
+    push_sizes(markup)?;
+    markup.push_str(STYLE)?;
+    markup.push_str("</style>\n</head>\n<body>\n")?;
+    markup.push_str(LEGEND)
 }
 
 /// Adds the end of a page.
-pub fn push_end(text: &mut String) -> Result<(), AllocError>
-    ensures { OnOk result (string_bytes text.new
-        ≡ string_bytes text.old ++ codes "</body>\n</html>\n") }
+pub fn push_end(markup: &mut String) -> Result<(), AllocError>
+    ensures { OnOk result (string_bytes markup.new
+        ≡ string_bytes markup.old ++ codes "</body>\n</html>\n") }
 {
-    text.push_str("</body>\n</html>\n")
+    markup.push_str("</body>\n</html>\n")
 }
 
 /// Adds the heading of an input.
-#[tactic(auto, using(crate::proofs::TextLemmas::marked_between))]
-pub fn push_input(text: &mut String, name: &str) -> Result<(), AllocError>
+#[tactic(auto, using(crate::proofs::EscapeLemmas::marked_between))]
+pub fn push_input(markup: &mut String, name: &str) -> Result<(), AllocError>
     ensures { OnOk result (AddsMarked (codes "<h1>") name.now (codes "</h1>\n")
-        (string_bytes text.old) (string_bytes text.new)) }
+        (string_bytes markup.old) (string_bytes markup.new)) }
 {
-    text.push_str("<h1>")?;
-    push_markup(text, name)?;
-    text.push_str("</h1>\n")
+    markup.push_str("<h1>")?;
+    push_markup(markup, name)?;
+    markup.push_str("</h1>\n")
 }
 
-/// Adds the front of a message's section, up to the text of its heading.
-pub fn push_section(text: &mut String, anchor: Anchor) -> Result<(), AllocError>
-    ensures { OnOk result (string_bytes text.new ≡ string_bytes text.old
+/// Adds the front of a message's section, up to the words of its heading.
+pub fn push_section(markup: &mut String, anchor: Anchor) -> Result<(), AllocError>
+    ensures { OnOk result (string_bytes markup.new ≡ string_bytes markup.old
         ++ (codes "<section class=\"message\" id=\"" ++ (message_name anchor ++ codes "\">\n<h2>"))) }
 {
-    text.push_str("<section class=\"message\" id=\"")?;
-    anchor.push(text)?;
-    text.push_str("\">\n<h2>")
+    markup.push_str("<section class=\"message\" id=\"")?;
+    anchor.push(markup)?;
+    markup.push_str("\">\n<h2>")
 }
 
 /// Adds that a message is too large to be drawn.
-pub fn push_large(text: &mut String) -> Result<(), AllocError>
-    ensures { OnOk result (string_bytes text.new ≡ string_bytes text.old
+pub fn push_large(markup: &mut String) -> Result<(), AllocError>
+    ensures { OnOk result (string_bytes markup.new ≡ string_bytes markup.old
         ++ codes "<p class=\"large\">A message of more than 4096 words is not drawn.</p>\n") }
 {
-    text.push_str("<p class=\"large\">A message of more than 4096 words is not drawn.</p>\n")
+    markup.push_str("<p class=\"large\">A message of more than 4096 words is not drawn.</p>\n")
 }
 
 /// Adds why a root pointer for which there is no word is not followed.
-pub fn push_no_root(text: &mut String, kind: ErrorKind) -> Result<(), AllocError> {
-    text.push_str("<p class=\"refused\">root: ")?;
-    push_error(text, kind)?;
-    text.push_str("</p>\n")
+pub fn push_no_root(markup: &mut String, kind: ErrorKind) -> Result<(), AllocError> {
+    markup.push_str("<p class=\"refused\">root: ")?;
+    push_error(markup, kind)?;
+    markup.push_str("</p>\n")
 }
 
 /// Adds the line of an object to the list of objects.
-pub fn push_object(text: &mut String, number: u64, line: &str) -> Result<(), AllocError>
+pub fn push_object(markup: &mut String, number: u64, line: &str) -> Result<(), AllocError>
     ensures { OnOk result (AddsMarked (codes "<li class=\"" ++ (object_classes number ++ codes "\">"))
-        line.now (codes "</li>\n") (string_bytes text.old) (string_bytes text.new)) }
+        line.now (codes "</li>\n") (string_bytes markup.old) (string_bytes markup.new)) }
 {
-    push_object_front(text, number)?;
-    push_markup(text, line)?;
-    text.push_str("</li>\n")
+    push_object_front(markup, number)?;
+    push_markup(markup, line)?;
+    markup.push_str("</li>\n")
 }
 
 // Adds the front of the line of an object, with its classes.
-fn push_object_front(text: &mut String, number: u64) -> Result<(), AllocError>
-    ensures { OnOk result (string_bytes text.new ≡ string_bytes text.old
+fn push_object_front(markup: &mut String, number: u64) -> Result<(), AllocError>
+    ensures { OnOk result (string_bytes markup.new ≡ string_bytes markup.old
         ++ (codes "<li class=\"" ++ (object_classes number ++ codes "\">"))) }
 {
-    text.push_str("<li class=\"")?;
-    push_object_classes(text, number)?;
-    text.push_str("\">")
+    markup.push_str("<li class=\"")?;
+    push_object_classes(markup, number)?;
+    markup.push_str("\">")
 }
 
 /// Adds the front of a segment of this many words.
-pub fn push_part(text: &mut String, segment: u32, words: usize) -> Result<(), AllocError>
-    ensures { OnOk result (string_bytes text.new
-        ≡ string_bytes text.old ++ (counted (codes "<div style=\"height: ") (height_of words)
+pub fn push_part(markup: &mut String, segment: u32, words: usize) -> Result<(), AllocError>
+    ensures { OnOk result (string_bytes markup.new
+        ≡ string_bytes markup.old ++ (counted (codes "<div style=\"height: ") (height_of words)
         ++ (counted (codes "px\">\n<h3>segment ") segment ++ (counted (codes ", words ") words
         ++ codes "</h3>\n<table class=\"segment\">\n")))) }
 {
     let height = part_height(words);
     write!(
-        text,
+        markup,
         "<div style=\"height: {height}px\">\n<h3>segment {segment}, words {words}</h3>\n\
 <table class=\"segment\">\n"
     )

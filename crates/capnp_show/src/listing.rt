@@ -1,13 +1,13 @@
 //! Messages as lines.
 ghost use Rattle.std.specs.Prelude.{◌≡◌, ◌++◌, [], MatchOption, OnOk, codes, decimal, string_bytes};
 ghost use Rattle.capnp_show.specs.Hashes.{IfHash};
-ghost use Rattle.capnp_show.specs.Texts.{AddsEscaped, element_name, number_name, counted, listed_line};
+ghost use Rattle.capnp_show.specs.Output.{AddsEscaped, element_name, number_name, counted, listed_line};
 
 use crate::hash::Hash;
 use crate::numbers::{push_counted, push_decimal};
 use crate::objects::{Object, bytes_of, words_of_landing_pad};
 use crate::errors::{push_error, sentence};
-use crate::text::{push_escaped, push_quoted, text_in};
+use crate::escapes::{push_escaped, push_quoted, text_in};
 use crate::tree::{Found, Label, Node};
 use capnp::layout::{Body, ElementSize, Place, StructSize};
 use capnp::message::ReaderSegments;
@@ -29,127 +29,127 @@ pub struct Listed {
 }
 
 /// Adds what comes in front of a line.
-#[tactic(auto, using(crate::proofs::TextLemmas::escaped_between))]
-pub fn push_name(text: &mut String, name: Option<&str>) -> Result<(), AllocError>
-    ensures { OnOk result (MatchOption name.entry (string_bytes text.new ≡ string_bytes text.old)
-        (λ shown. AddsEscaped [] shown.now (codes ": ") (string_bytes text.old) (string_bytes text.new))) }
+#[tactic(auto, using(crate::proofs::EscapeLemmas::escaped_between))]
+pub fn push_name(line: &mut String, name: Option<&str>) -> Result<(), AllocError>
+    ensures { OnOk result (MatchOption name.entry (string_bytes line.new ≡ string_bytes line.old)
+        (λ shown. AddsEscaped [] shown.now (codes ": ") (string_bytes line.old) (string_bytes line.new))) }
 {
     if let Some(name) = name {
-        push_escaped(text, name)?;
-        text.push_str(": ")?;
+        push_escaped(line, name)?;
+        line.push_str(": ")?;
     }
     Ok(())
 }
 
 /// Adds what is listed for a message, without the end of the line.
-pub fn push_listed(text: &mut String, listed: &Listed) -> Result<(), AllocError>
-    ensures { OnOk result (string_bytes text.new ≡ string_bytes text.old ++ listed_line listed.now) }
+pub fn push_listed(line: &mut String, listed: &Listed) -> Result<(), AllocError>
+    ensures { OnOk result (string_bytes line.new ≡ string_bytes line.old ++ listed_line listed.now) }
 {
-    push_counted(text, "message ", listed.index)?;
-    push_counted(text, ": offset ", listed.offset)?;
-    push_counted(text, ", bytes ", listed.bytes)?;
-    push_counted(text, ", segments ", listed.segments)?;
-    push_counted(text, ", words ", listed.words)
+    push_counted(line, "message ", listed.index)?;
+    push_counted(line, ": offset ", listed.offset)?;
+    push_counted(line, ", bytes ", listed.bytes)?;
+    push_counted(line, ", segments ", listed.segments)?;
+    push_counted(line, ", words ", listed.words)
 }
 
 /// Adds the hash of a canonical form, or why there is none.
-pub fn push_hash(text: &mut String, hash: &Hash) -> Result<(), AllocError>
-    ensures { IfHash hash.now (λ shown. OnOk result (string_bytes text.new
-        ≡ string_bytes text.old ++ (codes ", sha256 " ++ shown))) }
+pub fn push_hash(line: &mut String, hash: &Hash) -> Result<(), AllocError>
+    ensures { IfHash hash.now (λ shown. OnOk result (string_bytes line.new
+        ≡ string_bytes line.old ++ (codes ", sha256 " ++ shown))) }
 {
     match hash {
-        Hash::Of(hash) => write!(text, ", sha256 {hash}"),
+        Hash::Of(hash) => write!(line, ", sha256 {hash}"),
         Hash::WithoutForm(kind) => {
             let said = sentence(*kind);
-            write!(text, ", no canonical form: {said} ({kind})")
+            write!(line, ", no canonical form: {said} ({kind})")
         }
     }
 }
 
 /// Adds a number of messages.
-pub fn push_count(text: &mut String, count: u64) -> Result<(), AllocError>
-    ensures { OnOk result (string_bytes text.new ≡ string_bytes text.old ++ decimal count) }
+pub fn push_count(line: &mut String, count: u64) -> Result<(), AllocError>
+    ensures { OnOk result (string_bytes line.new ≡ string_bytes line.old ++ decimal count) }
 {
-    push_decimal(text, count)
+    push_decimal(line, count)
 }
 
 /// Adds the line of a node, without its end.
 pub fn push_node<S: ReaderSegments>(
-    text: &mut String,
+    line: &mut String,
     segments: &S,
     node: &Node,
 ) -> Result<(), AllocError> {
     for _ in 0..node.depth.saturating_add(1) {
-        text.push_str("  ")?;
+        line.push_str("  ")?;
     }
-    push_node_text(text, segments, node)
+    push_unindented(line, segments, node)
 }
 
 /// Adds the line of a node, without the blanks at its front and its end.
-pub fn push_node_text<S: ReaderSegments>(
-    text: &mut String,
+pub fn push_unindented<S: ReaderSegments>(
+    line: &mut String,
     segments: &S,
     node: &Node,
 ) -> Result<(), AllocError> {
     match node.label {
-        Label::Root => text.push_str("root: ")?,
+        Label::Root => line.push_str("root: ")?,
         Label::Pointer(index) => {
-            push_counted(text, "pointer ", index)?;
-            text.push_str(": ")?;
+            push_counted(line, "pointer ", index)?;
+            line.push_str(": ")?;
         }
         Label::Element(index) => {
-            push_counted(text, "element ", index)?;
-            text.push_str(": ")?;
+            push_counted(line, "element ", index)?;
+            line.push_str(": ")?;
         }
     }
-    push_found(text, segments, node.found)
+    push_found(line, segments, node.found)
 }
 
 // Adds what was found at a node.
 fn push_found<S: ReaderSegments>(
-    text: &mut String,
+    line: &mut String,
     segments: &S,
     found: Found,
 ) -> Result<(), AllocError> {
     match found {
-        Found::Null => text.push_str("null"),
-        Found::Object(object) => push_object(text, segments, &object),
+        Found::Null => line.push_str("null"),
+        Found::Object(object) => push_object(line, segments, &object),
         Found::Element(place, size) => {
-            text.push_str("struct")?;
-            push_size(text, size)?;
-            push_place(text, place)
+            line.push_str("struct")?;
+            push_size(line, size)?;
+            push_place(line, place)
         }
-        Found::Invalid(kind) => push_error(text, kind),
+        Found::Invalid(kind) => push_error(line, kind),
     }
 }
 
 // Adds an object: what it is, where it begins, and its text if it is one.
 fn push_object<S: ReaderSegments>(
-    text: &mut String,
+    line: &mut String,
     segments: &S,
     object: &Object,
 ) -> Result<(), AllocError> {
     let name = name_of(object.body);
     match object.body {
         Body::Struct(size) => {
-            text.push_str(name)?;
-            push_size(text, size)?;
+            line.push_str(name)?;
+            push_size(line, size)?;
         }
-        Body::Numbers(_, count) | Body::Pointers(count) => push_list(text, name, count)?,
+        Body::Numbers(_, count) | Body::Pointers(count) => push_list(line, name, count)?,
         Body::Structs(elements, _) => {
-            push_list(text, name, elements.count)?;
-            push_size(text, elements.size)?;
+            push_list(line, name, elements.count)?;
+            push_size(line, elements.size)?;
         }
     }
-    push_place(text, object.start)?;
+    push_place(line, object.start)?;
     if let Some(far) = object.far {
-        push_counted(text, ", landing pad ", u64::from(far.landing_pad.segment))?;
-        push_counted(text, ":", far.landing_pad.word as u64)?;
-        push_counted(text, ", words ", words_of_landing_pad(far))?;
+        push_counted(line, ", landing pad ", u64::from(far.landing_pad.segment))?;
+        push_counted(line, ":", far.landing_pad.word as u64)?;
+        push_counted(line, ", words ", words_of_landing_pad(far))?;
     }
     if let Some(shown) = bytes_of(segments, object).and_then(text_in) {
-        text.push_str(", text ")?;
-        push_quoted(text, shown)?;
+        line.push_str(", text ")?;
+        push_quoted(line, shown)?;
     }
     Ok(())
 }
@@ -180,30 +180,30 @@ fn name_of_number(size: ElementSize) -> &'static str
 }
 
 // Adds a list: what its elements are, and how many there are.
-fn push_list(text: &mut String, name: &str, count: u32) -> Result<(), AllocError>
-    ensures { OnOk result (string_bytes text.new ≡ string_bytes text.old
+fn push_list(line: &mut String, name: &str, count: u32) -> Result<(), AllocError>
+    ensures { OnOk result (string_bytes line.new ≡ string_bytes line.old
         ++ (codes "list, element " ++ (name.now ++ counted (codes ", count ") count))) }
 {
-    text.push_str("list, element ")?;
-    text.push_str(name)?;
-    push_counted(text, ", count ", u64::from(count))
+    line.push_str("list, element ")?;
+    line.push_str(name)?;
+    push_counted(line, ", count ", u64::from(count))
 }
 
 // Adds the words of a struct.
-fn push_size(text: &mut String, size: StructSize) -> Result<(), AllocError>
-    ensures { OnOk result (string_bytes text.new ≡ string_bytes text.old
+fn push_size(line: &mut String, size: StructSize) -> Result<(), AllocError>
+    ensures { OnOk result (string_bytes line.new ≡ string_bytes line.old
         ++ (counted (codes ", data ") size.data_words
         ++ counted (codes ", pointers ") size.pointers)) }
 {
-    push_counted(text, ", data ", size.data_words as u64)?;
-    push_counted(text, ", pointers ", size.pointers as u64)
+    push_counted(line, ", data ", size.data_words as u64)?;
+    push_counted(line, ", pointers ", size.pointers as u64)
 }
 
 // Adds a place, by its segment and its word.
-fn push_place(text: &mut String, place: Place) -> Result<(), AllocError>
-    ensures { OnOk result (string_bytes text.new ≡ string_bytes text.old
+fn push_place(line: &mut String, place: Place) -> Result<(), AllocError>
+    ensures { OnOk result (string_bytes line.new ≡ string_bytes line.old
         ++ (counted (codes ", at ") place.segment ++ counted (codes ":") place.word)) }
 {
-    push_counted(text, ", at ", u64::from(place.segment))?;
-    push_counted(text, ":", place.word as u64)
+    push_counted(line, ", at ", u64::from(place.segment))?;
+    push_counted(line, ":", place.word as u64)
 }

@@ -26,7 +26,7 @@ mod runs;
 mod settings;
 mod shown;
 mod style;
-mod text;
+mod escapes;
 mod tree;
 
 use crate::files::show_files;

@@ -1,9 +1,9 @@
-//! Texts in a page.
+//! Strings in a page.
 ghost use Rattle.std.specs.Prelude.{◌≡◌, ◌++◌, ℕ, List, [], OnOk, string_bytes};
-ghost use Rattle.capnp_show.specs.Texts.{IsMarkOf, IsMarked, AddsMarked};
+ghost use Rattle.capnp_show.specs.Output.{IsMarkOf, IsMarked, AddsMarked};
 
 use crate::runs::{next_run, push_run};
-use crate::text::{escape_of, push_escape};
+use crate::escapes::{escape_of, push_escape};
 use std::alloc::AllocError;
 
 /// How a character is written in a page.
@@ -31,27 +31,27 @@ pub fn mark_of(character: char) -> Mark
     }
 }
 
-/// Adds a text to a page.
-pub fn push_markup(text: &mut String, shown: &str) -> Result<(), AllocError>
-    ensures { OnOk result (AddsMarked [] shown.now [] (string_bytes text.old) (string_bytes text.new)) }
+/// Adds a string to a page.
+pub fn push_markup(markup: &mut String, shown: &str) -> Result<(), AllocError>
+    ensures { OnOk result (AddsMarked [] shown.now [] (string_bytes markup.old) (string_bytes markup.new)) }
 {
     let mut rest = shown;
     while let Some((plain, character, after)) = next_run(rest) {
-        push_run(text, plain)?;
-        push_mark(text, character, mark_of(character))?;
+        push_run(markup, plain)?;
+        push_mark(markup, character, mark_of(character))?;
         rest = after;
     }
-    text.push_str(rest)
+    markup.push_str(rest)
 }
 
 // Adds a character to a page, written in this way.
-fn push_mark(text: &mut String, character: char, mark: Mark) -> Result<(), AllocError>
-    ensures { OnOk result ((bytes : List ℕ) × (string_bytes text.new ≡ string_bytes text.old ++ bytes)
+fn push_mark(markup: &mut String, character: char, mark: Mark) -> Result<(), AllocError>
+    ensures { OnOk result ((bytes : List ℕ) × (string_bytes markup.new ≡ string_bytes markup.old ++ bytes)
         × IsMarked character mark bytes) }
 {
     match mark {
-        Mark::Plain => text.push(character),
-        Mark::Named(name) => text.push_str(name),
-        Mark::Control => push_escape(text, character, escape_of(character)),
+        Mark::Plain => markup.push(character),
+        Mark::Named(name) => markup.push_str(name),
+        Mark::Control => push_escape(markup, character, escape_of(character)),
     }
 }

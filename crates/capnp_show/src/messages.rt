@@ -29,7 +29,7 @@ pub fn show_messages<R: BufRead + Drop, W: Write>(
     sink: &mut W,
 ) -> std::result::Result<(), Stop> {
     let alloc = rt.alloc();
-    let mut text = String::new(alloc);
+    let mut output = String::new(alloc);
     let mut outcome = Ok(());
     let mut count = 0;
     for index in 0..showing.settings.first {
@@ -41,7 +41,7 @@ pub fn show_messages<R: BufRead + Drop, W: Write>(
                 count = index + 1;
                 let bytes = taken.saturating_sub(offset);
                 let listed = listed(index, offset, bytes, message.get_segments());
-                show_read(alloc, showing, &listed, &message, &mut text, sink).map_err(
+                show_read(alloc, showing, &listed, &message, &mut output, sink).map_err(
                     Stop::Unwritten,
                 )?;
                 say_progress(rt, showing.name, progress, taken, count).map_err(Stop::Unwritten)?;
@@ -57,7 +57,7 @@ pub fn show_messages<R: BufRead + Drop, W: Write>(
         }
     }
     if matches!(showing.settings.form, Form::Count) {
-        show_count(showing, count, &mut text, sink).map_err(Stop::Unwritten)?;
+        show_count(showing, count, &mut output, sink).map_err(Stop::Unwritten)?;
     }
     outcome
 }
@@ -68,7 +68,7 @@ fn show_read<W: Write>(
     showing: Showing<'_>,
     listed: &Listed,
     message: &Reader<OwnedSegments>,
-    text: &mut String,
+    output: &mut String,
     sink: &mut W,
 ) -> Result<()>
     requires accepted { IsWithin message.now.segments None }
@@ -76,7 +76,7 @@ fn show_read<W: Write>(
 {
     match showing.settings.form {
         Form::Converted(way) => convert(alloc, way, listed.index, message.get_segments(), sink),
-        _ => show_message(alloc, showing, listed, message, text, sink),
+        _ => show_message(alloc, showing, listed, message, output, sink),
     }
 }
 

@@ -1,7 +1,7 @@
-//! Numbers, as they are added to a text.
+//! Numbers, as they are added to output.
 ghost use Rattle.std.specs.Prelude.{◌≡◌, ◌++◌, OnOk, decimal, string_bytes};
 ghost use Rattle.hex.specs.Hex.{encode_lower};
-ghost use Rattle.capnp_show.specs.Texts.{counted};
+ghost use Rattle.capnp_show.specs.Output.{counted};
 
 use itoa::Buffer;
 use std::alloc::AllocError;
@@ -11,28 +11,28 @@ use std::str::from_utf8;
 ///
 /// A page has several numbers for each word, so most numbers are added without a formatter, and
 /// those of one digit, which are the most, without a buffer either.
-pub fn push_decimal(text: &mut String, number: u64) -> Result<(), AllocError>
-    ensures { OnOk result (string_bytes text.new ≡ string_bytes text.old ++ decimal number) }
+pub fn push_decimal(output: &mut String, number: u64) -> Result<(), AllocError>
+    ensures { OnOk result (string_bytes output.new ≡ string_bytes output.old ++ decimal number) }
 {
     if number < 10 {
-        return text.push((b'0' + number as u8) as char);
+        return output.push((b'0' + number as u8) as char);
     }
-    text.push_str(Buffer::new().format(number))
+    output.push_str(Buffer::new().format(number))
 }
 
 /// Adds words, and a number after them.
-pub fn push_counted(text: &mut String, words: &str, number: u64) -> Result<(), AllocError>
-    ensures { OnOk result (string_bytes text.new ≡ string_bytes text.old ++ counted words.now number) }
+pub fn push_counted(output: &mut String, words: &str, number: u64) -> Result<(), AllocError>
+    ensures { OnOk result (string_bytes output.new ≡ string_bytes output.old ++ counted words.now number) }
 {
-    text.push_str(words)?;
-    push_decimal(text, number)
+    output.push_str(words)?;
+    push_decimal(output, number)
 }
 
 /// Adds the bytes of a word in hexadecimal digits, two each.
-pub fn push_hexadecimal(text: &mut String, bytes: [u8; 8]) -> Result<(), AllocError>
-    ensures { OnOk result (string_bytes text.new ≡ string_bytes text.old ++ encode_lower bytes) }
+pub fn push_hexadecimal(output: &mut String, bytes: [u8; 8]) -> Result<(), AllocError>
+    ensures { OnOk result (string_bytes output.new ≡ string_bytes output.old ++ encode_lower bytes) }
 {
     let mut digits = [0; 16];
     hex::encode_to_slice(bytes, &mut digits).unwrap();
-    text.push_str(from_utf8(&digits).unwrap())
+    output.push_str(from_utf8(&digits).unwrap())
 }

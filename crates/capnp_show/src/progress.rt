@@ -1,6 +1,6 @@
 //! How far the reading of a large input is.
 ghost use Rattle.std.specs.Prelude.{[], IfOk, codes, string_bytes, ◌≡◌, ◌≤◌, ◌<◌, ◌+◌, ◌*◌, ◌/◌, ◌↔◌, ℕ, IfSome, IsSome, IsSomeAnd, IsTrue, None};
-ghost use Rattle.capnp_show.specs.Texts.{AddsEscaped, progress_of};
+ghost use Rattle.capnp_show.specs.Output.{AddsEscaped, progress_of};
 
 use crate::errors::named_line;
 use std::alloc::{AllocError, Global};
@@ -59,7 +59,7 @@ impl Progress {
     }
 
     /// The line for these numbers of MB and of messages that are read.
-    #[tactic(auto, using(crate::proofs::TextLemmas::escaped_and_more))]
+    #[tactic(auto, using(crate::proofs::EscapeLemmas::escaped_and_more))]
     pub fn line(
         &self,
         alloc: Global,

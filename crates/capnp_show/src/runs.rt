@@ -1,6 +1,6 @@
 //! Runs of characters that are written as they are, within quotation marks and in a page.
 //!
-//! Most of a text is written as it is, so it is added by runs and not by characters.
+//! Most of a string is written as it is, so it is added by runs and not by characters.
 ghost use Rattle.std.specs.Prelude.{◌≡◌, ◌++◌, ◌∷◌, ◌⊎◌, ◌≤◌, ◌<◌, None, IfSome, IsUtf8, IsTrue, IsFalse, OnOk, length, slice_index, string_bytes, take};
 ghost use Rattle.std.specs.List.{All};
 ghost use Rattle.std.specs.Str.{chars};
@@ -8,7 +8,7 @@ ghost use Rattle.capnp_show.specs.Plain.{IsPlainByte};
 
 use std::alloc::AllocError;
 
-/// The front of a text up to the first character that is not written as it is, that character, and
+/// The front of a string up to the first character that is not written as it is, that character, and
 /// what follows it; `None` where all characters are written as they are.
 #[inline(always)]
 pub fn next_run(shown: &str) -> Option<(&str, char, &str)>
@@ -24,15 +24,15 @@ pub fn next_run(shown: &str) -> Option<(&str, char, &str)>
     Some((plain, character, characters.as_str()))
 }
 
-/// Adds a run to a text. Where most characters are not written as they are, most runs are empty.
+/// Adds a run to output. Where most characters are not written as they are, most runs are empty.
 #[inline(always)]
-pub fn push_run(text: &mut String, run: &str) -> Result<(), AllocError>
-    ensures { OnOk result (string_bytes text.new ≡ string_bytes text.old ++ run.now) }
+pub fn push_run(output: &mut String, run: &str) -> Result<(), AllocError>
+    ensures { OnOk result (string_bytes output.new ≡ string_bytes output.old ++ run.now) }
 {
     if run.is_empty() {
         return Ok(());
     }
-    text.push_str(run)
+    output.push_str(run)
 }
 
 // How many bytes there are in front of the first one that is not plain.

@@ -18,8 +18,8 @@ use capnp::message::{Reader, ReaderSegments};
 use capnp::streams::Format;
 use std::alloc::Global;
 
-// From how many bytes on a text is written to the sink.
-const TEXT_BYTES: usize = 32768;
+// From how many bytes on output is written to the sink.
+const OUTPUT_BYTES: usize = 32768;
 
 /// How an input is shown.
 #[derive(Clone, Copy)]
@@ -48,18 +48,18 @@ pub fn show_message<S: ReaderSegments, W: Write>(
     showing: Showing<'_>,
     listed: &Listed,
     message: &Reader<S>,
-    text: &mut String,
+    output: &mut String,
     sink: &mut W,
 ) -> Result<()> {
-    text.clear();
+    output.clear();
     match showing.settings.form {
         Form::Count | Form::Converted(_) => return Ok(()),
-        Form::Lines => show_lines(alloc, showing, listed, message, text, sink)?,
-        Form::Json => show_json(alloc, showing, listed, message, text, sink)?,
-        Form::Html => show_section(alloc, showing, listed, message, text, sink)?,
+        Form::Lines => show_lines(alloc, showing, listed, message, output, sink)?,
+        Form::Json => show_json(alloc, showing, listed, message, output, sink)?,
+        Form::Html => show_section(alloc, showing, listed, message, output, sink)?,
     }
-    text.push('\n')?;
-    sink.write_all(text.as_bytes())
+    output.push('\n')?;
+    sink.write_all(output.as_bytes())
 }
 
 // Shows one message as lines, without the end of the last line.
@@ -68,16 +68,16 @@ fn show_lines<S: ReaderSegments, W: Write>(
     showing: Showing<'_>,
     listed: &Listed,
     message: &Reader<S>,
-    text: &mut String,
+    output: &mut String,
     sink: &mut W,
 ) -> Result<()> {
-    listing::push_name(text, showing.front())?;
-    listing::push_listed(text, listed)?;
+    listing::push_name(output, showing.front())?;
+    listing::push_listed(output, listed)?;
     if showing.settings.has_hash {
-        listing::push_hash(text, &hash_of(alloc, message)?)?;
+        listing::push_hash(output, &hash_of(alloc, message)?)?;
     }
     if showing.settings.has_tree {
-        show_tree(alloc, showing.settings, message.get_segments(), text, sink)?;
+        show_tree(alloc, showing.settings, message.get_segments(), output, sink)?;
     }
     Ok(())
 }
@@ -88,20 +88,20 @@ fn show_json<S: ReaderSegments, W: Write>(
     showing: Showing<'_>,
     listed: &Listed,
     message: &Reader<S>,
-    text: &mut String,
+    output: &mut String,
     sink: &mut W,
 ) -> Result<()> {
-    json::push_file(text, showing.name)?;
-    json::push_listed(text, listed)?;
+    json::push_file(output, showing.name)?;
+    json::push_listed(output, listed)?;
     if showing.settings.has_hash {
-        json::push_hash(text, &hash_of(alloc, message)?)?;
+        json::push_hash(output, &hash_of(alloc, message)?)?;
     }
     if showing.settings.has_tree {
-        text.push_str(",\"tree\":[")?;
-        show_tree(alloc, showing.settings, message.get_segments(), text, sink)?;
-        text.push(']')?;
+        output.push_str(",\"tree\":[")?;
+        show_tree(alloc, showing.settings, message.get_segments(), output, sink)?;
+        output.push(']')?;
     }
-    text.push('}')?;
+    output.push('}')?;
     Ok(())
 }
 
@@ -111,26 +111,26 @@ fn show_section<S: ReaderSegments, W: Write>(
     showing: Showing<'_>,
     listed: &Listed,
     message: &Reader<S>,
-    text: &mut String,
+    output: &mut String,
     sink: &mut W,
 ) -> Result<()> {
     let anchor = Anchor {
         input: showing.input,
         message: listed.index,
     };
-    html::push_section(text, anchor)?;
-    listing::push_listed(text, listed)?;
+    html::push_section(output, anchor)?;
+    listing::push_listed(output, listed)?;
     if showing.settings.has_hash {
-        listing::push_hash(text, &hash_of(alloc, message)?)?;
+        listing::push_hash(output, &hash_of(alloc, message)?)?;
     }
-    text.push_str("</h2>\n")?;
+    output.push_str("</h2>\n")?;
     if is_drawn(listed.words) {
         let segments = message.get_segments();
-        show_drawing(alloc, showing.settings.limits, anchor, segments, text, sink)?;
+        show_drawing(alloc, showing.settings.limits, anchor, segments, output, sink)?;
     } else {
-        html::push_large(text)?;
+        html::push_large(output)?;
     }
-    text.push_str("</section>")?;
+    output.push_str("</section>")?;
     Ok(())
 }
 
@@ -139,7 +139,7 @@ fn show_tree<S: ReaderSegments, W: Write>(
     alloc: Global,
     settings: Settings,
     segments: &S,
-    text: &mut String,
+    output: &mut String,
     sink: &mut W,
 ) -> Result<()> {
     let mut walk = Walk::new(alloc, settings.limits)?;
@@ -147,7 +147,7 @@ fn show_tree<S: ReaderSegments, W: Write>(
         let Some(node) = walk.next(segments)? else {
             break;
         };
-        show_node(settings, count, segments, &node, text, sink)?;
+        show_node(settings, count, segments, &node, output, sink)?;
     }
     Ok(())
 }
@@ -158,35 +158,35 @@ fn show_node<S: ReaderSegments, W: Write>(
     number: u64,
     segments: &S,
     node: &Node,
-    text: &mut String,
+    output: &mut String,
     sink: &mut W,
 ) -> Result<()> {
     if matches!(settings.form, Form::Json) {
         if number > 0 {
-            text.push(',')?;
+            output.push(',')?;
         }
-        json::push_node(text, segments, node)?;
+        json::push_node(output, segments, node)?;
     } else {
-        text.push('\n')?;
-        listing::push_node(text, segments, node)?;
+        output.push('\n')?;
+        listing::push_node(output, segments, node)?;
     }
-    write_full(text, sink)
+    write_full(output, sink)
 }
 
-/// Writes a text that has grown to `TEXT_BYTES`, and clears it; a shorter one is left as it is.
-pub fn write_full<W: Write>(text: &mut String, sink: &mut W) -> Result<()>
-    ensures short { OnOk result (string_len text.new < TEXT_BYTES) }
-    ensures writes { OnOk result (WritesFull TEXT_BYTES W.appends (string_bytes text.old)
-        (string_bytes text.new) (W.written sink.old) (W.written sink.new)) }
-    ensures fits { string_len text.old < TEXT_BYTES → IsOk result }
+/// Writes output that has grown to `OUTPUT_BYTES`, and clears it; shorter output is left as it is.
+pub fn write_full<W: Write>(output: &mut String, sink: &mut W) -> Result<()>
+    ensures short { OnOk result (string_len output.new < OUTPUT_BYTES) }
+    ensures writes { OnOk result (WritesFull OUTPUT_BYTES W.appends (string_bytes output.old)
+        (string_bytes output.new) (W.written sink.old) (W.written sink.new)) }
+    ensures fits { string_len output.old < OUTPUT_BYTES → IsOk result }
     ensures errors { IfErr result (λ error. (error.kind ≡ ErrorKind.DeviceFailed)
-        ⊎ W.refuses (string_bytes text.old) error.kind) }
+        ⊎ W.refuses (string_bytes output.old) error.kind) }
     ensures failed { IfErr result (λ error. error.kind ≡ ErrorKind.DeviceFailed →
         Fails (W.failures sink.old) (W.failures sink.new)) }
 {
-    if text.len() >= TEXT_BYTES {
-        sink.write_all(text.as_bytes())?;
-        text.clear();
+    if output.len() >= OUTPUT_BYTES {
+        sink.write_all(output.as_bytes())?;
+        output.clear();
     }
     Ok(())
 }
@@ -195,12 +195,12 @@ pub fn write_full<W: Write>(text: &mut String, sink: &mut W) -> Result<()>
 pub fn show_count<W: Write>(
     showing: Showing<'_>,
     count: u64,
-    text: &mut String,
+    output: &mut String,
     sink: &mut W,
 ) -> Result<()> {
-    text.clear();
-    listing::push_name(text, showing.front())?;
-    listing::push_count(text, count)?;
-    text.push('\n')?;
-    sink.write_all(text.as_bytes())
+    output.clear();
+    listing::push_name(output, showing.front())?;
+    listing::push_count(output, count)?;
+    output.push('\n')?;
+    sink.write_all(output.as_bytes())
 }

@@ -20,7 +20,7 @@ use std::process::Abort;
 const EMPTY: &[&[u8]] = &[&[]];
 
 // The three messages' encodings after one another.
-fn text_of(format: Format) -> &'static [u8] {
+fn encoding_of(format: Format) -> &'static [u8] {
     match format {
         Format::Framed => THREE,
         Format::Packed => PACKED_THREE,
@@ -71,9 +71,9 @@ pub fn read_back(
 ) -> Result<Vec<Reader<OwnedSegments>>> {
     let messages = [SegmentArray::new(first), SegmentArray::new(second)];
     assert!(rt; is_writable(&messages[0]) && is_writable(&messages[1]));
-    let mut text: Vec<u8> = Vec::new(rt.alloc());
-    write_messages(rt.alloc(), &mut text, format, &messages)?;
-    let mut source = text.as_slice();
+    let mut encoding: Vec<u8> = Vec::new(rt.alloc());
+    write_messages(rt.alloc(), &mut encoding, format, &messages)?;
+    let mut source = encoding.as_slice();
     let readers = read(rt, format, &mut source, 2, NO_LIMIT)?;
     assert!(rt; source.is_empty());
     Ok(readers)
@@ -90,7 +90,7 @@ pub fn are_read(readers: &[Reader<OwnedSegments>], messages: &[&[&[u8]]]) -> boo
 }
 
 #[test]
-fn texts_after_one_another(rt: HostRuntime) -> Result<()> {
+fn encodings_after_one_another(rt: HostRuntime) -> Result<()> {
     for format in &FORMATS {
         retried!(write_and_read(&rt, *format))?;
         retried!(write_none(&rt, *format))?;
@@ -101,10 +101,10 @@ fn texts_after_one_another(rt: HostRuntime) -> Result<()> {
 // Two messages are read, and then one.
 fn write_and_read(rt: &(impl Abort + AllocGlobal), format: Format) -> Result<()> {
     let at = name_of(format);
-    let mut text: Vec<u8> = Vec::new(rt.alloc());
-    write_three(rt, format, &mut text)?;
-    assert_bytes(rt, text.as_slice(), text_of(format), at);
-    let mut source = text_of(format);
+    let mut encoding: Vec<u8> = Vec::new(rt.alloc());
+    write_three(rt, format, &mut encoding)?;
+    assert_bytes(rt, encoding.as_slice(), encoding_of(format), at);
+    let mut source = encoding_of(format);
     let two = read(rt, format, &mut source, 2, DEFAULT_LIMIT)?;
     assert_holds(rt, are_read(&two, &[ONE_AND_TWO, TWO]), at);
     let one = read(rt, format, &mut source, 1, DEFAULT_LIMIT)?;
@@ -118,10 +118,10 @@ fn write_none(rt: &(impl Abort + AllocGlobal), format: Format) -> Result<()> {
     let none: [SegmentArray<'_>; 0] = [];
     let mut sink: Vec<u8> = Vec::new(rt.alloc());
     write_messages(rt.alloc(), &mut sink, format, &none)?;
-    let mut source = text_of(format);
+    let mut source = encoding_of(format);
     let read = read(rt, format, &mut source, 0, DEFAULT_LIMIT)?;
     assert_holds(rt, sink.is_empty() && read.is_empty(), at);
-    assert_bytes(rt, source, text_of(format), at);
+    assert_bytes(rt, source, encoding_of(format), at);
     Ok(())
 }
 
@@ -158,7 +158,7 @@ fn read_too_many(
         Format::Framed => framed,
         Format::Packed => packed,
     };
-    let mut source = text_of(format);
+    let mut source = encoding_of(format);
     let returned = kind_of(read(rt, format, &mut source, count, limit))?;
     assert_kind(rt, returned, Some(kind), at);
     assert_count(rt, source.len(), unread, at);
@@ -190,15 +190,15 @@ fn write_to(rt: &(impl Abort + AllocGlobal), format: Format, fails_at: u64) -> R
     let at = At::new(name_of(format).case, fails_at);
     let mut sink = FailingSink::new(Vec::new(rt.alloc()), fails_at);
     let returned = kind_of(write_three(rt, format, &mut sink))?;
-    let text = text_of(format);
+    let encoding = encoding_of(format);
     let written = sink.written.as_slice();
     if returned.is_none() {
-        assert_bytes(rt, written, text, at);
+        assert_bytes(rt, written, encoding, at);
         return Ok(true);
     }
     assert_kind(rt, returned, Some(ErrorKind::DeviceFailed), at);
-    assert_holds(rt, text.starts_with(written), at);
-    assert_holds(rt, (written.len() == text.len()) == (fails_at == 10), at);
+    assert_holds(rt, encoding.starts_with(written), at);
+    assert_holds(rt, (written.len() == encoding.len()) == (fails_at == 10), at);
     assert_calls(rt, sink.calls, fails_at, at);
     Ok(false)
 }

@@ -88,7 +88,7 @@ pub fn size_of(rt: &impl Abort, message: &Builder<HeapAllocator>) -> Result<usiz
 }
 
 #[test]
-fn texts_of_built_messages(rt: HostRuntime) -> Result<()> {
+fn encodings_of_built_messages(rt: HostRuntime) -> Result<()> {
     for case in &BUILT {
         retried!(write_framed(&rt, case))?;
         retried!(write_packed(&rt, case))?;

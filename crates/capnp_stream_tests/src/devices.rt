@@ -10,7 +10,7 @@ use std::io;
 /// counted from 1, fails.
 #[derive(Drop)]
 pub struct ChoppyReader<'a> {
-    text: &'a [u8],
+    bytes: &'a [u8],
     most: usize,
     interruptions: u64,
     bad_read: u64,
@@ -18,9 +18,9 @@ pub struct ChoppyReader<'a> {
     longest: usize,
 }
 
-pub fn giving(text: &[u8], most: usize, interruptions: u64, bad_read: u64) -> ChoppyReader<'_> {
+pub fn giving(bytes: &[u8], most: usize, interruptions: u64, bad_read: u64) -> ChoppyReader<'_> {
     ChoppyReader {
-        text,
+        bytes,
         most,
         interruptions,
         bad_read,
@@ -39,9 +39,9 @@ impl io::Read for ChoppyReader<'_> {
         if self.reads == self.bad_read {
             return Err(io::Error::from(io::ErrorKind::BrokenPipe));
         }
-        let count = self.text.len().min(buf.len()).min(self.most);
-        buf[..count].copy_from_slice(&self.text[..count]);
-        self.text = &self.text[count..];
+        let count = self.bytes.len().min(buf.len()).min(self.most);
+        buf[..count].copy_from_slice(&self.bytes[..count]);
+        self.bytes = &self.bytes[count..];
         Ok(count)
     }
 }

@@ -24,7 +24,7 @@ struct Ended {
 struct Case {
     name: &'static str,
     way: Way,
-    text: &'static [u8],
+    encoding: &'static [u8],
     strict: Ended,
     lenient: Ended,
 }
@@ -70,21 +70,21 @@ const CASES: [Case; 3] = [
     Case {
         name: "packed up to a cut word",
         way: Way::Pack,
-        text: CUT_AFTER_TWO,
+        encoding: CUT_AFTER_TWO,
         strict: AFTER_TWO,
         lenient: AFTER_TWO,
     },
     Case {
         name: "another padding after a message, packed",
         way: Way::Pack,
-        text: PADDED,
+        encoding: PADDED,
         strict: Ended { failure: Some((1, ErrorKind::NonZeroPadding)), unread: 8, written: &[0, 0] },
         lenient: Ended { failure: None, unread: 0, written: PACKED },
     },
     Case {
         name: "another padding after a message, unpacked",
         way: Way::Unpack,
-        text: PACKED_PADDED,
+        encoding: PACKED_PADDED,
         strict: Ended { failure: Some((1, ErrorKind::NonZeroPadding)), unread: 10, written: &[0; 8] },
         lenient: Ended { failure: None, unread: 0, written: FRAMED },
     },
@@ -121,7 +121,7 @@ fn write_each(
     padding: Padding,
     ended: &Ended,
 ) -> Result<()> {
-    let mut source = case.text;
+    let mut source = case.encoding;
     let mut sink: Vec<u8> = Vec::new(rt.alloc());
     let failure = failure_of(write_each_message(
         rt.alloc(),
@@ -144,7 +144,7 @@ fn transcode_case(
     padding: Padding,
     ended: &Ended,
 ) -> Result<()> {
-    let mut source = case.text;
+    let mut source = case.encoding;
     let mut sink: Vec<u8> = Vec::new(rt.alloc());
     let returned = if padding == Padding::Any {
         transcoded_leniently(rt, case.way, &mut source, &mut sink)?

@@ -24,7 +24,7 @@ pub const FORMATS: [Format; 2] = [Format::Framed, Format::Packed];
 // How many bytes a call shows or returns at most.
 const CUTS: [usize; 5] = [1, 2, 3, 7, 16];
 
-fn text_of(sample: &Sample, format: Format) -> &'static [u8] {
+fn encoding_of(sample: &Sample, format: Format) -> &'static [u8] {
     match format {
         Format::Framed => sample.framed,
         Format::Packed => sample.packed,
@@ -78,10 +78,10 @@ fn fail_at(
     fails_at: u64,
 ) -> Result<bool> {
     let at = At::new(sample.name, fails_at);
-    let text = text_of(sample, call.0);
-    let mut source = Failing::new(Trickle::new(text, most), fails_at);
+    let encoding = encoding_of(sample, call.0);
+    let mut source = Failing::new(Trickle::new(encoding, most), fails_at);
     let failed = is_returned(rt.alloc(), call, &mut source, DEFAULT_LIMIT, FAILED)?;
-    assert_call(rt, text.ends_with(source.source.bytes), call, at);
+    assert_call(rt, encoding.ends_with(source.source.bytes), call, at);
     assert_calls(rt, source.failures, u64::from(failed), at);
     assert_call(rt, !failed || source.calls == fails_at, call, at);
     Ok(!failed)
@@ -94,7 +94,7 @@ fn read_whole(
     most: usize,
     fails_at: u64,
 ) -> Result<()> {
-    let mut source = Failing::new(Trickle::new(text_of(sample, call.0), most), fails_at);
+    let mut source = Failing::new(Trickle::new(encoding_of(sample, call.0), most), fails_at);
     let wanted = Wanted::Segments(sample.segments);
     let returned = is_returned(rt.alloc(), call, &mut source, DEFAULT_LIMIT, wanted)?;
     let is_whole = returned && source.source.bytes.is_empty();
@@ -146,7 +146,7 @@ fn read_again(rt: &(impl Abort + AllocGlobal), call: Call) -> Result<()> {
         fail_first(
             rt,
             call,
-            text_of(sample, call.0),
+            encoding_of(sample, call.0),
             wanted,
             At::case(sample.name),
         )?;
@@ -157,11 +157,11 @@ fn read_again(rt: &(impl Abort + AllocGlobal), call: Call) -> Result<()> {
 fn fail_first(
     rt: &(impl Abort + AllocGlobal),
     call: Call,
-    text: &[u8],
+    encoding: &[u8],
     wanted: Wanted<'_>,
     at: At<'_>,
 ) -> Result<()> {
-    let mut source = Failing::new(Trickle::new(text, 8), 1);
+    let mut source = Failing::new(Trickle::new(encoding, 8), 1);
     let failed = is_returned(rt.alloc(), call, &mut source, DEFAULT_LIMIT, FAILED)?;
     assert_call(rt, failed, call, at);
     let returned = is_returned(rt.alloc(), call, &mut source, DEFAULT_LIMIT, wanted)?;

@@ -40,15 +40,15 @@ const CALLS: [Call; 8] = [
 // The message of a sample, by a call.
 fn read(call: Call, sample: &Sample, spare: OwnedSegments) -> Result<OwnedSegments> {
     match call.0 {
-        Format::Framed => read_text(call, sample.framed, spare),
-        Format::Packed => read_text(call, sample.packed, spare),
+        Format::Framed => read_encoding(call, sample.framed, spare),
+        Format::Packed => read_encoding(call, sample.packed, spare),
     }
 }
 
-fn read_text(call: Call, text: &[u8], spare: OwnedSegments) -> Result<OwnedSegments> {
+fn read_encoding(call: Call, encoding: &[u8], spare: OwnedSegments) -> Result<OwnedSegments> {
     let found = match call.2 {
-        Returned::Segments => next_segments(call, text, spare)?,
-        Returned::Message => next_message(call, text, spare)?.map(Reader::into_segments),
+        Returned::Segments => next_segments(call, encoding, spare)?,
+        Returned::Message => next_message(call, encoding, spare)?.map(Reader::into_segments),
     };
     match found {
         Some(found) => Ok(found),
@@ -58,11 +58,11 @@ fn read_text(call: Call, text: &[u8], spare: OwnedSegments) -> Result<OwnedSegme
 
 fn next_segments(
     (format, padding, _): Call,
-    text: &[u8],
+    encoding: &[u8],
     spare: OwnedSegments,
 ) -> Result<Option<OwnedSegments>> {
     let rules = TableRules::new(padding, DEFAULT_READER_OPTIONS);
-    let mut source = text;
+    let mut source = encoding;
     match format {
         Format::Framed => try_read_segments_reusing(&mut source, rules, spare),
         Format::Packed => try_read_packed_segments(&mut source, rules, spare),
@@ -71,11 +71,11 @@ fn next_segments(
 
 fn next_message(
     (format, padding, _): Call,
-    text: &[u8],
+    encoding: &[u8],
     spare: OwnedSegments,
 ) -> Result<Option<Reader<OwnedSegments>>> {
     let options = DEFAULT_READER_OPTIONS;
-    let mut source = text;
+    let mut source = encoding;
     match format {
         Format::Framed => {
             serialize::try_read_message_reusing(&mut source, padding, options, spare)
@@ -125,21 +125,21 @@ fn parts_in(length: Length) -> u32 {
 // A message of one segment, of which the last word alone isn't zero: packed, the words before it are
 // runs of 256, and one of 255.
 fn long_message(alloc: Global, format: Format, length: Length) -> Result<Vec<u8>> {
-    let mut text = Vec::new(alloc);
+    let mut encoding = Vec::new(alloc);
     let parts = parts_in(length);
-    append_word(&mut text, format, (256 * parts as u64) << 32)?;
+    append_word(&mut encoding, format, (256 * parts as u64) << 32)?;
     for _ in 1..parts {
         match format {
-            Format::Framed => text.extend_from_slice(&[0; 2048])?,
-            Format::Packed => text.extend_from_slice(&[0, 255])?,
+            Format::Framed => encoding.extend_from_slice(&[0; 2048])?,
+            Format::Packed => encoding.extend_from_slice(&[0, 255])?,
         }
     }
     match format {
-        Format::Framed => text.extend_from_slice(&[0; 2040])?,
-        Format::Packed => text.extend_from_slice(&[0, 254])?,
+        Format::Framed => encoding.extend_from_slice(&[0; 2040])?,
+        Format::Packed => encoding.extend_from_slice(&[0, 254])?,
     }
-    append_word(&mut text, format, LAST)?;
-    Ok(text)
+    append_word(&mut encoding, format, LAST)?;
+    Ok(encoding)
 }
 
 const LAST: u64 = 7;
@@ -161,27 +161,27 @@ fn long_messages_take_no_more_memory(rt: HostRuntime) -> Result<()> {
 
 // After it smaller ones, and the same again.
 fn read_long(rt: &(impl Abort + AllocGlobal), call: Call, length: Length) -> Result<()> {
-    let text = retried!(long_message(rt.alloc(), call.0, length))?;
-    let mut kept = retried!(read_text(call, &text, OwnedSegments::empty(rt.alloc())))?;
+    let encoding = retried!(long_message(rt.alloc(), call.0, length))?;
+    let mut kept = retried!(read_encoding(call, &encoding, OwnedSegments::empty(rt.alloc())))?;
     assert!(rt; is_long(&kept, length));
     for sample in &SAMPLES {
         kept = read(call, sample, kept)?;
         assert!(rt; has_segments(&kept, sample.segments));
     }
-    kept = read_text(call, &text, kept)?;
+    kept = read_encoding(call, &encoding, kept)?;
     assert!(rt; is_long(&kept, length));
     Ok(())
 }
 
 // A message of three segments, of 32, 32 and no words.
 fn large_message(alloc: Global, format: Format) -> Result<Vec<u8>> {
-    let mut text = Vec::new(alloc);
-    append_word(&mut text, format, 32 << 32 | 2)?;
-    append_word(&mut text, format, 32)?;
+    let mut encoding = Vec::new(alloc);
+    append_word(&mut encoding, format, 32 << 32 | 2)?;
+    append_word(&mut encoding, format, 32)?;
     for _ in 0..64 {
-        append_word(&mut text, format, 7)?;
+        append_word(&mut encoding, format, 7)?;
     }
-    Ok(text)
+    Ok(encoding)
 }
 
 // After it smaller ones, and the same again, many times.
@@ -195,13 +195,13 @@ fn smaller_messages_take_no_more_memory(rt: HostRuntime) -> Result<()> {
 }
 
 fn read_smaller(rt: &(impl Abort + AllocGlobal), call: Call, large: &[u8]) -> Result<()> {
-    let mut kept = retried!(read_text(call, large, OwnedSegments::empty(rt.alloc())))?;
+    let mut kept = retried!(read_encoding(call, large, OwnedSegments::empty(rt.alloc())))?;
     for _ in 0..2105 {
         for sample in &SAMPLES {
             kept = read(call, sample, kept)?;
             assert!(rt; has_segments(&kept, sample.segments));
         }
-        kept = read_text(call, large, kept)?;
+        kept = read_encoding(call, large, kept)?;
         assert!(rt; kept.as_bytes().len() == 512 && kept.len() == 3);
     }
     Ok(())

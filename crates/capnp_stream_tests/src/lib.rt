@@ -15,7 +15,7 @@ mod calls;
 #[cfg(test)]
 mod calls_reported;
 #[cfg(test)]
-mod canonical_texts;
+mod canonical_encodings;
 #[cfg(test)]
 mod devices;
 #[cfg(test)]

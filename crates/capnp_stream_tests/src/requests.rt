@@ -31,8 +31,8 @@ fn each_chunk_is_asked_for_once(rt: HostRuntime) -> Result<()> {
 
 fn count_chunks(rt: &(impl Abort + AllocGlobal)) -> Result<()> {
     for reader in &READERS {
-        for &(name, text, wanted, chunks) in &CHUNKS {
-            let mut source = Counting::new(text);
+        for &(name, encoding, wanted, chunks) in &CHUNKS {
+            let mut source = Counting::new(encoding);
             let call = (Padding::Any, *reader);
             let returned = is_read(rt.alloc(), call, &mut source, NO_LIMIT, wanted)?;
             let at = At::case(name);

@@ -25,24 +25,24 @@ pub fn transcoded<R: BufRead, W: Write>(
 }
 
 // The encodings of three messages after one another, in a format.
-fn texts_of(alloc: Global, packed: bool) -> Result<Vec<u8>> {
-    let mut texts = text_of(&FLATTEN, packed).to_vec(alloc)?;
-    texts.extend_from_slice(text_of(&HELLO, packed))?;
-    texts.extend_from_slice(text_of(&FAR, packed))?;
-    Ok(texts)
+fn encodings_of(alloc: Global, packed: bool) -> Result<Vec<u8>> {
+    let mut encodings = encoding_of(&FLATTEN, packed).to_vec(alloc)?;
+    encodings.extend_from_slice(encoding_of(&HELLO, packed))?;
+    encodings.extend_from_slice(encoding_of(&FAR, packed))?;
+    Ok(encodings)
 }
 
-fn text_of(sample: &Sample, packed: bool) -> &'static [u8] {
+fn encoding_of(sample: &Sample, packed: bool) -> &'static [u8] {
     if packed { sample.packed } else { sample.framed }
 }
 
 // How many bytes the first of the three encodings take.
 fn length_of(packed: bool, messages: usize) -> usize {
-    let first = text_of(&FLATTEN, packed).len();
+    let first = encoding_of(&FLATTEN, packed).len();
     match messages {
         0 => 0,
         1 => first,
-        _ => first.saturating_add(text_of(&HELLO, packed).len()),
+        _ => first.saturating_add(encoding_of(&HELLO, packed).len()),
     }
 }
 
@@ -92,7 +92,7 @@ fn a_sink_that_fails(rt: HostRuntime) -> Result<()> {
 // last is not written completely.
 fn write_to(rt: &(impl Abort + AllocGlobal), way: Way, at: At<'_>) -> Result<Option<usize>> {
     let packs = way == Way::Pack;
-    let input = texts_of(rt.alloc(), !packs)?;
+    let input = encodings_of(rt.alloc(), !packs)?;
     let mut source = Trickle::new(&input, 5);
     let mut sink = FailingSink::new(FRONT.to_vec(rt.alloc())?, at.number);
     let returned = transcoded(rt, way, &mut source, &mut sink)?;
@@ -116,7 +116,7 @@ fn write_to(rt: &(impl Abort + AllocGlobal), way: Way, at: At<'_>) -> Result<Opt
 }
 
 fn length_of_all(packed: bool) -> usize {
-    length_of(packed, 2).saturating_add(text_of(&FAR, packed).len())
+    length_of(packed, 2).saturating_add(encoding_of(&FAR, packed).len())
 }
 
 // These are the first bytes of the three encodings.
@@ -126,7 +126,7 @@ fn assert_is_front(
     packed: bool,
     at: At<'_>,
 ) -> Result<()> {
-    let whole = texts_of(rt.alloc(), packed)?;
+    let whole = encodings_of(rt.alloc(), packed)?;
     assert_bytes(
         rt,
         written,
@@ -157,7 +157,7 @@ fn a_source_that_fails(rt: HostRuntime) -> Result<()> {
 // Whether the run meets no failure.
 fn read_from(rt: &(impl Abort + AllocGlobal), way: Way, most: usize, at: At<'_>) -> Result<bool> {
     let packs = way == Way::Pack;
-    let input = texts_of(rt.alloc(), !packs)?;
+    let input = encodings_of(rt.alloc(), !packs)?;
     let mut source = Failing::new(Trickle::new(&input, most), at.number);
     let mut written: Vec<u8> = Vec::new(rt.alloc());
     let returned = transcoded(rt, way, &mut source, &mut written)?;

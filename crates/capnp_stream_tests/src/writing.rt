@@ -21,11 +21,11 @@ fn write_message<S: ReaderSegments>(
     segments: &S,
 ) -> Result<()> {
     let name = message.name;
-    let mut text: Vec<u8> = Vec::new(rt.alloc());
-    write(rt, writer, &mut text, segments)?;
+    let mut encoding: Vec<u8> = Vec::new(rt.alloc());
+    write(rt, writer, &mut encoding, segments)?;
     let is_written = match writer.format() {
-        Format::Framed => is_framed(&text, message.table, message.segments),
-        Format::Packed => text.as_slice() == message.packed,
+        Format::Framed => is_framed(&encoding, message.table, message.segments),
+        Format::Packed => encoding.as_slice() == message.packed,
     };
     assert!(rt; is_written, "{name}, {writer:?}");
     assert_holds(rt, has_segments(segments, message.segments), At::case(name));
@@ -52,7 +52,7 @@ enum Form {
     Slices,
     Vectors,
     Owned,
-    Held,
+    Buffer,
 }
 
 const FORMS: [Form; 6] = [
@@ -61,7 +61,7 @@ const FORMS: [Form; 6] = [
     Form::Slices,
     Form::Vectors,
     Form::Owned,
-    Form::Held,
+    Form::Buffer,
 ];
 
 fn slices_of(alloc: Global, segments: &'static [&'static [u8]]) -> Result<Vec<&'static [u8]>> {
@@ -94,9 +94,9 @@ fn state_of(
     rt: &(impl Abort + AllocGlobal),
     segments: &[&[u8]],
 ) -> Result<BufferSegments<Vec<u8>>> {
-    let mut text: Vec<u8> = Vec::new(rt.alloc());
-    write(rt, Writer::Framed, &mut text, &SegmentArray::new(segments))?;
-    BufferSegments::new(rt.alloc(), text, DEFAULT_READER_OPTIONS)
+    let mut encoding: Vec<u8> = Vec::new(rt.alloc());
+    write(rt, Writer::Framed, &mut encoding, &SegmentArray::new(segments))?;
+    BufferSegments::new(rt.alloc(), encoding, DEFAULT_READER_OPTIONS)
 }
 
 fn write_form(
@@ -112,7 +112,7 @@ fn write_form(
         Form::Slices => write_message(rt, writer, message, &slices_of(rt.alloc(), segments)?),
         Form::Vectors => write_message(rt, writer, message, &vectors_of(rt.alloc(), segments)?),
         Form::Owned => write_message(rt, writer, message, &owned_of(rt.alloc(), message.packed)?),
-        Form::Held => write_message(rt, writer, message, &state_of(rt, segments)?),
+        Form::Buffer => write_message(rt, writer, message, &state_of(rt, segments)?),
     }
 }
 

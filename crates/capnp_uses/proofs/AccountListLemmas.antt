@@ -11,7 +11,7 @@ use Rattle.capnp_wire.specs.Prelude.{structs, Trees, none, tree, total_words, Is
 use Rattle.capnp_values.specs.DataSections.{with_bits, with_field}
 use Rattle.capnp_orphans.specs.declared.draft.StructDraft.{StructDraft}
 use Rattle.capnp_orphans.specs.Segments.{Segment, body_of, Appends}
-use Rattle.capnp_orphans.specs.Held.{HoldsValue, HoldsStructs, AreValues, TakesStructs, ManyStructs, words_of_each, adopted_by}
+use Rattle.capnp_orphans.specs.Holds.{HoldsValue, HoldsStructs, AreValues, TakesStructs, ManyStructs, words_of_each, adopted_by}
 use Rattle.capnp_orphans.specs.Adding.{Keeps, Adds, RoomError}
 use Rattle.capnp_orphans.specs.OrphanLaws.{keeps_on, one_value_more, their_trees, structs_value}
 use Rattle.capnp_uses.specs.declared.account.Owned.{Owned}

@@ -8,39 +8,39 @@ use Rattle.capnp_frame.specs.declared.error.ErrorKind.TheVariants.{DeviceFailed,
 use Rattle.capnp_frame.specs.declared.io.Read.{Ghosts}
 use Rattle.capnp_frame.specs.Prelude.{Adds, ByKind, KeepsLimit, lengths, Giving, Refusing, Fails, next_in, ReadsStream, Grammar, AreEncodings, IsWritable, IsWithinSegmentLimit}
 use Rattle.capnp_frame.proofs.sources.SourceLemmas.{IfKnown-weaker}
-use Rattle.capnp_frame.proofs.encodings.TextLemmas.{PartsStreams}
+use Rattle.capnp_frame.proofs.encodings.EncodingLemmas.{PartsStreams}
 use Rattle.capnp.specs.declared.streams.Format.{Format}
-use Rattle.capnp.specs.Prelude.{grammar_of, rules_of, IsTextOf, ErrorsAs, AppendsEach, SegmentCountErrorIn, OneOfError}
+use Rattle.capnp.specs.Prelude.{grammar_of, rules_of, IsEncodingOf, ErrorsAs, AppendsEach, SegmentCountErrorIn, OneOfError}
 use Rattle.capnp.proofs.ChunkLemmas.{format_memory}
 use Rattle.capnp.proofs.RunLemmas.{format_lawful, format_requested, format_parts}
 use Rattle.capnp.proofs.ReaderLemmas.{nothing_found}
-use Rattle.capnp.proofs.AppendedLemmas.{appended_texts}
+use Rattle.capnp.proofs.AppendedLemmas.{appended_encodings}
 
 -- encodings of as many messages are those of the same messages
-texts_same : {IsText : Grammar} {rule : Padding} {gives : Giving} {refuses : Refusing} {limit : Option ℕ}
-    → PartsStreams IsText rule gives refuses limit
-    → (ns ms : List (List (List ℕ))) (raw left rest : List ℕ) → AreEncodings IsText limit ns raw left
-    → AreEncodings IsText limit ms raw rest → length ns ≡ length ms → (ns ≡ ms) × (left ≡ rest)
-texts_same parts [] [] raw left rest had texts many = (refl, had ∙ sym texts)
-texts_same parts [] (m ∷ ms) raw left rest had texts many = absurd (omega arith)
-texts_same parts (n ∷ ns) [] raw left rest had texts many = absurd (omega arith)
-texts_same {IsText} {limit = limit} parts (n ∷ ns) (m ∷ ms) raw left rest had texts many =
-    let same = parts.begins_once n m raw had.0 texts.0 had.1 texts.1 in
-    let inner = texts_same parts ns ms texts.0 left rest (subst (λ l. AreEncodings IsText limit ns l left) same.1 had.2) texts.2 (omega arith) in
+encodings_same : {IsEncoding : Grammar} {rule : Padding} {gives : Giving} {refuses : Refusing} {limit : Option ℕ}
+    → PartsStreams IsEncoding rule gives refuses limit
+    → (ns ms : List (List (List ℕ))) (raw left rest : List ℕ) → AreEncodings IsEncoding limit ns raw left
+    → AreEncodings IsEncoding limit ms raw rest → length ns ≡ length ms → (ns ≡ ms) × (left ≡ rest)
+encodings_same parts [] [] raw left rest had encodings many = (refl, had ∙ sym encodings)
+encodings_same parts [] (m ∷ ms) raw left rest had encodings many = absurd (omega arith)
+encodings_same parts (n ∷ ns) [] raw left rest had encodings many = absurd (omega arith)
+encodings_same {IsEncoding} {limit = limit} parts (n ∷ ns) (m ∷ ms) raw left rest had encodings many =
+    let same = parts.begins_once n m raw had.0 encodings.0 had.1 encodings.1 in
+    let inner = encodings_same parts ns ms encodings.0 left rest (subst (λ l. AreEncodings IsEncoding limit ns l left) same.1 had.2) encodings.2 (omega arith) in
     (ap (λ x. x ∷ ns) same.0 ∙ ap (λ l. m ∷ l) inner.0, inner.1)
 
 -- what was appended to nothing is what was written
 pub appended_alone : (P : List ℕ → Type 0) (start new : List ℕ) → start ≡ [] → Adds P start new → P new
-appended_alone P start new none (text, holds, e) = subst P (sym (e ∙ ap (λ l. l ++ text) none)) holds
+appended_alone P start new none (encoding, holds, e) = subst P (sym (e ∙ ap (λ l. l ++ encoding) none)) holds
 
 -- what was appended to nothing is encodings
-pub read_texts : (rule : Padding) (format : Format) (limit : Option ℕ) (ms : List (List (List ℕ))) (start new shown : List ℕ)
+pub read_encodings : (rule : Padding) (format : Format) (limit : Option ℕ) (ms : List (List (List ℕ))) (start new shown : List ℕ)
     → start ≡ [] → shown ≡ new → AllByRecursion IsWritable ms → AllByRecursion IsWithinSegmentLimit ms
-    → AllByRecursion (λ m. KeepsLimit (lengths m) limit) ms → Adds (AppendsEach (IsTextOf format) ms) start new
+    → AllByRecursion (λ m. KeepsLimit (lengths m) limit) ms → Adds (AppendsEach (IsEncodingOf format) ms) start new
     → AreEncodings (grammar_of rule format) limit ms shown []
-read_texts rule format limit ms start new shown none same writable few size (text, all, e) =
-    subst (λ l. AreEncodings (grammar_of rule format) limit ms l []) (ap (λ l. l ++ text) (sym none) ∙ sym e ∙ sym same)
-    (appended_texts rule format limit ms text writable few size all)
+read_encodings rule format limit ms start new shown none same writable few size (encoding, all, e) =
+    subst (λ l. AreEncodings (grammar_of rule format) limit ms l []) (ap (λ l. l ++ encoding) (sym none) ∙ sym e ∙ sym same)
+    (appended_encodings rule format limit ms encoding writable few size all)
 
 -- and just these are read of it
 pub read_same : {X S : Type 0} (rule : Padding) (format : Format) (limit : Option ℕ) (segments : X → List (List ℕ))
@@ -48,8 +48,8 @@ pub read_same : {X S : Type 0} (rule : Padding) (format : Format) (limit : Optio
     → AreEncodings (grammar_of rule format) limit (map segments xs) raw left
     → AreEncodings (grammar_of rule format) limit (map of ms) raw [] → length xs ≡ length ms
     → (map segments xs ≡ map of ms) × (left ≡ [])
-read_same rule format limit segments of xs ms raw left had texts many =
-    texts_same (format_parts rule format limit) (map segments xs) (map of ms) raw left [] had texts
+read_same rule format limit segments of xs ms raw left had encodings many =
+    encodings_same (format_parts rule format limit) (map segments xs) (map of ms) raw left [] had encodings
     (length-map xs segments ∙ many ∙ sym (length-map ms of))
 
 -- after them none is

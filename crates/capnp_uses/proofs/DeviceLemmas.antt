@@ -46,7 +46,7 @@ external_or kind (inr (inr other)) = inr other
 first_of_bytes : {S : Type 0} (source : Ghosts S) (old new : S) (format : Format) (limit : Option ℕ) (r : Result (Option (List (List ℕ))) Error) (bytes : List ℕ)
     → source.unread old ≡ Some bytes → ReturnsEncodings (grammar_of Zero format) limit (source.unread old) (source.unread new) r
     → ReadsStream source old new (rules_of Zero format) limit r → ReadsFirst format limit r bytes
-first_of_bytes source old new format limit (Ok None) bytes is texts reads =
+first_of_bytes source old new format limit (Ok None) bytes is encodings reads =
     let none : bytes ≡ [] = at_known (λ raw. raw ≡ []) (source.unread old) bytes is reads.none in
     record {
       found = tt;
@@ -56,9 +56,9 @@ first_of_bytes source old new format limit (Ok None) bytes is texts reads =
       errors = tt;
       exact = λ kind (left, line). at_known _ (source.unread old) bytes is reads.exact kind left line;
     }
-first_of_bytes source old new format limit (Ok (Some first)) bytes is texts reads =
+first_of_bytes source old new format limit (Ok (Some first)) bytes is encodings reads =
     let found : (rest : List ℕ) × FoundNext Zero format limit first bytes rest =
-    rest_after (FoundNext Zero format limit first) (source.unread old) (source.unread new) bytes is texts.found in
+    rest_after (FoundNext Zero format limit first) (source.unread old) (source.unread new) bytes is encodings.found in
     record {
       found = found;
       none = tt;
@@ -67,10 +67,10 @@ first_of_bytes source old new format limit (Ok (Some first)) bytes is texts read
       errors = tt;
       exact = λ kind (left, line). at_known _ (source.unread old) bytes is reads.exact kind left line;
     }
-first_of_bytes source old new format limit (Err error) bytes is texts reads = record {
+first_of_bytes source old new format limit (Err error) bytes is encodings reads = record {
   found = tt;
   none = tt;
-  accepted = at_known _ (source.unread old) bytes is texts.accepted;
+  accepted = at_known _ (source.unread old) bytes is encodings.accepted;
   end = λ empty. let unread : source.unread old ≡ Some [] = cc in reads.end unread;
   errors = reasons error.kind (source.unread old) (source.unread new) bytes (TakesMemory Zero (gives_of format) limit)
       (NextError Zero format limit error.kind) is reads.errors;
@@ -80,17 +80,17 @@ first_of_bytes source old new format limit (Err error) bytes is texts reads = re
 pub reads_first : {S : Type 0} (source : Ghosts S) (old new : S) (format : Format) (limit : Option ℕ) (r : Result (Option (List (List ℕ))) Error) (known : Option (List ℕ))
     → source.unread old ≡ known → ReturnsEncodings (grammar_of Zero format) limit (source.unread old) (source.unread new) r
     → ReadsStream source old new (rules_of Zero format) limit r → IfSome known (ReadsFirst format limit r)
-reads_first source old new format limit r known unread texts reads =
-    for_known known (ReadsFirst format limit r) (λ bytes is. first_of_bytes source old new format limit r bytes (unread ∙ is) texts reads)
+reads_first source old new format limit r known unread encodings reads =
+    for_known known (ReadsFirst format limit r) (λ bytes is. first_of_bytes source old new format limit r bytes (unread ∙ is) encodings reads)
 
 -- and leaves what follows
 pub leaves_rest : {X : Type 0} (format : Format) (limit : Option ℕ) (segments : X → List (List ℕ)) (r : Result (Option X) Error) (known old new : Option (List ℕ)) → old ≡ known
     → ReturnsEncodings (grammar_of Zero format) limit old new (next_in segments r)
     → IfOk r (λ found. IfSome found (λ read. IfKnown known new (FoundNext Zero format limit (segments read))))
-leaves_rest format limit segments (Err error) known old new same texts = tt
-leaves_rest format limit segments (Ok None) known old new same texts = tt
-leaves_rest format limit segments (Ok (Some read)) known old new same texts =
-    subst (λ (o : Option (List ℕ)). IfKnown o new (FoundNext Zero format limit (segments read))) same texts.found
+leaves_rest format limit segments (Err error) known old new same encodings = tt
+leaves_rest format limit segments (Ok None) known old new same encodings = tt
+leaves_rest format limit segments (Ok (Some read)) known old new same encodings =
+    subst (λ (o : Option (List ℕ)). IfKnown o new (FoundNext Zero format limit (segments read))) same encodings.found
 
 -- A reader fails with the device's failure only where the device fails.
 
@@ -106,15 +106,15 @@ failed_next segments (Err error) before after failed = failed
 -- No bytes are encodings of no messages alone.
 nothing_listed : (format : Format) (limit : Option ℕ) (ms : List (List (List ℕ))) (bytes rest : List ℕ) → AreEncodings (grammar_of Zero format) limit ms bytes rest
     → bytes ≡ [] → (ms ≡ []) × (rest ≡ [])
-nothing_listed format limit [] bytes rest texts none = (refl, texts ∙ none)
-nothing_listed format limit (m ∷ ms) bytes rest (between, begins, texts) none = absurd (never format limit m bytes between none begins)
+nothing_listed format limit [] bytes rest encodings none = (refl, encodings ∙ none)
+nothing_listed format limit (m ∷ ms) bytes rest (between, begins, encodings) none = absurd (never format limit m bytes between none begins)
 
 -- All messages are read, or the reader fails after some, or there is an external error.
 all_read : {X : Type 0} (format : Format) (limit : Option ℕ) (messages : X → List (List (List ℕ))) (read : X) (bytes : List ℕ)
     → IsStream Zero format limit (messages read) None bytes → ReadsAll format limit messages (Ok read) bytes
 all_read format limit messages read bytes stream = record {
   found = stream;
-  end = λ none. (nothing_listed format limit (messages read) bytes stream.rest stream.texts none).0;
+  end = λ none. (nothing_listed format limit (messages read) bytes stream.rest stream.encodings none).0;
   errors = tt;
   accepted = λ listed also. (stream_once Zero format limit (messages read) listed None None bytes stream also).0;
   exact = λ before kind also.
@@ -151,10 +151,10 @@ all_fail format limit messages error bytes end (inr (before, stream)) = record {
 pub reads_all : {X : Type 0} (format : Format) (limit : Option ℕ) (messages : X → List (List (List ℕ))) (read : X) (known unread : Option (List ℕ))
     → IfKnown known unread (AreEncodings (grammar_of Zero format) limit (messages read)) → IfSome unread (λ raw. raw ≡ [])
     → IfSome known (ReadsAll format limit messages (Ok read))
-reads_all format limit messages read None unread texts none = tt
-reads_all format limit messages read (Some bytes) None texts none = absurd texts
-reads_all format limit messages read (Some bytes) (Some rest) texts none =
-    all_read format limit messages read bytes (record { rest = rest; texts = texts; ends = none })
+reads_all format limit messages read None unread encodings none = tt
+reads_all format limit messages read (Some bytes) None encodings none = absurd encodings
+reads_all format limit messages read (Some bytes) (Some rest) encodings none =
+    all_read format limit messages read bytes (record { rest = rest; encodings = encodings; ends = none })
 
 -- so of a device whose bytes are the source's
 pub all_of_bytes : {X : Type 0} (format : Format) (limit : Option ℕ) (messages : X → List (List (List ℕ))) (r : Result X Error) (known unread : Option (List ℕ)) → unread ≡ known
@@ -166,33 +166,33 @@ pub fails_after : {X : Type 0} (format : Format) (limit : Option ℕ) (messages 
     → (unread ≡ Some [] → error.kind ≡ DeviceFailed)
     → (error.kind ≡ DeviceFailed) ⊎ ((error.kind ≡ OutOfMemory) × IfKnown unread new T) ⊎ IfKnown unread new (NextError Zero format limit error.kind)
     → IfSome known (ReadsAll format limit messages (Err error))
-fails_after format limit messages error before None unread new T texts end errors = tt
-fails_after format limit messages error before (Some bytes) None new T texts end errors = absurd texts
-fails_after format limit messages error before (Some bytes) (Some rest) new T texts end errors =
-    all_fail format limit messages error bytes (λ none. end (ap Some (nothing_listed format limit before bytes rest texts none).1))
+fails_after format limit messages error before None unread new T encodings end errors = tt
+fails_after format limit messages error before (Some bytes) None new T encodings end errors = absurd encodings
+fails_after format limit messages error before (Some bytes) (Some rest) new T encodings end errors =
+    all_fail format limit messages error bytes (λ none. end (ap Some (nothing_listed format limit before bytes rest encodings none).1))
     (elim (reasons error.kind (Some rest) new rest T (NextError Zero format limit error.kind) refl errors) [
       | inl device ↦ inl (inl device)
       | inr (inl memory) ↦ inl (inr memory.0)
-      | inr (inr ends) ↦ inr (before, record { rest = rest; texts = texts; ends = ends })
+      | inr (inr ends) ↦ inr (before, record { rest = rest; encodings = encodings; ends = ends })
     ])
 
 -- A message that was read is not listed for want of memory.
 pub fails_to_list : {X : Type 0} (format : Format) (limit : Option ℕ) (messages : X → List (List (List ℕ))) (error : Error) (before : List (List (List ℕ))) (message : List (List ℕ))
     (known unread new : Option (List ℕ)) → IfKnown known unread (AreEncodings (grammar_of Zero format) limit before)
     → IfKnown unread new (FoundNext Zero format limit message) → ExternalError error.kind → IfSome known (ReadsAll format limit messages (Err error))
-fails_to_list format limit messages error before message None unread new texts is_found external = tt
-fails_to_list format limit messages error before message (Some bytes) None new texts is_found external = absurd texts
-fails_to_list format limit messages error before message (Some bytes) (Some rest) None texts is_found external = absurd is_found
-fails_to_list format limit messages error before message (Some bytes) (Some rest) (Some left) texts is_found external =
+fails_to_list format limit messages error before message None unread new encodings is_found external = tt
+fails_to_list format limit messages error before message (Some bytes) None new encodings is_found external = absurd encodings
+fails_to_list format limit messages error before message (Some bytes) (Some rest) None encodings is_found external = absurd is_found
+fails_to_list format limit messages error before message (Some bytes) (Some rest) (Some left) encodings is_found external =
     all_fail format limit messages error bytes
-    (λ none. absurd (never format limit message rest left (nothing_listed format limit before bytes rest texts none).1 is_found)) (inl external)
+    (λ none. absurd (never format limit message rest left (nothing_listed format limit before bytes rest encodings none).1 is_found)) (inl external)
 
 -- Nor is the message past a full list.
 pub fails_past_full : {X : Type 0} (format : Format) (limit : Option ℕ) (messages : X → List (List (List ℕ))) (error : Error) (before : List (List (List ℕ)))
     (known unread : Option (List ℕ)) → IfKnown known unread (AreEncodings (grammar_of Zero format) limit before) → 0 < length before
     → ExternalError error.kind → IfSome known (ReadsAll format limit messages (Err error))
-fails_past_full format limit messages error before None unread texts many external = tt
-fails_past_full format limit messages error before (Some bytes) None texts many external = absurd texts
-fails_past_full format limit messages error before (Some bytes) (Some rest) texts many external =
+fails_past_full format limit messages error before None unread encodings many external = tt
+fails_past_full format limit messages error before (Some bytes) None encodings many external = absurd encodings
+fails_past_full format limit messages error before (Some bytes) (Some rest) encodings many external =
     all_fail format limit messages error bytes
-    (λ none. absurd (omega (arith, many, ap length (nothing_listed format limit before bytes rest texts none).0))) (inl external)
+    (λ none. absurd (omega (arith, many, ap length (nothing_listed format limit before bytes rest encodings none).0))) (inl external)

@@ -31,12 +31,12 @@ pub exactly : {X : Type 0} (segments : X → List (List ℕ)) (format : Format) 
     → IfErr (next_in segments r) (λ e. e.kind ≡ DeviceFailed → Fails 0 0)
     → (message : List (List ℕ)) (rest : List ℕ) → FoundNext Zero format limit message bytes rest
     → MatchResult r (λ found. IsSomeAnd found (λ x. segments x ≡ message)) (λ e. e.kind ≡ OutOfMemory)
-exactly segments format limit bytes left (Ok None) texts none failed message rest begins =
+exactly segments format limit bytes left (Ok None) encodings none failed message rest begins =
     absurd (nothing_begins Zero (format_lawful format) (format_requested Zero format) limit (λ m. ⊥) (Some bytes) none message rest begins)
-exactly segments format limit bytes left (Ok (Some x)) texts none failed message rest begins =
-    ((format_parts Zero format limit).begins_once (segments x) message bytes left rest texts.found begins).0
-exactly segments format limit bytes left (Err e) texts none failed message rest begins =
-    memory_only e.kind (texts.accepted message rest begins) failed
+exactly segments format limit bytes left (Ok (Some x)) encodings none failed message rest begins =
+    ((format_parts Zero format limit).begins_once (segments x) message bytes left rest encodings.found begins).0
+exactly segments format limit bytes left (Err e) encodings none failed message rest begins =
+    memory_only e.kind (encodings.accepted message rest begins) failed
 
 -- and where there are no bytes it succeeds
 pub succeeds_at_none : {X : Type 0} (segments : X → List (List ℕ)) (bytes : List ℕ) (r : Result (Option X) Error)

@@ -84,4 +84,4 @@ not_written message error errors failed = framed_memory message error.kind error
 
 -- what is added to nothing
 pub added_frame : (segments : List (List ℕ)) (old new : List ℕ) → old ≡ [] → Adds (IsFrameEncoding segments) old new → IsFrameEncoding segments new
-added_frame segments old new empty (text, is, spelled) = spelled ∙ ap (λ l. l ++ text) empty ∙ is
+added_frame segments old new empty (encoding, is, spelled) = spelled ∙ ap (λ l. l ++ encoding) empty ∙ is

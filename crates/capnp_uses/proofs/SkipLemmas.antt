@@ -22,7 +22,7 @@ pub skips : {S X : Type 0} (source : Ghosts S) (old new : S) (format : Format) (
     → ReturnsEncodings (grammar_of Zero format) limit (source.unread old) (source.unread new) (Ok (option_map segments found))
     → ReadsStream source old new (rules_of Zero format) limit (Ok (option_map segments found))
     → SkipsMessage source old new format limit (Ok reported)
-skips source old new format limit segments None reported is texts reads = record {
+skips source old new format limit segments None reported is encodings reads = record {
   passed = λ yes. let never : false ≡ true = sym is ∙ yes in cc;
   none = λ no. reads.none;
   accepted = nothing_begins Zero (format_lawful format) (format_requested Zero format) limit (λ m. IsTrue reported) (source.unread old) reads.none;
@@ -33,12 +33,12 @@ skips source old new format limit segments None reported is texts reads = record
   failed = tt;
   advances = reads.advances;
 }
-skips source old new format limit segments (Some x) reported is texts reads = record {
-  passed = λ yes. (segments x, reads.within, texts.found);
+skips source old new format limit segments (Some x) reported is encodings reads = record {
+  passed = λ yes. (segments x, reads.within, encodings.found);
   none = λ no. let never : true ≡ false = sym is ∙ no in cc;
   accepted = of_known (source.unread old) _ (λ raw message rest begins. is);
   end = λ empty. absurd (nothing_begins_known Zero (format_lawful format) (format_requested Zero format) limit (segments x) (source.unread old)
-      (source.unread new) empty texts.found);
+      (source.unread new) empty encodings.found);
   errors = tt;
   exact = reads.exact;
   kinds = tt;
@@ -50,10 +50,10 @@ pub skip_fails : {S : Type 0} (source : Ghosts S) (old new : S) (format : Format
     → ReturnsEncodings (grammar_of Zero format) limit (source.unread old) (source.unread new) (Err error)
     → ReadsStream source old new (rules_of Zero format) limit (Err error)
     → SkipsMessage source old new format limit (Err error)
-skip_fails source old new format limit error texts reads = record {
+skip_fails source old new format limit error encodings reads = record {
   passed = tt;
   none = tt;
-  accepted = texts.accepted;
+  accepted = encodings.accepted;
   end = reads.end;
   errors = reads.errors;
   exact = reads.exact;

@@ -18,8 +18,8 @@ use Rattle.capnp_build.specs.declared.allocator.Allocator as allocator
 use Rattle.capnp_build.proofs.roots.NullLemmas.{root_is_there}
 use Rattle.capnp_message.specs.Seen.{ReadMessage}
 use Rattle.capnp.specs.declared.streams.Format.{Format}
-use Rattle.capnp.specs.Prelude.{ExternalError, by_format, ReadsMessage, OrFailsAtEnd, rules_of, FoundNext, IsTextOf, output_of}
-use Rattle.capnp.proofs.AppendedLemmas.{text_found}
+use Rattle.capnp.specs.Prelude.{ExternalError, by_format, ReadsMessage, OrFailsAtEnd, rules_of, FoundNext, IsEncodingOf, output_of}
+use Rattle.capnp.proofs.AppendedLemmas.{encoding_found}
 use Rattle.capnp.proofs.FormatLemmas.{or_fails_failed}
 use Rattle.capnp.proofs.ReaderLemmas.{or_fails_accepted, or_fails_reads}
 use Rattle.capnp.proofs.RunLemmas.{format_lawful, format_requested, format_parts}
@@ -33,21 +33,21 @@ has_segment spaces trees traversed (at points inside following) =
 
 -- what was added to nothing is its encoding, and no more
 added_found : (rule : Padding) (format : Format) (limit : Option ℕ) (m : List (List ℕ)) (shown : List ℕ) → IsWritable m
-    → IsTextOf format m shown → IsWithinSegmentLimit m → KeepsLimit (lengths m) limit → FoundNext rule format limit m shown []
+    → IsEncodingOf format m shown → IsWithinSegmentLimit m → KeepsLimit (lengths m) limit → FoundNext rule format limit m shown []
 added_found rule format limit m shown writable here few size =
-    subst (λ (l : List ℕ). FoundNext rule format limit m l []) (append-nil shown) (text_found rule format limit m shown [] writable few size here)
+    subst (λ (l : List ℕ). FoundNext rule format limit m l []) (append-nil shown) (encoding_found rule format limit m shown [] writable few size here)
 
 pub added_alone : (format : Format) (m : List (List ℕ)) (start new shown : List ℕ) → start ≡ [] → shown ≡ new
-    → Adds (IsTextOf format m) start new → IsTextOf format m shown
-added_alone format m start new shown none same (text, here, e) =
-    subst (IsTextOf format m) (sym (same ∙ e ∙ ap (λ (l : List ℕ). l ++ text) none)) here
+    → Adds (IsEncodingOf format m) start new → IsEncodingOf format m shown
+added_alone format m start new shown none same (encoding, here, e) =
+    subst (IsEncodingOf format m) (sym (same ∙ e ∙ ap (λ (l : List ℕ). l ++ encoding) none)) here
 
 -- without a limit of words
 unlimited : (rule : Padding) (format : Format) (limit : Option ℕ) (m : List (List ℕ)) (raw rest : List ℕ) → FoundNext rule format limit m raw rest
     → FoundNext rule format None m raw rest
 unlimited rule format limit m raw rest is_found = let within = is_found.within in record {
-  text = is_found.text;
-  is_text = is_found.is_text;
+  encoding = is_found.encoding;
+  is_encoding = is_found.is_encoding;
   within = record { some = within.some; few = within.few; each = within.each; size = tt };
   spelled = is_found.spelled;
 }
@@ -66,7 +66,7 @@ reads_too_many : {S : Type 0} (rule : Padding) (format : Format) (limit : Option
     → OrFailsAtEnd (ReadsStream source old new (rules_of rule format) limit) (Err e)
     → (e.kind ≡ DeviceFailed) ⊎ (e.kind ≡ OutOfMemory) ⊎ (e.kind ≡ MessageTooLarge (size_in_words m))
 reads_too_many rule format limit source old new m e shown is_found unread over reads =
-    let requested = (format_requested rule format m shown []).1 (is_found.text, is_found.is_text, is_found.spelled) in
+    let requested = (format_requested rule format m shown []).1 (is_found.encoding, is_found.is_encoding, is_found.spelled) in
     let (left, line) = past_limit rule (format_lawful format) limit m shown [] requested (few_segments is_found.within) over in
     elim reads [
       | inl reported ↦ (rw unread at reported.exact) (MessageTooLarge (size_in_words m)) left line
@@ -78,7 +78,7 @@ reads_too_many rule format limit source old new m e shown is_found unread over r
 
 -- so of what is written and read nothing else comes than the limit and want of memory
 again_error : {S : Type 0} (rule : Padding) (format : Format) (limit : Option ℕ) (source : Ghosts S) (old new : S) (m : List (List ℕ)) (e : Error) (shown : List ℕ)
-    → IsTextOf format m shown → IsWritable m → IsWithinSegmentLimit m → source.unread old ≡ Some shown → source.failures old ≡ 0 → source.failures new ≡ 0
+    → IsEncodingOf format m shown → IsWritable m → IsWithinSegmentLimit m → source.unread old ≡ Some shown → source.failures old ≡ 0 → source.failures new ≡ 0
     → (FoundNext rule format limit m shown [] → ExternalError e.kind)
     → OrFailsAtEnd (ReadsStream source old new (rules_of rule format) limit) (Err e)
     → ReadAgainError m limit e.kind
@@ -97,12 +97,12 @@ again_error rule format limit source old new m e shown here writable few unread 
 -- what is returned of a message that is written and read
 pub written_and_read : {S : Type 0} (rule : Padding) (format : Format) (options : ReaderOptions) (source : Ghosts S) (old new : S) (m : List (List ℕ))
     (r : Result (ReadMessage (List (List ℕ))) Error) (shown : List ℕ)
-    → IsTextOf format m shown → IsWritable m → IsWithinSegmentLimit m → source.unread old ≡ Some shown → source.failures old ≡ 0 → source.failures new ≡ 0
+    → IsEncodingOf format m shown → IsWritable m → IsWithinSegmentLimit m → source.unread old ≡ Some shown → source.failures old ≡ 0 → source.failures new ≡ 0
     → OrFailsAtEnd (ReadsMessage source old new (by_format rule format) options) r
     → ReadsWritten m options (λ reader. reader.segments) (λ reader. reader.options) r
 written_and_read rule format options source old new m (Ok x) shown here writable few unread none still reads =
     let limit = options.traversal_limit_in_words in
-    let again = read_again rule format limit x.segments m shown (source.unread new) (added_found rule format None m shown writable here few tt) (rw unread at (reads.texts tt).found) in
+    let again = read_again rule format limit x.segments m shown (source.unread new) (added_found rule format None m shown writable here few tt) (rw unread at (reads.encodings tt).found) in
     record { back = again.0; size = again.1; few = few; options_are = reads.options_are; errors = tt }
 written_and_read rule format options source old new m (Err e) shown here writable few unread none still reads =
     let accepted : (raw : List ℕ) → source.unread old ≡ Some raw → (message : List (List ℕ)) (rest : List ℕ)

@@ -3,7 +3,7 @@ use Rattle.std.specs.Prelude.{◌≡◌, ◌⊎◌, ℕ, ◌+◌, ◌*◌, ◌/�
 use Rattle.capnp_frame.specs.declared.error.ErrorKind.{ErrorKind}
 use Rattle.capnp_frame.specs.declared.error.ErrorKind.TheVariants.{OutOfMemory, AllocationTooLarge, MessageTooLarge}
 use Rattle.capnp_wire.specs.Prelude.{structs, Trees, none, tree, IsTextTree, LongText}
-use Rattle.capnp_orphans.specs.Held.{AreTrees}
+use Rattle.capnp_orphans.specs.Holds.{AreTrees}
 use Rattle.capnp_orphans.specs.Segments.{Segment, IsPastMost}
 use Rattle.capnp_uses.specs.declared.account_list.NewAccount.{NewAccount}
 

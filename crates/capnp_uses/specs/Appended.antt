@@ -7,17 +7,17 @@ use Rattle.capnp_frame.specs.declared.message.options.ReaderOptions.{ReaderOptio
 use Rattle.capnp_frame.specs.declared.serialize.segment_table.Padding.TheVariants.{Zero}
 use Rattle.capnp_frame.specs.Prelude.{AreEncodings, IsWithinSegmentLimit}
 use Rattle.capnp.specs.declared.streams.Format.{Format}
-use Rattle.capnp.specs.Prelude.{grammar_of, IsTextOf, AppendsEach, SegmentCountErrorIn}
+use Rattle.capnp.specs.Prelude.{grammar_of, IsEncodingOf, AppendsEach, SegmentCountErrorIn}
 
--- What a call returns that writes messages and reads them back. `text`, `readers` and `end` are
+-- What a call returns that writes messages and reads them back. `encodings`, `readers` and `end` are
 -- what is seen of what it returns.
-pub record ReadsBack {V X : Type 0} (format : Format) (options : ReaderOptions) (messages : List (List (List ℕ))) (text : V → List ℕ)
+pub record ReadsBack {V X : Type 0} (format : Format) (options : ReaderOptions) (messages : List (List (List ℕ))) (encodings : V → List ℕ)
     (readers : V → List X) (end : V → Option X) (segments : X → List (List ℕ)) (options_of : X → ReaderOptions) (result : Result V Error)
     : Type 0 where
   -- the bytes are the encodings of the messages, one after the other
-  pub written : IfOk result (λ done. AppendsEach (IsTextOf format) messages (text done))
+  pub written : IfOk result (λ done. AppendsEach (IsEncodingOf format) messages (encodings done))
   -- the readers found their messages there
-  pub read : IfOk result (λ done. AreEncodings (grammar_of Zero format) options.traversal_limit_in_words (map segments (readers done)) (text done) [])
+  pub read : IfOk result (λ done. AreEncodings (grammar_of Zero format) options.traversal_limit_in_words (map segments (readers done)) (encodings done) [])
   -- they are those that were written
   pub back : IfOk result (λ done. map segments (readers done) ≡ messages)
   pub options_are : IfOk result (λ done. AllByRecursion (λ reader. options_of reader ≡ options) (readers done))

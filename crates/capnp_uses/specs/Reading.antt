@@ -1,4 +1,4 @@
--- What callers return of bytes and texts in memory.
+-- What callers return of bytes and encodings in memory.
 use Rattle.std.specs.Prelude.{◌≡◌, ◌⊎◌, ℕ, List, Result, IfOk, IfErr, slice_index}
 use Rattle.capnp_frame.specs.declared.error.Error.{Error}
 use Rattle.capnp_frame.specs.declared.error.ErrorKind.TheVariants.{OutOfMemory}
@@ -29,7 +29,7 @@ pub record ReturnsCanonical {T : Type 0} (bytes : List ℕ) (words : T → List 
 abbrev pub AreFirstWords : Pointer → ℕ × ℕ → Type 0
 AreFirstWords pointer pair = (words : List ℕ) × Reads pointer (λ form. HasData form words) × (pair ≡ (slice_index words 0, slice_index words 1))
 
--- and the pointer is the root of the packed message at the front of this text
+-- and the pointer is the root of the packed message at the front of these bytes
 abbrev pub ShowsPackedStruct : List ℕ → ℕ × ℕ → Type 0
-ShowsPackedStruct text pair = (message : List (List ℕ)) × (rest : List ℕ) × FoundNext Zero Packed default_limit message text rest
+ShowsPackedStruct encoding pair = (message : List (List ℕ)) × (rest : List ℕ) × FoundNext Zero Packed default_limit message encoding rest
     × AreFirstWords (default_root message) pair

@@ -86,9 +86,9 @@ pub record StaysUnread {A S : Type 0} (alloc : Ghosts A S) (has_tree : Trees →
 -- No struct is read at the root of a packed message: memory is taken and lacking, no message is there, or its root
 -- fails.
 abbrev pub PackedStructError : List ℕ → ErrorKind → Type 0
-PackedStructError text kind = ((kind ≡ OutOfMemory) × TakesForNext Zero Packed default_limit text) ⊎ EndsBy Zero Packed default_limit (Some kind) text
-    ⊎ ((text ≡ []) × (kind ≡ PrematureEndOfFile))
-    ⊎ ((segments : List (List ℕ)) × (rest : List ℕ) × FoundNext Zero Packed default_limit segments text rest
+PackedStructError encoding kind = ((kind ≡ OutOfMemory) × TakesForNext Zero Packed default_limit encoding) ⊎ EndsBy Zero Packed default_limit (Some kind) encoding
+    ⊎ ((encoding ≡ []) × (kind ≡ PrematureEndOfFile))
+    ⊎ ((segments : List (List ℕ)) × (rest : List ℕ) × FoundNext Zero Packed default_limit segments encoding rest
     × (NoWord (message_of segments) root kind ⊎ ViewError (default_root segments) StructFormError kind))
 
 -- this word in the place of the first data word of a struct, where it has one

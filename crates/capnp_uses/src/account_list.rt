@@ -1,7 +1,7 @@
 //! Accounts that are written from the bottom up, as a list, and read back.
 ghost use Rattle.std.specs.Prelude.{◌≡◌, ◌⊎◌, ◌+◌, ◌*◌, ◌∷◌, [], length, OnOk, IfOk, IfErr};
 ghost use Rattle.capnp_orphans.specs.Adding.{Adds};
-ghost use Rattle.capnp_orphans.specs.Held.{HoldsValue, word_of};
+ghost use Rattle.capnp_orphans.specs.Holds.{HoldsValue, word_of};
 ghost use Rattle.capnp_uses.specs.AccountLists.{AccountsLimitError, IsAccountList, AccountsError, list_words, new_segment};
 ghost use Rattle.capnp_uses.specs.Roots.{HasRootOf};
 

@@ -14,7 +14,7 @@ use std::alloc::Global;
 #[derive(Drop)]
 pub struct ReadBack {
     /// The encodings of the messages, one after the other, in bytes.
-    pub text: Vec<u8>,
+    pub encodings: Vec<u8>,
     /// The messages that were read back, as many as were written.
     pub readers: Vec<Reader<OwnedSegments>>,
     /// What was read after them.
@@ -35,14 +35,14 @@ pub fn write_and_read_back<S: ReaderSegments>(
     requires writable { AllByRecursion IsWritable (map S.segments messages.now) }
     requires size { AllByRecursion (λ m. KeepsLimit (lengths m) options.traversal_limit_in_words)
         (map S.segments messages.now) }
-    ensures { ReadsBack format options (map S.segments messages.now) (λ done. done.text.items)
+    ensures { ReadsBack format options (map S.segments messages.now) (λ done. done.encodings.items)
         (λ done. done.readers.items) (λ done. done.end)
         (λ reader. reader.segments) (λ reader. reader.options) result }
 {
-    let mut text: Vec<u8> = Vec::new(alloc);
-    write_messages(alloc, &mut text, format, messages)?;
-    let mut source: &[u8] = &text;
+    let mut encodings: Vec<u8> = Vec::new(alloc);
+    write_messages(alloc, &mut encodings, format, messages)?;
+    let mut source: &[u8] = &encodings;
     let readers = read_messages(alloc, &mut source, format, messages.len(), options)?;
     let end = next_message(alloc, &mut source, format, Padding::Zero, options)?;
-    Ok(ReadBack { text, readers, end })
+    Ok(ReadBack { encodings, readers, end })
 }

@@ -27,47 +27,47 @@ pub fn a_struct_is_read_packed<A: Allocator>(
     ensures errors { IfErr result (λ error. SegmentCountError (output_of message.new) error.kind
         ⊎ (error.kind ≡ ErrorKind.OutOfMemory)
         ⊎ RootRoomError A.Allocator (struct (0 ∷ 0 ∷ [])) message.old error.kind
-        ⊎ ((text : List ℕ) × IsPackedEncodingOf (output_of message.new) text
-        × PackedStructError text error.kind)) }
+        ⊎ ((encoding : List ℕ) × IsPackedEncodingOf (output_of message.new) encoding
+        × PackedStructError encoding error.kind)) }
 {
     write_struct(message, first, second)?;
-    let text = packed_text(alloc, message)?;
-    read_packed_words(alloc, &text)
+    let encoding = packed_encoding(alloc, message)?;
+    read_packed_words(alloc, &encoding)
 }
 
 /// The packed encoding of a message that is built, which must have a segment. The message has no
 /// more segments than a reader accepts, so `read_packed_words` finds it within the limit of words.
-pub fn packed_text<A: Allocator>(alloc: Global, message: &Builder<A>) -> Result<Vec<u8>>
+pub fn packed_encoding<A: Allocator>(alloc: Global, message: &Builder<A>) -> Result<Vec<u8>>
     requires { 0 < length message.now.spaces }
-    ensures packed { IfOk result (λ text. IsWritable (output_of message.now)
+    ensures packed { IfOk result (λ encoding. IsWritable (output_of message.now)
         × IsWithinSegmentLimit (output_of message.now)
-        × IsPackedEncodingOf (output_of message.now) text.items) }
+        × IsPackedEncodingOf (output_of message.now) encoding.items) }
     ensures errors { IfErr result (λ error. SegmentCountError (output_of message.now) error.kind
         ⊎ (error.kind ≡ ErrorKind.OutOfMemory)) }
 {
     let output = message.get_segments_for_output();
-    let mut text = Vec::new(alloc);
-    serialize_packed::write_message_segments(alloc, &mut text, &output)?;
-    Ok(text)
+    let mut encoding = Vec::new(alloc);
+    serialize_packed::write_message_segments(alloc, &mut encoding, &output)?;
+    Ok(encoding)
 }
 
 /// The first two data words of the struct at the root of a packed message; 0 past its last one, and
 /// for null.
-pub fn read_packed_words(alloc: Global, text: &[u8]) -> Result<(u64, u64)>
+pub fn read_packed_words(alloc: Global, encoding: &[u8]) -> Result<(u64, u64)>
     ensures words { (message : List (List ℕ)) (first second : ℕ) → IsWritable message →
-        IsPackedEncodingOf message text.now → HasPlainRoot message (struct (first ∷ second ∷ [])) →
+        IsPackedEncodingOf message encoding.now → HasPlainRoot message (struct (first ∷ second ∷ [])) →
         IfOk result (λ read. read ≡ (first, second)) }
     // Else it returns words only of what is there.
-    ensures is_found { IfOk result (λ read. ShowsPackedStruct text.now read) }
+    ensures is_found { IfOk result (λ read. ShowsPackedStruct encoding.now read) }
     // It succeeds, unless memory is lacking or the traversal limit is met.
     ensures found { (message : List (List ℕ)) (first second : ℕ) → IsWritable message →
         IsWithinSegmentLimit message → KeepsLimit (lengths message) default_limit →
-        IsPackedEncodingOf message text.now → HasPlainRoot message (struct (first ∷ second ∷ [])) →
+        IsPackedEncodingOf message encoding.now → HasPlainRoot message (struct (first ∷ second ∷ [])) →
         IfErr result (λ error. (error.kind ≡ ErrorKind.OutOfMemory)
         ⊎ (error.kind ≡ ErrorKind.ReadLimitExceeded)) }
-    ensures errors { IfErr result (λ error. PackedStructError text.now error.kind) }
+    ensures errors { IfErr result (λ error. PackedStructError encoding.now error.kind) }
 {
-    let mut source = text;
+    let mut source = encoding;
     let message = serialize_packed::read_message(alloc, &mut source, DEFAULT_READER_OPTIONS)?;
     let fields: StructReader<'_, OwnedSegments> = message.get_root()?;
     Ok((fields.get_word(0), fields.get_word(1)))

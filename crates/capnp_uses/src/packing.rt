@@ -12,13 +12,13 @@ use std::alloc::Global;
 /// The packed encoding of these words.
 pub fn pack_words(alloc: Global, words: &[u8]) -> Result<Vec<u8>>
     requires { IsWholeWords words.now }
-    ensures packed { IfOk result (λ text. Packs words.now text.items) }
+    ensures packed { IfOk result (λ encoding. Packs words.now encoding.items) }
     ensures memory { IfErr result (λ error. error.kind ≡ ErrorKind.OutOfMemory) }
 {
     laws::plain_sink_gets_the_packed_encoding();
-    let mut text = Vec::new(alloc);
-    pack_into(&mut text, words)?;
-    Ok(text)
+    let mut encoding = Vec::new(alloc);
+    pack_into(&mut encoding, words)?;
+    Ok(encoding)
 }
 
 // Packs words into a sink.
@@ -36,15 +36,15 @@ fn pack_into<W: Write>(sink: &mut W, words: &[u8]) -> Result<()>
 }
 
 /// Fills `words` with the words that are packed at the front of these bytes.
-pub fn unpack_words(text: &[u8], words: &mut [u8]) -> Result<()>
+pub fn unpack_words(encoding: &[u8], words: &mut [u8]) -> Result<()>
     ensures filled { OnOk result ((rest : List ℕ)
-        × Unpacks text.now (length words.new) words.new rest) }
-    ensures found { (bytes rest : List ℕ) → Unpacks text.now (length words.new) bytes rest →
+        × Unpacks encoding.now (length words.new) words.new rest) }
+    ensures found { (bytes rest : List ℕ) → Unpacks encoding.now (length words.new) bytes rest →
         IsOk result }
     ensures errors { IfErr result (λ error.
-        ChunkError text.now (length words.new) error.kind) }
+        ChunkError encoding.now (length words.new) error.kind) }
 {
-    let mut source = text;
+    let mut source = encoding;
     let mut packed = PackedRead::new(&mut source);
     packed.read_exact(words)
 }
@@ -56,8 +56,8 @@ pub fn words_are_unpacked(alloc: Global, words: &[u8]) -> Result<Vec<u8>>
     ensures memory { IfErr result (λ error. error.kind ≡ ErrorKind.OutOfMemory) }
 {
     laws::packed_encoding_unpacks();
-    let text = pack_words(alloc, words)?;
+    let encoding = pack_words(alloc, words)?;
     let mut unpacked = vec![in alloc; 0u8; words.len()]?;
-    unpack_words(&text, &mut unpacked)?;
+    unpack_words(&encoding, &mut unpacked)?;
     Ok(unpacked)
 }

@@ -62,9 +62,9 @@ pub fn write_and_read_back<S: ReaderSegments>(
     ensures { ReadsWritten (S.segments message.now) options (λ reader. reader.segments)
         (λ reader. reader.options) result }
 {
-    let mut text: Vec<u8> = Vec::new(alloc);
-    write_message(alloc, &mut text, format, message)?;
-    let mut source: &[u8] = &text;
+    let mut encoding: Vec<u8> = Vec::new(alloc);
+    write_message(alloc, &mut encoding, format, message)?;
+    let mut source: &[u8] = &encoding;
     match next_message(alloc, &mut source, format, Padding::Zero, options)? {
         Some(reader) => Ok(reader),
         None => Err(Error::from_kind(ErrorKind::PrematureEndOfFile)),

@@ -80,16 +80,16 @@ pub fn set_and_write<T, V: SetterInput<T> + Drop, A: Allocator>(
     ensures set { OnOk result (IsSet (V.has_tree value) false built.new.spaces) }
     ensures placed { OnOk result
         (IsPut A.Allocator (HasWords (V.has_tree value) false) built.old built.new) }
-    ensures written { IfOk result (λ text. IsFrameEncoding (output_of built.new) text.items) }
+    ensures written { IfOk result (λ encoding. IsFrameEncoding (output_of built.new) encoding.items) }
     // The root is null, or the value.
     ensures errors { IfErr result (λ error.
         StaysUnset A.Allocator (V.has_tree value) (V.fails value) built.old built.new error.kind
         ⊎ StaysUnwritten A.Allocator (V.has_tree value) false built.old built.new error.kind) }
 {
     built.set_root::<T, V>(value)?;
-    let mut text = Vec::new(alloc);
-    serialize::write_message(alloc, &mut text, built)?;
-    Ok(text)
+    let mut encoding = Vec::new(alloc);
+    serialize::write_message(alloc, &mut encoding, built)?;
+    Ok(encoding)
 }
 
 /// Does the same in canonical form.
@@ -101,7 +101,7 @@ pub fn set_canonical_and_write<T, V: SetterInput<T> + Drop, A: Allocator>(
     ensures set { OnOk result (IsSet (V.has_tree value) true built.new.spaces) }
     ensures placed { OnOk result
         (IsPut A.Allocator (HasWords (V.has_tree value) true) built.old built.new) }
-    ensures written { IfOk result (λ text. IsFrameEncoding (output_of built.new) text.items) }
+    ensures written { IfOk result (λ encoding. IsFrameEncoding (output_of built.new) encoding.items) }
     // The root is null, or the value.
     ensures errors { IfErr result (λ error.
         StaysWithoutForm A.Allocator (V.has_tree value) (V.fails value)
@@ -109,7 +109,7 @@ pub fn set_canonical_and_write<T, V: SetterInput<T> + Drop, A: Allocator>(
         ⊎ StaysUnwritten A.Allocator (V.has_tree value) true built.old built.new error.kind) }
 {
     built.set_root_canonical::<T, V>(value)?;
-    let mut text = Vec::new(alloc);
-    serialize::write_message(alloc, &mut text, built)?;
-    Ok(text)
+    let mut encoding = Vec::new(alloc);
+    serialize::write_message(alloc, &mut encoding, built)?;
+    Ok(encoding)
 }

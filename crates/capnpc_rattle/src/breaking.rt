@@ -51,7 +51,7 @@ pub fn break_expression<'a>(
     if part.is_method() {
         return break_method(parts, part);
     }
-    let Some((front, items, close)) = last_group(part.text) else {
+    let Some((front, items, close)) = last_group(part.code) else {
         return Ok(());
     };
     if items.is_empty() {
@@ -83,7 +83,7 @@ fn opened_argument<'a>(
         _ => return None,
     };
     let end = call.len().saturating_add(path.len());
-    let front = Part::fixed(part.indent, part.text.get(..end)?).after(part.head);
+    let front = Part::fixed(part.indent, part.code.get(..end)?).after(part.head);
     if path.len() <= PATH_WIDTH && front.width() <= WIDTH {
         Some((front, inner, ends))
     } else {
@@ -94,7 +94,7 @@ fn opened_argument<'a>(
 // Breaks a call of a method of a field: before the method, and after `let` or `match` before the
 // field, too.
 fn break_method<'a>(parts: &mut Vec<Part<'a>>, part: Part<'a>) -> Result<(), AllocError> {
-    let Some((_, rest)) = part.text.split_once('.') else {
+    let Some((_, rest)) = part.code.split_once('.') else {
         return Ok(());
     };
     let Some((field, call)) = rest.split_once('.') else {
@@ -102,7 +102,7 @@ fn break_method<'a>(parts: &mut Vec<Part<'a>>, part: Part<'a>) -> Result<(), All
     };
     let below = part.indent.saturating_add(4);
     if part.head.is_empty() {
-        let owner = part.text.get(..field.len().saturating_add(5)).unwrap_or("");
+        let owner = part.code.get(..field.len().saturating_add(5)).unwrap_or("");
         parts.push(Part::fixed(part.indent, owner))?;
     } else {
         parts.push(Part::fixed(part.indent, "self").after(part.head))?;
@@ -120,12 +120,12 @@ fn break_arm<'a>(
     parts: &mut Vec<Part<'a>>,
     arm: Part<'a>,
 ) -> Result<(), AllocError> {
-    let Some((pattern, rest)) = arm.text.split_once(" => ") else {
+    let Some((pattern, rest)) = arm.code.split_once(" => ") else {
         return Ok(());
     };
     let value = rest.strip_suffix(',').unwrap_or(rest);
     let head = arm
-        .text
+        .code
         .get(..pattern.len().saturating_add(4))
         .unwrap_or("");
     let whole = Part::new(arm.indent, value, Kind::Expression);
@@ -136,7 +136,7 @@ fn break_arm<'a>(
         return break_expression(alloc, parts, whole.after(head).before(","));
     }
     if Part::fixed(arm.indent, pattern).before(" =>").width() > WIDTH && pattern.ends_with(')') {
-        let tail = arm.text.get(pattern.len()..).unwrap_or("");
+        let tail = arm.code.get(pattern.len()..).unwrap_or("");
         let pattern = Part::new(arm.indent, pattern, Kind::Expression);
         return break_expression(alloc, parts, pattern.before(tail));
     }

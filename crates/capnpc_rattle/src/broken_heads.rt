@@ -10,7 +10,7 @@ pub fn break_function<'a>(
     parts: &mut Vec<Part<'a>>,
     head: Part<'a>,
 ) -> Result<(), AllocError> {
-    let Some((name, rest)) = head.text.split_once('(') else {
+    let Some((name, rest)) = head.code.split_once('(') else {
         return Ok(());
     };
     let (parameters, returned) = match rest.split_once(") -> ") {
@@ -21,7 +21,7 @@ pub fn break_function<'a>(
         },
     };
     let start = name.len().saturating_add(1);
-    let front = head.text.get(..start).unwrap_or("");
+    let front = head.code.get(..start).unwrap_or("");
     if parameters.is_empty() {
         return break_returned(alloc, parts, head, returned);
     }
@@ -30,14 +30,14 @@ pub fn break_function<'a>(
     {
         parts.push(Part::fixed(head.indent, generic))?;
         push_items(alloc, parts, head.indent, parameter)?;
-        let rest = head.text.get(start.saturating_sub(2)..).unwrap_or("");
+        let rest = head.code.get(start.saturating_sub(2)..).unwrap_or("");
         parts.push(Part::new(head.indent, rest, Kind::Function))?;
         return Ok(());
     }
     parts.push(Part::fixed(head.indent, front))?;
     push_items(alloc, parts, head.indent, parameters)?;
     let end = start.saturating_add(parameters.len());
-    push_end(parts, head.indent, head.text.get(end..).unwrap_or(""))
+    push_end(parts, head.indent, head.code.get(end..).unwrap_or(""))
 }
 
 // Breaks the head of a function without parameters within its type.
@@ -47,8 +47,8 @@ fn break_returned<'a>(
     head: Part<'a>,
     returned: &'a str,
 ) -> Result<(), AllocError> {
-    let start = head.text.len().saturating_sub(returned.len());
-    let front = head.text.get(..start).unwrap_or("");
+    let start = head.code.len().saturating_sub(returned.len());
+    let front = head.code.get(..start).unwrap_or("");
     let part = Part::new(head.indent, returned, Kind::Expression);
     break_expression(alloc, parts, part.after(front))
 }
@@ -74,23 +74,23 @@ pub fn break_implementation<'a>(
     parts: &mut Vec<Part<'a>>,
     head: Part<'a>,
 ) -> Result<(), AllocError> {
-    if let Some((front, _)) = head.text.split_once(" for ") {
-        let rest = head.text.get(front.len().saturating_add(1)..).unwrap_or("");
+    if let Some((front, _)) = head.code.split_once(" for ") {
+        let rest = head.code.get(front.len().saturating_add(1)..).unwrap_or("");
         parts.push(Part::fixed(head.indent, front))?;
         parts.push(Part::fixed(head.indent.saturating_add(4), rest))?;
         return Ok(());
     }
-    let Some(text) = head.text.strip_suffix(" {") else {
+    let Some(code) = head.code.strip_suffix(" {") else {
         return Ok(());
     };
-    let whole = Part::new(head.indent, text, Kind::Expression).before(" {");
-    let Some((front, _, _)) = last_group(text) else {
+    let whole = Part::new(head.indent, code, Kind::Expression).before(" {");
+    let Some((front, _, _)) = last_group(code) else {
         return Ok(());
     };
     if Part::fixed(head.indent, front).width() <= WIDTH {
         return break_expression(alloc, parts, whole);
     }
-    let Some((parameters, path)) = text.split_once("> ") else {
+    let Some((parameters, path)) = code.split_once("> ") else {
         return Ok(());
     };
     parts.push(Part::fixed(head.indent, "impl<"))?;
@@ -107,7 +107,7 @@ pub fn break_implementation<'a>(
 
 /// Breaks a constant before its value.
 pub fn break_constant<'a>(parts: &mut Vec<Part<'a>>, line: Part<'a>) -> Result<(), AllocError> {
-    let Some((name, value)) = line.text.split_once(" = ") else {
+    let Some((name, value)) = line.code.split_once(" = ") else {
         return Ok(());
     };
     parts.push(Part::fixed(line.indent, name).before(" ="))?;
@@ -121,12 +121,12 @@ pub fn break_import<'a>(
     parts: &mut Vec<Part<'a>>,
     line: Part<'a>,
 ) -> Result<(), AllocError> {
-    let Some((module, rest)) = line.text.split_once('{') else {
+    let Some((module, rest)) = line.code.split_once('{') else {
         return Ok(());
     };
     let names = rest.strip_suffix("};").unwrap_or(rest);
     let front = line
-        .text
+        .code
         .get(..module.len().saturating_add(1))
         .unwrap_or("");
     parts.push(Part::fixed(line.indent, front))?;

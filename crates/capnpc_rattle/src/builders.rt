@@ -49,11 +49,11 @@ fn push_accessors(
         index = index.saturating_add(1);
         push_accessor(alloc, &mut accessors, site, owner, field, comment)?;
     }
-    if accessors.text.is_empty() {
+    if accessors.lines.is_empty() {
         return Ok(());
     }
     code.add_with(ACCESSORS, "path", owner.path.as_str())?;
-    code.text.push_str(accessors.text.as_str())?;
+    code.lines.push_str(accessors.lines.as_str())?;
     code.depth = code.depth.saturating_add(1);
     close_module(code)
 }

@@ -98,20 +98,20 @@ impl Cleared {
 
     // The code that clears all fields, a line for each.
     fn code(&self, alloc: Global) -> Result<String, AllocError> {
-        let mut text = String::new(alloc);
+        let mut lines = String::new(alloc);
         for (width, offset) in self.fields.as_slice() {
-            push_line(&mut text)?;
+            push_line(&mut lines)?;
             if *width == 1 {
-                write!(text, "self.draft.set_data_field({offset}, false);")?;
+                write!(lines, "self.draft.set_data_field({offset}, false);")?;
             } else {
-                write!(text, "self.draft.set_data_field::<u{width}>({offset}, 0);")?;
+                write!(lines, "self.draft.set_data_field::<u{width}>({offset}, 0);")?;
             }
         }
         for index in self.pointers.as_slice() {
-            push_line(&mut text)?;
-            write!(text, "self.draft.clear_pointer({index});")?;
+            push_line(&mut lines)?;
+            write!(lines, "self.draft.clear_pointer({index});")?;
         }
-        Ok(text)
+        Ok(lines)
     }
 
     // The code that sets these numbers of unions, and then clears all fields.
@@ -122,11 +122,11 @@ impl Cleared {
 }
 
 // Ends a line, if there is one.
-fn push_line(text: &mut String) -> Result<(), AllocError> {
-    if text.is_empty() {
+fn push_line(lines: &mut String) -> Result<(), AllocError> {
+    if lines.is_empty() {
         return Ok(());
     }
-    text.push('\n')
+    lines.push('\n')
 }
 
 // What the group of a site has, with the groups in it.

@@ -1,14 +1,14 @@
 //! Code that is written line by line, at a depth of modules.
 use std::alloc::{AllocError, Global};
 
-/// A name in a template, and the text that stands for it.
+/// A name in a template, and the value that stands for it.
 #[derive(Drop)]
 struct Hole {
     name: &'static str,
-    text: String,
+    value: String,
 }
 
-/// The texts that stand for names in a template. If memory is lacking for one of them, filling a
+/// The values that stand for names in a template. If memory is lacking for one of them, filling a
 /// template with these fails, so no call that adds one has to be tested.
 #[derive(Drop)]
 pub struct Holes {
@@ -19,7 +19,7 @@ pub struct Holes {
 }
 
 impl Holes {
-    /// No texts.
+    /// No values.
     pub fn new(alloc: Global) -> Holes {
         Holes {
             alloc,
@@ -28,27 +28,27 @@ impl Holes {
         }
     }
 
-    /// With one more text, which stands for this name.
-    pub fn with(self, name: &'static str, text: &str) -> Holes {
-        let text = String::from_str(self.alloc, text);
-        self.holding(name, text)
+    /// With one more value, which stands for this name.
+    pub fn with(self, name: &'static str, value: &str) -> Holes {
+        let value = String::from_str(self.alloc, value);
+        self.holding(name, value)
     }
 
-    /// With one more text, which is kept here, if there is one.
-    pub fn holding(mut self, name: &'static str, text: Result<String, AllocError>) -> Holes {
-        let is_kept = match text {
-            Ok(text) => self.holes.push(Hole { name, text }).is_ok(),
+    /// With one more value, which is kept here, if there is one.
+    pub fn holding(mut self, name: &'static str, value: Result<String, AllocError>) -> Holes {
+        let is_kept = match value {
+            Ok(value) => self.holes.push(Hole { name, value }).is_ok(),
             Err(_) => false,
         };
         self.is_whole = self.is_whole && is_kept;
         self
     }
 
-    // The text that stands for a name.
-    fn text_of(&self, name: &str) -> Option<&str> {
+    // The value that stands for a name.
+    fn value_of(&self, name: &str) -> Option<&str> {
         for hole in self.holes.as_slice() {
             if hole.name == name {
-                return Some(hole.text.as_str());
+                return Some(hole.value.as_str());
             }
         }
         None
@@ -59,7 +59,7 @@ impl Holes {
 #[derive(Drop)]
 pub struct Code {
     alloc: Global,
-    pub text: String,
+    pub lines: String,
     /// How many modules, and blocks of them, are open.
     pub depth: usize,
 }
@@ -69,13 +69,13 @@ impl Code {
     pub fn new(alloc: Global, depth: usize) -> Code {
         Code {
             alloc,
-            text: String::new(alloc),
+            lines: String::new(alloc),
             depth,
         }
     }
 
-    /// Adds the lines of a template, in which `@name@` stands for the text of that hole. If the
-    /// text has several lines, each of them begins where the line of the hole does.
+    /// Adds the lines of a template, in which `@name@` stands for the value of that hole. If the
+    /// value has several lines, each of them begins where the line of the hole does.
     pub fn add(&mut self, template: &str, holes: &Holes) -> Result<(), AllocError> {
         if !holes.is_whole {
             return Err(AllocError);
@@ -86,14 +86,14 @@ impl Code {
         Ok(())
     }
 
-    /// Adds the lines of a template with one name, in whose place this text is put.
+    /// Adds the lines of a template with one name, in whose place this value is put.
     pub fn add_with(
         &mut self,
         template: &str,
         name: &'static str,
-        text: &str,
+        value: &str,
     ) -> Result<(), AllocError> {
-        self.add(template, &Holes::new(self.alloc).with(name, text))
+        self.add(template, &Holes::new(self.alloc).with(name, value))
     }
 
     /// Adds lines as they are.
@@ -103,7 +103,7 @@ impl Code {
 
     /// Adds an empty line.
     pub fn add_gap(&mut self) -> Result<(), AllocError> {
-        self.text.push('\n')
+        self.lines.push('\n')
     }
 
     /// Adds a docstring of some lines.
@@ -130,28 +130,28 @@ impl Code {
             if is_hole {
                 self.add_hole(part, holes, spaces)?;
             } else {
-                self.text.push_str(part)?;
+                self.lines.push_str(part)?;
             }
             is_hole = !is_hole;
         }
-        self.text.push('\n')
+        self.lines.push('\n')
     }
 
-    // Adds the text of a hole, in a line that begins with some spaces. A hole without a text stays.
+    // Adds the value of a hole, in a line that begins with some spaces. A hole without a value stays.
     fn add_hole(&mut self, name: &str, holes: &Holes, spaces: usize) -> Result<(), AllocError> {
-        let Some(text) = holes.text_of(name) else {
-            self.text.push('@')?;
-            self.text.push_str(name)?;
-            return self.text.push('@');
+        let Some(value) = holes.value_of(name) else {
+            self.lines.push('@')?;
+            self.lines.push_str(name)?;
+            return self.lines.push('@');
         };
         let mut is_first = true;
-        for line in text.split('\n') {
+        for line in value.split('\n') {
             if !is_first {
-                self.text.push('\n')?;
+                self.lines.push('\n')?;
                 self.indent(spaces)?;
             }
             is_first = false;
-            self.text.push_str(line)?;
+            self.lines.push_str(line)?;
         }
         Ok(())
     }
@@ -159,29 +159,29 @@ impl Code {
     // Adds the spaces in front of a line, and some more.
     fn indent(&mut self, spaces: usize) -> Result<(), AllocError> {
         for _ in 0..self.depth {
-            self.text.push_str("    ")?;
+            self.lines.push_str("    ")?;
         }
         for _ in 0..spaces {
-            self.text.push(' ')?;
+            self.lines.push(' ')?;
         }
         Ok(())
     }
 }
 
-/// A template whose holes are filled, without a line's end after it. A hole without a text stays.
+/// A template whose holes are filled, without a line's end after it. A hole without a value stays.
 pub fn fill(alloc: Global, template: &str, holes: &Holes) -> Result<String, AllocError> {
     let mut code = Code::new(alloc, 0);
     code.add(template, holes)?;
-    let _ = code.text.pop();
-    Ok(code.text)
+    let _ = code.lines.pop();
+    Ok(code.lines)
 }
 
-/// A template with one name, in whose place this text is put.
+/// A template with one name, in whose place this value is put.
 pub fn fill_with(
     alloc: Global,
     template: &str,
     name: &'static str,
-    text: &str,
+    value: &str,
 ) -> Result<String, AllocError> {
-    fill(alloc, template, &Holes::new(alloc).with(name, text))
+    fill(alloc, template, &Holes::new(alloc).with(name, value))
 }

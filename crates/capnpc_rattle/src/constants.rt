@@ -215,11 +215,11 @@ fn enumerant_of(request: &Request, id: u64, number: u64) -> Option<&str> {
 
 // Bytes as they are written in code.
 fn byte_string(alloc: Global, bytes: &[u8]) -> Result<String, AllocError> {
-    let mut text = String::from_str(alloc, "b\"")?;
+    let mut literal = String::from_str(alloc, "b\"")?;
     for byte in bytes {
         let escaped = byte.escape_ascii().to_string(alloc)?;
-        text.push_str(escaped.as_str())?;
+        literal.push_str(escaped.as_str())?;
     }
-    text.push('"')?;
-    Ok(text)
+    literal.push('"')?;
+    Ok(literal)
 }

@@ -121,7 +121,7 @@ fn shown_either(
     )
 }
 
-// The text in the clause and the code of the getter, which returns a view by this name.
+// What is in the clause and in the code of the getter, which returns a view by this name.
 fn holes_of(alloc: Global, field: &Field, place: &Place, view: &str, views: &Views) -> Holes {
     Holes::new(alloc)
         .holding("offset", format!(in alloc; "{}", place.offset))

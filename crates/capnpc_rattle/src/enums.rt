@@ -47,8 +47,8 @@ pub fn lines_of(
         count = count.saturating_add(1);
     }
     code.add(last, &line_holes(alloc, type_name, count))?;
-    let _ = code.text.pop();
-    Ok(code.text)
+    let _ = code.lines.pop();
+    Ok(code.lines)
 }
 
 // What a line of an enum has, with the number of the line or of all of them.

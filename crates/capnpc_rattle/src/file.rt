@@ -46,9 +46,9 @@ pub fn code_of(alloc: Global, request: &Request, file: u64) -> Result<String, Al
     let mut code = Code::new(alloc, 0);
     let name = base_name(request.file_name(file).unwrap_or(""));
     code.add_with(FILE, "file", name)?;
-    push_definitions(alloc, &mut code, body.text.as_str())?;
-    code.text.push_str(body.text.as_str())?;
-    laid_out(alloc, code.text.as_str())
+    push_definitions(alloc, &mut code, body.lines.as_str())?;
+    code.lines.push_str(body.lines.as_str())?;
+    laid_out(alloc, code.lines.as_str())
 }
 
 // Adds the constants of a file or an interface, with what they import; the other declarations there
@@ -63,12 +63,12 @@ fn push_declared(
     let mut constants = Code::new(alloc, code.depth);
     push_constants(alloc, &mut constants, request, node)?;
     let mut imports = Code::new(alloc, code.depth);
-    push_imports(alloc, &mut imports, &[], constants.text.as_str())?;
-    if !imports.text.is_empty() {
+    push_imports(alloc, &mut imports, &[], constants.lines.as_str())?;
+    if !imports.lines.is_empty() {
         code.add_gap()?;
     }
-    code.text.push_str(imports.text.as_str())?;
-    code.text.push_str(constants.text.as_str())?;
+    code.lines.push_str(imports.lines.as_str())?;
+    code.lines.push_str(constants.lines.as_str())?;
     push_nested(steps, node)
 }
 

@@ -37,7 +37,7 @@ pub const DEFINITIONS: &[(&str, &[&str])] = &[
     ),
     ("capnp_orphans.specs.Copied", &["words_in", "Copies"]),
     (
-        "capnp_orphans.specs.Held",
+        "capnp_orphans.specs.Holds",
         &[
             "word_of",
             "HoldsStruct",
@@ -126,7 +126,7 @@ pub const DEFINITIONS: &[(&str, &[&str])] = &[
 // The trait of numbers.
 const PRIMITIVE_ELEMENT: &str = "capnp_wire::primitive_element::PrimitiveElement";
 
-/// What is imported if code contains a text.
+/// What is imported if code contains these characters.
 pub const ITEMS: &[(&str, &str)] = &[
     (" Result<", "capnp_frame::Result"),
     ("ReaderSegments", "capnp_frame::message::ReaderSegments"),

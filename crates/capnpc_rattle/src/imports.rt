@@ -15,9 +15,9 @@ pub fn is_definition(name: &str) -> bool {
 }
 
 /// Adds the lines that import what the clauses of some code cite.
-pub fn push_definitions(alloc: Global, code: &mut Code, text: &str) -> Result<(), AllocError> {
+pub fn push_definitions(alloc: Global, code: &mut Code, body: &str) -> Result<(), AllocError> {
     for (module, names) in DEFINITIONS {
-        push_cited(alloc, code, module, names, text)?;
+        push_cited(alloc, code, module, names, body)?;
     }
     Ok(())
 }
@@ -28,11 +28,11 @@ fn push_cited(
     code: &mut Code,
     module: &str,
     names: &[&str],
-    text: &str,
+    body: &str,
 ) -> Result<(), AllocError> {
     let mut found = String::new(alloc);
     for name in names {
-        if cites(text, word_of(name)) {
+        if cites(body, word_of(name)) {
             push_name(&mut found, name)?;
         }
     }
@@ -57,8 +57,8 @@ fn word_of<'a>(name: &'a str) -> &'a str {
 }
 
 // Whether a word is in code, outside of its comments.
-fn cites(text: &str, word: &str) -> bool {
-    for line in text.lines() {
+fn cites(body: &str, word: &str) -> bool {
+    for line in body.lines() {
         if line.contains(word)
             && !line.trim_start().starts_with("//")
             && (word == "[]" || line.split(is_between).any(|part| part == word))
@@ -86,19 +86,19 @@ fn push_name(list: &mut String, name: &str) -> Result<(), AllocError> {
 }
 
 /// Adds the lines that import what a module has: enums by these paths, and what is named in its
-/// text.
+/// code.
 pub fn push_imports(
     alloc: Global,
     code: &mut Code,
     enums: &[String],
-    text: &str,
+    body: &str,
 ) -> Result<(), AllocError> {
     let mut lines: Vec<(String, String)> = Vec::new(alloc);
     push_enums(alloc, &mut lines, enums)?;
-    push_items(alloc, &mut lines, text)?;
-    push_group(alloc, &mut lines, "capnp_orphans", ORPHANS, text)?;
-    push_group(alloc, &mut lines, "capnp_wire::traits", TRAITS, text)?;
-    push_group(alloc, &mut lines, "capnp_wire", VIEWS, text)?;
+    push_items(alloc, &mut lines, body)?;
+    push_group(alloc, &mut lines, "capnp_orphans", ORPHANS, body)?;
+    push_group(alloc, &mut lines, "capnp_wire::traits", TRAITS, body)?;
+    push_group(alloc, &mut lines, "capnp_wire", VIEWS, body)?;
     lines.sort()?;
     for (_, path) in lines.as_slice() {
         code.add_with("use @path@;", "path", path.as_str())?;
@@ -135,14 +135,14 @@ fn push_enums(
 fn push_items(
     alloc: Global,
     lines: &mut Vec<(String, String)>,
-    text: &str,
+    body: &str,
 ) -> Result<(), AllocError> {
     for (word, path) in ITEMS {
-        if text.contains(*word) {
+        if body.contains(*word) {
             push_line(alloc, lines, path)?;
         }
     }
-    push_words(alloc, lines, text)
+    push_words(alloc, lines, body)
 }
 
 // Adds the line that imports what a path leads to, with a key for its place among the others.
@@ -198,29 +198,29 @@ fn push_digits(key: &mut String, digits: &mut String) -> Result<(), AllocError> 
 fn push_words(
     alloc: Global,
     lines: &mut Vec<(String, String)>,
-    text: &str,
+    body: &str,
 ) -> Result<(), AllocError> {
-    if text.contains("OrDefault<") {
+    if body.contains("OrDefault<") {
         return push_line(alloc, lines, "capnp_wire::constant::{OrDefault, Words}");
     }
-    if text.contains(": Words<") {
+    if body.contains(": Words<") {
         return push_line(alloc, lines, "capnp_wire::constant::Words");
     }
     Ok(())
 }
 
-// Adds the line that imports from a module those of some names that occur in the text, each as it
+// Adds the line that imports from a module those of some names that occur in the code, each as it
 // is named there.
 fn push_group(
     alloc: Global,
     lines: &mut Vec<(String, String)>,
     module: &str,
     names: &[(&str, &str)],
-    text: &str,
+    body: &str,
 ) -> Result<(), AllocError> {
     let mut found = String::new(alloc);
     for (name, use_of) in names {
-        if is_named(text, use_of) {
+        if is_named(body, use_of) {
             push_name(&mut found, name)?;
         }
     }
@@ -245,10 +245,10 @@ fn push_names(
     push_line(alloc, lines, path.as_str())
 }
 
-// Whether the text contains a path that is no part of a longer one.
-fn is_named(text: &str, path: &str) -> bool {
+// Whether the code contains a path that is no part of a longer one.
+fn is_named(body: &str, path: &str) -> bool {
     let mut before: Option<&str> = None;
-    for part in text.split(path) {
+    for part in body.split(path) {
         if let Some(before) = before
             && !is_part(before)
         {
@@ -259,9 +259,9 @@ fn is_named(text: &str, path: &str) -> bool {
     false
 }
 
-// Whether what follows a text continues the path at its end.
-fn is_part(text: &str) -> bool {
-    match text.chars().next_back() {
+// Whether what follows some code continues the path at its end.
+fn is_part(before: &str) -> bool {
+    match before.chars().next_back() {
         Some(letter) => letter == ':' || letter == '_' || letter.is_ascii_alphanumeric(),
         None => false,
     }

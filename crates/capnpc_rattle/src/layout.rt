@@ -17,7 +17,7 @@ enum State {
 
 /// Code in the layout of `rt fmt`.
 pub fn laid_out(alloc: Global, code: &str) -> Result<String, AllocError> {
-    let mut text = String::new(alloc);
+    let mut lines = String::new(alloc);
     let mut state = State::Code;
     for line in code.lines() {
         let words = line.trim_start();
@@ -26,14 +26,14 @@ pub fn laid_out(alloc: Global, code: &str) -> Result<String, AllocError> {
         }
         if state == State::Code && !words.starts_with("//") {
             let indent = line.len().saturating_sub(words.len());
-            push_line(alloc, &mut text, indent, words)?;
+            push_line(alloc, &mut lines, indent, words)?;
         } else {
-            text.push_str(line)?;
-            text.push('\n')?;
+            lines.push_str(line)?;
+            lines.push('\n')?;
         }
         state = state_after(state, words);
     }
-    Ok(text)
+    Ok(lines)
 }
 
 // Whether a clause or a ghost item begins with a line.
@@ -69,12 +69,12 @@ fn open_after(mut open: usize, words: &str) -> usize {
 // Adds a line of code, broken if it is too wide.
 fn push_line(
     alloc: Global,
-    text: &mut String,
+    lines: &mut String,
     indent: usize,
     words: &str,
 ) -> Result<(), AllocError> {
     if words.is_empty() {
-        return text.push('\n');
+        return lines.push('\n');
     }
     let mut left: Vec<Part<'_>> = Vec::new(alloc);
     left.push(Part::of_line(indent, words))?;
@@ -83,7 +83,7 @@ fn push_line(
             break;
         };
         if part.fits() {
-            push_part(text, part)?;
+            push_part(lines, part)?;
             continue;
         }
         let mut parts = break_part(alloc, part)?;
@@ -98,12 +98,12 @@ fn push_line(
 }
 
 // Adds a part as a line.
-fn push_part(text: &mut String, part: Part<'_>) -> Result<(), AllocError> {
+fn push_part(lines: &mut String, part: Part<'_>) -> Result<(), AllocError> {
     for _ in 0..part.indent {
-        text.push(' ')?;
+        lines.push(' ')?;
     }
-    text.push_str(part.head)?;
-    text.push_str(part.text)?;
-    text.push_str(part.tail)?;
-    text.push('\n')
+    lines.push_str(part.head)?;
+    lines.push_str(part.code)?;
+    lines.push_str(part.tail)?;
+    lines.push('\n')
 }

@@ -90,7 +90,7 @@ fn run(rt: &HostRuntime) -> Result<ExitCode> {
         Err(_) => String::new(alloc),
     };
     match task_of(arguments.get(1..).unwrap_or(&[]), variable.as_str()) {
-        Task::Print(text) => print!(rt; "{text}")?,
+        Task::Print(output) => print!(rt; "{output}")?,
         Task::Write(folder, wanted) => write_into(alloc, rt, folder, wanted)?,
         Task::Reject(word) => {
             eprint!(rt; "capnpc-rattle: unknown word `{word}`\n{USAGE}")?;

@@ -10,15 +10,15 @@ use std::alloc::{AllocError, Global};
 pub fn owned_type(alloc: Global, site: Site<'_>, of: Type) -> Result<String, AllocError> {
     let inner = inner_type(alloc, site, of)?;
     let count = pointer_lists(of);
-    let mut text = String::new(alloc);
+    let mut path = String::new(alloc);
     for _ in 0..count {
-        text.push_str("capnp_wire::list_list::Owned<")?;
+        path.push_str("capnp_wire::list_list::Owned<")?;
     }
-    text.push_str(inner.as_str())?;
+    path.push_str(inner.as_str())?;
     for _ in 0..count {
-        text.push('>')?;
+        path.push('>')?;
     }
-    Ok(text)
+    Ok(path)
 }
 
 // How many lists of pointers there are around the innermost type.

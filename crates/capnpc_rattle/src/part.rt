@@ -9,7 +9,7 @@ const METHOD_WIDTH: usize = 60;
 /// The most columns of a line that imports names from one module.
 const IMPORT_WIDTH: usize = 98;
 
-/// What the text of a part is.
+/// What the code of a part is.
 #[derive(Clone, Copy, PartialEq, Eq)]
 pub enum Kind {
     Function,
@@ -23,31 +23,31 @@ pub enum Kind {
     Fixed,
 }
 
-/// A part of a line: a text that may be broken, with what comes before and after it.
+/// A part of a line: code that may be broken, with what comes before and after it.
 #[derive(Clone, Copy)]
 pub struct Part<'a> {
     pub indent: usize,
     pub head: &'a str,
-    pub text: &'a str,
+    pub code: &'a str,
     pub tail: &'a str,
     pub kind: Kind,
 }
 
 impl<'a> Part<'a> {
-    /// A part that has this text alone.
-    pub fn new(indent: usize, text: &'a str, kind: Kind) -> Part<'a> {
+    /// A part that has this code alone.
+    pub fn new(indent: usize, code: &'a str, kind: Kind) -> Part<'a> {
         Part {
             indent,
             head: "",
-            text,
+            code,
             tail: "",
             kind,
         }
     }
 
     /// A part that stays on one line.
-    pub fn fixed(indent: usize, text: &'a str) -> Part<'a> {
-        Part::new(indent, text, Kind::Fixed)
+    pub fn fixed(indent: usize, code: &'a str) -> Part<'a> {
+        Part::new(indent, code, Kind::Fixed)
     }
 
     /// A part that is a whole line.
@@ -84,8 +84,8 @@ impl<'a> Part<'a> {
     // With the end of a statement, an argument or a head as the tail.
     fn with_end_apart(self) -> Part<'a> {
         for end in [";", ",", " {"] {
-            if let Some(text) = self.text.strip_suffix(end) {
-                return Part { text, ..self }.before(end);
+            if let Some(code) = self.code.strip_suffix(end) {
+                return Part { code, ..self }.before(end);
             }
         }
         self
@@ -95,19 +95,19 @@ impl<'a> Part<'a> {
     pub fn width(&self) -> usize {
         self.indent
             .saturating_add(self.head.chars().count())
-            .saturating_add(self.text.chars().count())
+            .saturating_add(self.code.chars().count())
             .saturating_add(self.tail.chars().count())
     }
 
     /// Whether it calls a method of a field.
     pub fn is_method(&self) -> bool {
         self.kind == Kind::Expression
-            && (self.text.starts_with("self.fields.") || self.text.starts_with("self.draft."))
+            && (self.code.starts_with("self.fields.") || self.code.starts_with("self.draft."))
     }
 
     /// Whether it stays on one line.
     pub fn fits(&self) -> bool {
-        if self.is_method() && self.text.len() > METHOD_WIDTH {
+        if self.is_method() && self.code.len() > METHOD_WIDTH {
             return false;
         }
         match self.kind {

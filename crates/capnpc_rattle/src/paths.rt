@@ -25,21 +25,21 @@ fn path_into(
     file: &str,
     names: &[String],
 ) -> Result<String, AllocError> {
-    let mut text = String::new(alloc);
-    push_supers(&mut text, depth.saturating_add(1))?;
-    text.push_str(file)?;
-    text.push_str("::")?;
-    push_names(&mut text, names)?;
-    Ok(text)
+    let mut path = String::new(alloc);
+    push_supers(&mut path, depth.saturating_add(1))?;
+    path.push_str(file)?;
+    path.push_str("::")?;
+    push_names(&mut path, names)?;
+    Ok(path)
 }
 
 // The path from one module of a file to another.
 fn path_within(alloc: Global, from: &[String], to: &[String]) -> Result<String, AllocError> {
     let shared = shared_len(from, to);
-    let mut text = String::new(alloc);
-    push_supers(&mut text, from.len().saturating_sub(shared))?;
-    push_names(&mut text, to.get(shared..).unwrap_or(&[]))?;
-    Ok(text)
+    let mut path = String::new(alloc);
+    push_supers(&mut path, from.len().saturating_sub(shared))?;
+    push_names(&mut path, to.get(shared..).unwrap_or(&[]))?;
+    Ok(path)
 }
 
 /// Where a node is declared.
@@ -87,22 +87,22 @@ fn shared_len(from: &[String], to: &[String]) -> usize {
 }
 
 // Adds the path out of this many modules.
-fn push_supers(text: &mut String, count: usize) -> Result<(), AllocError> {
+fn push_supers(path: &mut String, count: usize) -> Result<(), AllocError> {
     for _ in 0..count {
-        text.push_str("super::")?;
+        path.push_str("super::")?;
     }
     Ok(())
 }
 
 // Adds names, one after the other.
-fn push_names(text: &mut String, names: &[String]) -> Result<(), AllocError> {
+fn push_names(path: &mut String, names: &[String]) -> Result<(), AllocError> {
     let mut is_first = true;
     for name in names {
         if !is_first {
-            text.push_str("::")?;
+            path.push_str("::")?;
         }
         is_first = false;
-        text.push_str(name.as_str())?;
+        path.push_str(name.as_str())?;
     }
     Ok(())
 }

@@ -55,8 +55,8 @@ fn structs_of(alloc: Global, request: &Request, table: &TypeTable) -> Result<Str
     for id in table.structs.as_slice() {
         push_struct(alloc, &mut code, request, table, *id)?;
     }
-    let _ = code.text.pop();
-    Ok(code.text)
+    let _ = code.lines.pop();
+    Ok(code.lines)
 }
 
 // Adds the lines of a struct.
@@ -80,7 +80,7 @@ fn push_struct(
     let holes = Holes::new(alloc)
         .with("name", node.name.as_str())
         .holding("discriminant", optional(alloc, body.discriminant))
-        .with("fields", fields.text.trim_end());
+        .with("fields", fields.lines.trim_end());
     code.add(STRUCT, &holes)
 }
 
@@ -168,14 +168,14 @@ fn default_of(alloc: Global, slot: &Slot) -> Result<String, AllocError> {
 
 // The default of a field of type `Data`.
 fn data_default(alloc: Global, bytes: &[u8]) -> Result<String, AllocError> {
-    let mut text = String::from_str(alloc, "Data(&[")?;
+    let mut code = String::from_str(alloc, "Data(&[")?;
     let mut before = "";
     for byte in bytes {
-        write!(text, "{before}{byte}")?;
+        write!(code, "{before}{byte}")?;
         before = ", ";
     }
-    text.push_str("])")?;
-    Ok(text)
+    code.push_str("])")?;
+    Ok(code)
 }
 
 // The lines of the enums.
@@ -185,8 +185,8 @@ fn enums_of(alloc: Global, request: &Request, table: &TypeTable) -> Result<Strin
         let holes = Holes::new(alloc).holding("names", names_of(alloc, shown_names(request, *id)));
         code.add(ENUM, &holes)?;
     }
-    let _ = code.text.pop();
-    Ok(code.text)
+    let _ = code.lines.pop();
+    Ok(code.lines)
 }
 
 // The names by which the enumerants of a node are shown.
@@ -199,11 +199,11 @@ fn shown_names(request: &Request, id: u64) -> &[String] {
 
 // Names, within quotation marks.
 fn names_of(alloc: Global, names: &[String]) -> Result<String, AllocError> {
-    let mut text = String::new(alloc);
+    let mut code = String::new(alloc);
     let mut before = "";
     for name in names {
-        write!(text, "{before}\"{name}\"")?;
+        write!(code, "{before}\"{name}\"")?;
         before = ", ";
     }
-    Ok(text)
+    Ok(code)
 }

@@ -52,26 +52,26 @@ pub fn tags_of(
 
 /// The code that sets these numbers, a line for each, and then sets a field with this call.
 pub fn code_of(alloc: Global, tags: &[(u32, u16)], call: &str) -> Result<String, AllocError> {
-    let mut text = String::new(alloc);
+    let mut lines = String::new(alloc);
     for (offset, number) in tags {
-        if !text.is_empty() {
-            text.push('\n')?;
+        if !lines.is_empty() {
+            lines.push('\n')?;
         }
         write!(
-            text,
+            lines,
             "self.draft.set_data_field::<u16>({offset}, {number});"
         )?;
     }
-    if !text.is_empty() && !call.is_empty() {
-        text.push('\n')?;
+    if !lines.is_empty() && !call.is_empty() {
+        lines.push('\n')?;
     }
-    text.push_str(call)?;
-    Ok(text)
+    lines.push_str(call)?;
+    Ok(lines)
 }
 
 /// Adds what the schema says of a field that is set; its name if that is nothing.
 pub fn push_comment(code: &mut Code, field: &Field, comment: &str) -> Result<(), AllocError> {
-    if !code.text.is_empty() {
+    if !code.lines.is_empty() {
         code.add_gap()?;
     }
     if comment.is_empty() {

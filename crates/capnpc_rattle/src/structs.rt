@@ -30,9 +30,9 @@ pub fn push_struct(
     push_reader(alloc, &mut inner, site, body)?;
     push_constants(alloc, &mut inner, request, node)?;
     let enums = enum_paths(alloc, site)?;
-    push_imports(alloc, code, enums.as_slice(), inner.text.as_str())?;
+    push_imports(alloc, code, enums.as_slice(), inner.lines.as_str())?;
     code.add_gap()?;
-    code.text.push_str(inner.text.as_str())
+    code.lines.push_str(inner.lines.as_str())
 }
 
 /// Opens the module of a node.

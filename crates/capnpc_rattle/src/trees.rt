@@ -9,8 +9,8 @@ use capnp_wire::{any_object, any_pointer, struct_list};
 use std::alloc::{AllocError, Global};
 use std::fmt::Write;
 
-/// The most bytes of a tree's text; the proof of a clause with a longer one takes a second and more.
-const MAX_TEXT: usize = 32768;
+/// The most bytes of a tree's code; the proof of a clause with a longer one takes a second and more.
+const MAX_TREE: usize = 32768;
 
 /// What is still to be written of a tree.
 #[derive(Drop)]
@@ -23,26 +23,26 @@ enum Step<'a, S: ReaderSegments> {
 
 /// A tree that is being written.
 #[derive(Drop)]
-struct TreeText<'a, S: ReaderSegments> {
-    text: String,
-    /// What follows the text, the next part last.
+struct TreeWriter<'a, S: ReaderSegments> {
+    written: String,
+    /// What follows what is written, the next part last.
     steps: Vec<Step<'a, S>>,
 }
 
-/// The tree that a pointer leads to. There is none where its text would be too long, and where a list
+/// The tree that a pointer leads to. There is none where its code would be too long, and where a list
 /// of structs in it is empty, of which no view says how large its elements are.
 pub fn tree_at<S: ReaderSegments>(
     alloc: Global,
     pointer: &any_pointer::Reader<'_, S>,
 ) -> Result<Option<String>> {
-    let mut tree = TreeText {
-        text: String::new(alloc),
+    let mut tree = TreeWriter {
+        written: String::new(alloc),
         steps: Vec::new(alloc),
     };
     tree.steps.push(Step::End(1))?;
     let mut is_known = tree.add_object(pointer)?;
     for _ in 0..u64::MAX {
-        if !is_known || is_full(tree.text.as_str()) {
+        if !is_known || is_full(tree.written.as_str()) {
             return Ok(None);
         }
         let Some(step) = tree.steps.pop() else {
@@ -53,28 +53,28 @@ pub fn tree_at<S: ReaderSegments>(
             Step::End(count) => tree.add_end(count)?,
         }
     }
-    Ok(Some(tree.text))
+    Ok(Some(tree.written))
 }
 
-// Whether a text is too long for a tree's, so that no more is added.
-fn is_full(text: &str) -> bool {
-    text.len() > MAX_TEXT
+// Whether what is written is too long for a tree, so that no more is added.
+fn is_full(written: &str) -> bool {
+    written.len() > MAX_TREE
 }
 
-impl<'a, S: ReaderSegments> TreeText<'a, S> {
+impl<'a, S: ReaderSegments> TreeWriter<'a, S> {
     // Adds the form of what a pointer leads to; its pointers, and the end of their trees, are still
     // to be written. Returns whether the form is known.
     fn add_object(&mut self, pointer: &any_pointer::Reader<'a, S>) -> Result<bool> {
-        self.text.push_str("(TreeOf ")?;
+        self.written.push_str("(TreeOf ")?;
         match pointer.get_as()? {
             any_object::Reader::Null => {
-                self.text.push_str("NullForm ")?;
+                self.written.push_str("NullForm ")?;
                 self.steps.push(Step::End(0))?;
             }
             any_object::Reader::Struct(fields) => self.add_struct(&fields)?,
             any_object::Reader::Structs(list) => return self.add_structs(&list),
             any_object::Reader::Pointers(list) => {
-                self.text.push_str("PointersForm ")?;
+                self.written.push_str("PointersForm ")?;
                 self.steps.push(Step::End(list.len()))?;
                 for index in (0..list.len()).rev() {
                     if let Some(pointer) = list.try_get(index) {
@@ -83,7 +83,7 @@ impl<'a, S: ReaderSegments> TreeText<'a, S> {
                 }
             }
             any_object::Reader::Numbers(numbers) => {
-                push_numbers(&mut self.text, &numbers)?;
+                push_numbers(&mut self.written, &numbers)?;
                 self.steps.push(Step::End(0))?;
             }
         }
@@ -92,9 +92,9 @@ impl<'a, S: ReaderSegments> TreeText<'a, S> {
 
     // Adds the form of a struct.
     fn add_struct(&mut self, fields: &StructReader<'a, S>) -> Result<(), AllocError> {
-        self.text.push_str("(StructForm ")?;
-        push_words(&mut self.text, fields)?;
-        self.text.push_str(") ")?;
+        self.written.push_str("(StructForm ")?;
+        push_words(&mut self.written, fields)?;
+        self.written.push_str(") ")?;
         self.steps.push(Step::End(fields.pointers() as u32))?;
         self.add_pointers(fields)
     }
@@ -113,15 +113,15 @@ impl<'a, S: ReaderSegments> TreeText<'a, S> {
             return Ok(false);
         };
         let (data_words, pointers) = (first.data_words(), first.pointers());
-        write!(self.text, "(StructsForm {data_words} {pointers} (")?;
+        write!(self.written, "(StructsForm {data_words} {pointers} (")?;
         for fields in list.iter() {
-            if is_full(self.text.as_str()) {
+            if is_full(self.written.as_str()) {
                 return Ok(false);
             }
-            push_words(&mut self.text, &fields)?;
-            self.text.push_str(" ∷ ")?;
+            push_words(&mut self.written, &fields)?;
+            self.written.push_str(" ∷ ")?;
         }
-        self.text.push_str("[])) ")?;
+        self.written.push_str("[])) ")?;
         let count = list.len().saturating_mul(pointers as u32);
         self.steps.push(Step::End(count))?;
         for index in (0..list.len()).rev() {
@@ -134,12 +134,12 @@ impl<'a, S: ReaderSegments> TreeText<'a, S> {
 
     // Adds the end of a list of trees.
     fn add_end(&mut self, count: u32) -> Result<(), AllocError> {
-        self.text.push_str("NoTrees")?;
+        self.written.push_str("NoTrees")?;
         for _ in 0..count {
-            self.text.push(')')?;
+            self.written.push(')')?;
         }
         if !self.steps.is_empty() {
-            self.text.push(' ')?;
+            self.written.push(' ')?;
         }
         Ok(())
     }
@@ -147,22 +147,22 @@ impl<'a, S: ReaderSegments> TreeText<'a, S> {
 
 // Adds the data words of a struct, as a list.
 fn push_words<S: ReaderSegments>(
-    text: &mut String,
+    written: &mut String,
     fields: &StructReader<'_, S>,
 ) -> Result<(), AllocError> {
     if fields.data_words() == 0 {
-        return text.push_str("[]");
+        return written.push_str("[]");
     }
-    text.push('(')?;
+    written.push('(')?;
     for index in 0..fields.data_words() {
         let word = fields.get_word(index);
-        write!(text, "{word:#x} ∷ ")?;
+        write!(written, "{word:#x} ∷ ")?;
     }
-    text.push_str("[])")
+    written.push_str("[])")
 }
 
 // Adds the form of a list of numbers.
-fn push_numbers(text: &mut String, numbers: &Numbers<'_>) -> Result<(), AllocError> {
+fn push_numbers(written: &mut String, numbers: &Numbers<'_>) -> Result<(), AllocError> {
     let code = match numbers.bits_of_each() {
         0 => 0,
         1 => 1,
@@ -172,45 +172,45 @@ fn push_numbers(text: &mut String, numbers: &Numbers<'_>) -> Result<(), AllocErr
         _ => 5,
     };
     if numbers.len() == 0 {
-        return write!(text, "(NumbersForm {code} []) ");
+        return write!(written, "(NumbersForm {code} []) ");
     }
-    write!(text, "(NumbersForm {code} (")?;
+    write!(written, "(NumbersForm {code} (")?;
     for index in 0..numbers.len() {
-        if is_full(text.as_str()) {
+        if is_full(written.as_str()) {
             break;
         }
         let number = numbers.get(index);
-        write!(text, "{number} ∷ ")?;
+        write!(written, "{number} ∷ ")?;
     }
-    text.push_str("[])) ")
+    written.push_str("[])) ")
 }
 
 /// The tree of a list of bytes, with a zero byte after them where it is a text.
 pub fn tree_of_bytes(alloc: Global, bytes: &[u8], is_text: bool) -> Result<String, AllocError> {
-    let mut text = String::from_str(alloc, "(TreeOf (NumbersForm 2 (")?;
+    let mut written = String::from_str(alloc, "(TreeOf (NumbersForm 2 (")?;
     for byte in bytes {
-        write!(text, "{byte} ∷ ")?;
+        write!(written, "{byte} ∷ ")?;
     }
-    text.push_str(if is_text { "0 ∷ []" } else { "[]" })?;
-    text.push_str(")) NoTrees NoTrees)")?;
-    Ok(text)
+    written.push_str(if is_text { "0 ∷ []" } else { "[]" })?;
+    written.push_str(")) NoTrees NoTrees)")?;
+    Ok(written)
 }
 
 /// A term in lines that are not too wide for a clause at some depth of modules.
 pub fn wrapped(alloc: Global, depth: usize, term: &str) -> Result<String, AllocError> {
     let width = WIDTH.saturating_sub(depth.saturating_mul(4).saturating_add(12));
-    let mut text = String::new(alloc);
+    let mut written = String::new(alloc);
     let mut column: usize = 0;
     for word in term.split(' ') {
         let letters = word.chars().count();
         if column.saturating_add(letters) > width && word != "∷" {
-            text.push('\n')?;
+            written.push('\n')?;
             column = 0;
-        } else if !text.is_empty() {
-            text.push(' ')?;
+        } else if !written.is_empty() {
+            written.push(' ')?;
         }
-        text.push_str(word)?;
+        written.push_str(word)?;
         column = column.saturating_add(letters).saturating_add(1);
     }
-    Ok(text)
+    Ok(written)
 }

@@ -94,7 +94,7 @@ impl Members {
         };
         let mut case = Code::new(alloc, 0);
         case.add(template, &holes.holding("fact", Ok(fact)))?;
-        self.cases.push_str(case.text.as_str())
+        self.cases.push_str(case.lines.as_str())
     }
 
     // The parameters of the enum, of those that its variants name.
@@ -105,27 +105,27 @@ impl Members {
         segments: &str,
     ) -> Result<String, AllocError> {
         let variants = self.variants.as_str();
-        let mut text = String::new(alloc);
+        let mut list = String::new(alloc);
         if variants.contains("'b") {
-            push_parameter(&mut text, borrow)?;
+            push_parameter(&mut list, borrow)?;
         }
         if variants.contains("'a") {
-            push_parameter(&mut text, "'a")?;
+            push_parameter(&mut list, "'a")?;
         }
         if variants.contains(" S>") || variants.contains(" S,") {
-            push_parameter(&mut text, segments)?;
+            push_parameter(&mut list, segments)?;
         }
-        if !text.is_empty() {
-            text.push('>')?;
+        if !list.is_empty() {
+            list.push('>')?;
         }
-        Ok(text)
+        Ok(list)
     }
 }
 
 // Adds a parameter to a list of them, which is open yet.
-fn push_parameter(text: &mut String, parameter: &str) -> Result<(), AllocError> {
-    text.push_str(if text.is_empty() { "<" } else { ", " })?;
-    text.push_str(parameter)
+fn push_parameter(list: &mut String, parameter: &str) -> Result<(), AllocError> {
+    list.push_str(if list.is_empty() { "<" } else { ", " })?;
+    list.push_str(parameter)
 }
 
 /// Adds the method that returns which member is set, for the union whose number is at this offset.

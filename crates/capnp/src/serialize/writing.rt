@@ -63,7 +63,7 @@ pub fn write_message_segments_to_words<S: ReaderSegments>(
     segments: &S,
 ) -> Result<Vec<u8>>
     requires { IsWritable (S.segments segments.now) }
-    ensures { ReturnsEncoding (S.segments segments.now) (λ text. text.items) result }
+    ensures { ReturnsEncoding (S.segments segments.now) (λ encoding. encoding.items) result }
 {
     segments_to_words(alloc, segments)
 }
@@ -73,7 +73,7 @@ pub fn write_message_segments_to_words<S: ReaderSegments>(
 /// Fails as `write_message_segments_to_words` does.
 pub fn write_message_to_words<M: BuiltMessage>(alloc: Global, message: &M) -> Result<Vec<u8>>
     requires { M.has_segment message.now }
-    ensures { ReturnsEncoding (M.segments message.now) (λ text. text.items) result }
+    ensures { ReturnsEncoding (M.segments message.now) (λ encoding. encoding.items) result }
 {
     message.can_be_written();
     write_message_segments_to_words(alloc, message)
@@ -85,8 +85,8 @@ pub fn write_message_to_words<M: BuiltMessage>(alloc: Global, message: &M) -> Re
 /// Fails with `MessageSizeOverflow` exactly where this number does not fit `usize`.
 pub fn compute_serialized_size_in_words<M: BuiltMessage>(message: &M) -> Result<usize>
     requires { M.has_segment message.now }
-    ensures bytes { IfOk result (λ words. (text : List ℕ) →
-        IsFrameEncoding (M.segments message.now) text → length text ≡ 8 * words) }
+    ensures bytes { IfOk result (λ words. (encoding : List ℕ) →
+        IsFrameEncoding (M.segments message.now) encoding → length encoding ≡ 8 * words) }
     ensures counts { CountsWords (M.segments message.now) result }
 {
     message.can_be_written();

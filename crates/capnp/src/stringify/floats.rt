@@ -6,31 +6,31 @@ use std::alloc::{AllocError, Global};
 /// normal one, and else in 8.
 ///
 /// Fails only where memory is lacking.
-pub fn push_float32(alloc: Global, text: &mut String, number: f32) -> Result<(), AllocError> {
+pub fn push_float32(alloc: Global, output: &mut String, number: f32) -> Result<(), AllocError> {
     if let Some(name) = name_of(f64::from(number)) {
-        return text.push_str(name);
+        return output.push_str(name);
     }
     let few = format!(in alloc; "{number:.5e}")?;
     if !is_subnormal(number) && few.as_str().parse::<f32>() == Ok(number) {
-        return push_digits(text, few.as_str(), 6);
+        return push_digits(output, few.as_str(), 6);
     }
     let more = format!(in alloc; "{number:.7e}")?;
-    push_digits(text, more.as_str(), 8)
+    push_digits(output, more.as_str(), 8)
 }
 
 /// Adds a float: in 15 significant digits where these are read as the same number, and else in 17.
 ///
 /// Fails only where memory is lacking.
-pub fn push_float64(alloc: Global, text: &mut String, number: f64) -> Result<(), AllocError> {
+pub fn push_float64(alloc: Global, output: &mut String, number: f64) -> Result<(), AllocError> {
     if let Some(name) = name_of(number) {
-        return text.push_str(name);
+        return output.push_str(name);
     }
     let few = format!(in alloc; "{number:.14e}")?;
     if few.as_str().parse::<f64>() == Ok(number) {
-        return push_digits(text, few.as_str(), 15);
+        return push_digits(output, few.as_str(), 15);
     }
     let more = format!(in alloc; "{number:.16e}")?;
-    push_digits(text, more.as_str(), 17)
+    push_digits(output, more.as_str(), 17)
 }
 
 // Whether a float is nearer to 0 than the smallest normal one.
@@ -51,14 +51,14 @@ fn name_of(number: f64) -> Option<&'static str> {
 
 // Adds a number that is written with an exponent, in this many digits, as C's `%g` writes it: with
 // an exponent below -4 and from the number of digits on, and without zeros at its end.
-fn push_digits(text: &mut String, written: &str, digits: i32) -> Result<(), AllocError> {
+fn push_digits(output: &mut String, written: &str, digits: i32) -> Result<(), AllocError> {
     let Some((mantissa, exponent)) = written.split_once('e') else {
-        return text.push_str(written);
+        return output.push_str(written);
     };
     let exponent = exponent.parse::<i32>().unwrap_or(0);
     let mantissa = match mantissa.strip_prefix("-") {
         Some(rest) => {
-            text.push('-')?;
+            output.push('-')?;
             rest
         }
         None => mantissa,
@@ -66,62 +66,62 @@ fn push_digits(text: &mut String, written: &str, digits: i32) -> Result<(), Allo
     let (first, rest) = mantissa.split_once('.').unwrap_or((mantissa, ""));
     let rest = rest.trim_end_matches('0');
     if exponent < -4 || exponent >= digits {
-        push_point(text, first, rest)?;
-        return push_exponent(text, exponent);
+        push_point(output, first, rest)?;
+        return push_exponent(output, exponent);
     }
     if exponent < 0 {
-        text.push_str("0.")?;
+        output.push_str("0.")?;
         for _ in exponent..-1 {
-            text.push('0')?;
+            output.push('0')?;
         }
-        text.push_str(first)?;
-        return text.push_str(rest);
+        output.push_str(first)?;
+        return output.push_str(rest);
     }
-    text.push_str(first)?;
-    push_moved(text, rest, exponent)
+    output.push_str(first)?;
+    push_moved(output, rest, exponent)
 }
 
 // Adds the digits before a point and those after it, if there are any.
-fn push_point(text: &mut String, whole: &str, fraction: &str) -> Result<(), AllocError> {
-    text.push_str(whole)?;
+fn push_point(output: &mut String, whole: &str, fraction: &str) -> Result<(), AllocError> {
+    output.push_str(whole)?;
     if !fraction.is_empty() {
-        text.push('.')?;
-        text.push_str(fraction)?;
+        output.push('.')?;
+        output.push_str(fraction)?;
     }
     Ok(())
 }
 
 // Adds the digits after the first one, the point after this many of them.
-fn push_moved(text: &mut String, digits: &str, count: i32) -> Result<(), AllocError> {
+fn push_moved(output: &mut String, digits: &str, count: i32) -> Result<(), AllocError> {
     let mut left = count;
     for digit in digits.chars() {
         if left == 0 {
-            text.push('.')?;
+            output.push('.')?;
         }
         left = left.saturating_sub(1);
-        text.push(digit)?;
+        output.push(digit)?;
     }
     for _ in 0..left {
-        text.push('0')?;
+        output.push('0')?;
     }
     Ok(())
 }
 
 // Adds an exponent in at least two digits.
-fn push_exponent(text: &mut String, exponent: i32) -> Result<(), AllocError> {
-    text.push('e')?;
+fn push_exponent(output: &mut String, exponent: i32) -> Result<(), AllocError> {
+    output.push('e')?;
     if exponent < 0 {
-        text.push('-')?;
+        output.push('-')?;
     }
     let number = exponent.unsigned_abs();
     if number < 10 {
-        text.push('0')?;
+        output.push('0')?;
     }
-    push_decimal(text, number)
+    push_decimal(output, number)
 }
 
 // Adds a number in decimal digits.
-fn push_decimal(text: &mut String, number: u32) -> Result<(), AllocError> {
+fn push_decimal(output: &mut String, number: u32) -> Result<(), AllocError> {
     use std::fmt::Write;
-    write!(text, "{number}")
+    write!(output, "{number}")
 }

@@ -51,19 +51,19 @@ pub fn escape_of_byte(byte: u8) -> Escape
 /// Adds a character, escaped in this way.
 ///
 /// Fails only where memory is lacking.
-pub fn push_escape(text: &mut String, character: char, escape: Escape) -> Result<(), AllocError>
-    ensures { OnOk result (string_bytes text.new
-        ≡ string_bytes text.old ++ escaped character escape) }
+pub fn push_escape(output: &mut String, character: char, escape: Escape) -> Result<(), AllocError>
+    ensures { OnOk result (string_bytes output.new
+        ≡ string_bytes output.old ++ escaped character escape) }
 {
     match escape {
-        Escape::Plain => text.push(character),
+        Escape::Plain => output.push(character),
         Escape::Letter(letter) => {
-            text.push('\\')?;
-            text.push(letter)
+            output.push('\\')?;
+            output.push(letter)
         }
         Escape::Number => {
             let number = character as u32;
-            write!(text, "\\{number:03o}")
+            write!(output, "\\{number:03o}")
         }
     }
 }
@@ -71,38 +71,38 @@ pub fn push_escape(text: &mut String, character: char, escape: Escape) -> Result
 /// Adds data, within quotation marks.
 ///
 /// Fails only where memory is lacking.
-pub fn push_data(text: &mut String, bytes: &[u8]) -> Result<(), AllocError>
-    ensures { OnOk result (AddsData bytes.now (string_bytes text.old) (string_bytes text.new)) }
+pub fn push_data(output: &mut String, bytes: &[u8]) -> Result<(), AllocError>
+    ensures { OnOk result (AddsData bytes.now (string_bytes output.old) (string_bytes output.new)) }
 {
-    text.push('"')?;
+    output.push('"')?;
     for byte in bytes {
-        push_escape(text, *byte as char, escape_of_byte(*byte))?;
+        push_escape(output, *byte as char, escape_of_byte(*byte))?;
     }
-    text.push('"')
+    output.push('"')
 }
 
-// Adds a text, within quotation marks.
-fn push_characters(text: &mut String, shown: &str) -> Result<(), AllocError>
-    ensures { OnOk result (AddsText shown.now (string_bytes text.old) (string_bytes text.new)) }
+// Adds a output, within quotation marks.
+fn push_characters(output: &mut String, shown: &str) -> Result<(), AllocError>
+    ensures { OnOk result (AddsText shown.now (string_bytes output.old) (string_bytes output.new)) }
 {
-    text.push('"')?;
+    output.push('"')?;
     for character in shown.chars() {
-        push_escape(text, character, escape_of(character))?;
+        push_escape(output, character, escape_of(character))?;
     }
-    text.push('"')
+    output.push('"')
 }
 
-/// Adds the bytes of a text, within quotation marks; as data where they are not UTF-8.
+/// Adds the bytes of a output, within quotation marks; as data where they are not UTF-8.
 ///
 /// Fails only where memory is lacking.
-pub fn push_text(text: &mut String, bytes: &[u8]) -> Result<(), AllocError>
+pub fn push_text(output: &mut String, bytes: &[u8]) -> Result<(), AllocError>
     ensures text { IsUtf8 bytes.now →
-        OnOk result (AddsText bytes.now (string_bytes text.old) (string_bytes text.new)) }
+        OnOk result (AddsText bytes.now (string_bytes output.old) (string_bytes output.new)) }
     ensures data { (IsUtf8 bytes.now → ⊥) →
-        OnOk result (AddsData bytes.now (string_bytes text.old) (string_bytes text.new)) }
+        OnOk result (AddsData bytes.now (string_bytes output.old) (string_bytes output.new)) }
 {
     match from_utf8(bytes) {
-        Ok(shown) => push_characters(text, shown),
-        Err(_) => push_data(text, bytes),
+        Ok(shown) => push_characters(output, shown),
+        Err(_) => push_data(output, bytes),
     }
 }

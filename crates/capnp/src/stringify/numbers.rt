@@ -43,28 +43,28 @@ pub fn bits_of<S: ReaderSegments>(
 /// Fails only where memory is lacking.
 pub fn push_bits(
     alloc: Global,
-    text: &mut String,
+    output: &mut String,
     schema: &Schema,
     base: Base,
     bits: u64,
 ) -> Result<(), AllocError>
     ensures { OnOk result (IfSome (shown_bits base bits)
-        (λ shown. string_bytes text.new ≡ string_bytes text.old ++ shown)) }
+        (λ shown. string_bytes output.new ≡ string_bytes output.old ++ shown)) }
 {
     match base {
-        Base::Bool => text.push_str(if bits == 0 { "false" } else { "true" }),
-        Base::Uint8 | Base::Uint16 | Base::Uint32 | Base::Uint64 => write!(text, "{bits}"),
+        Base::Bool => output.push_str(if bits == 0 { "false" } else { "true" }),
+        Base::Uint8 | Base::Uint16 | Base::Uint32 | Base::Uint64 => write!(output, "{bits}"),
         Base::Int8 | Base::Int16 | Base::Int32 | Base::Int64 => {
             let number = signed(base, bits);
-            write!(text, "{number}")
+            write!(output, "{number}")
         }
         Base::Float32 => {
             let number = f32_from_bits_with_nan((bits % 0x1_0000_0000) as u32);
-            push_float32(alloc, text, number)
+            push_float32(alloc, output, number)
         }
-        Base::Float64 => push_float64(alloc, text, f64_from_bits_with_nan(bits)),
-        Base::Enum(of) => push_enumerant(text, schema, of, (bits % 0x1_0000) as u16),
-        _ => text.push_str("void"),
+        Base::Float64 => push_float64(alloc, output, f64_from_bits_with_nan(bits)),
+        Base::Enum(of) => push_enumerant(output, schema, of, (bits % 0x1_0000) as u16),
+        _ => output.push_str("void"),
     }
 }
 
@@ -82,13 +82,13 @@ fn signed(base: Base, bits: u64) -> i64
 
 // Adds the name of an enumerant; its number in parentheses where the schema doesn't name it.
 fn push_enumerant(
-    text: &mut String,
+    output: &mut String,
     schema: &Schema,
     of: u32,
     number: u16,
 ) -> Result<(), AllocError> {
     match schema.enumerant(of, number) {
-        Some(name) => text.push_str(name),
-        None => write!(text, "({number})"),
+        Some(name) => output.push_str(name),
+        None => write!(output, "({number})"),
     }
 }

@@ -63,21 +63,21 @@ impl<'r, 'a, S: ReaderSegments> Walk<'r, 'a, S> {
     /// Begins the root, of the struct of this number, with this depth left within it.
     ///
     /// Fails only where memory is lacking.
-    pub fn open_root(&mut self, text: &mut String, of: u32, depth: u32) -> Result<(), AllocError> {
-        self.open_fields(text, of, false, depth)
+    pub fn open_root(&mut self, output: &mut String, of: u32, depth: u32) -> Result<(), AllocError> {
+        self.open_fields(output, of, false, depth)
     }
 
     /// Adds what comes next; returns false at the end.
     ///
     /// Fails only where memory is lacking.
-    pub fn go_on(&mut self, text: &mut String) -> Result<bool, AllocError> {
+    pub fn go_on(&mut self, output: &mut String) -> Result<bool, AllocError> {
         let Some(pending) = self.pending.pop() else {
             return Ok(false);
         };
         match pending {
-            Pending::Fields(fields) => self.push_next_field(text, fields)?,
-            Pending::Structs(elements) => self.push_next_struct(text, elements)?,
-            Pending::Pointers(elements) => self.push_next_pointer(text, elements)?,
+            Pending::Fields(fields) => self.push_next_field(output, fields)?,
+            Pending::Structs(elements) => self.push_next_struct(output, elements)?,
+            Pending::Pointers(elements) => self.push_next_pointer(output, elements)?,
         }
         Ok(true)
     }
@@ -90,7 +90,7 @@ impl<'r, 'a, S: ReaderSegments> Walk<'r, 'a, S> {
     // Begins a struct that is the current one, or a group of it.
     fn open_fields(
         &mut self,
-        text: &mut String,
+        output: &mut String,
         of: u32,
         is_group: bool,
         depth: u32,
@@ -102,16 +102,16 @@ impl<'r, 'a, S: ReaderSegments> Walk<'r, 'a, S> {
             is_group,
             depth,
         }))?;
-        text.push('(')
+        output.push('(')
     }
 
     // Adds the next field that is shown, or the end of a struct.
-    fn push_next_field(&mut self, text: &mut String, fields: Fields) -> Result<(), AllocError> {
+    fn push_next_field(&mut self, output: &mut String, fields: Fields) -> Result<(), AllocError> {
         let Some(field) = self.schema.field(fields.of, fields.next) else {
             if !fields.is_group {
                 let _ = self.structs.pop();
             }
-            return text.push(')');
+            return output.push(')');
         };
         let is_shown = is_shown(self.current(), self.schema.discriminant(fields.of), &field);
         self.pending.push(Pending::Fields(Fields {
@@ -125,22 +125,22 @@ impl<'r, 'a, S: ReaderSegments> Walk<'r, 'a, S> {
             return Ok(());
         }
         if !fields.is_first {
-            text.push_str(", ")?;
+            output.push_str(", ")?;
         }
-        text.push_str(field.name)?;
-        text.push_str(" = ")?;
-        self.push_field(text, &field, fields.depth)
+        output.push_str(field.name)?;
+        output.push_str(" = ")?;
+        self.push_field(output, &field, fields.depth)
     }
 
     // Adds the value of a field of the current struct.
     fn push_field(
         &mut self,
-        text: &mut String,
+        output: &mut String,
         field: &Field,
         depth: u32,
     ) -> Result<(), AllocError> {
         if let Base::Group(of) = field.of.base {
-            return self.open_fields(text, of, true, depth);
+            return self.open_fields(output, of, true, depth);
         }
         if !field.of.is_pointer() {
             let bits = bits_of(
@@ -149,64 +149,64 @@ impl<'r, 'a, S: ReaderSegments> Walk<'r, 'a, S> {
                 field.offset,
                 field.default_bits(),
             );
-            return push_bits(self.alloc, text, self.schema, field.of.base, bits);
+            return push_bits(self.alloc, output, self.schema, field.of.base, bits);
         }
         let pointer = self.current().get_pointer(field.pointer_index());
         match field.default {
-            DefaultValue::Text(default) if pointer.is_null() => push_text(text, default.as_bytes()),
-            DefaultValue::Data(default) if pointer.is_null() => push_data(text, default),
-            _ => self.push_pointer(text, pointer, field.of, depth),
+            DefaultValue::Text(default) if pointer.is_null() => push_text(output, default.as_bytes()),
+            DefaultValue::Data(default) if pointer.is_null() => push_data(output, default),
+            _ => self.push_pointer(output, pointer, field.of, depth),
         }
     }
 
     // Adds what a pointer leads to, or begins it.
     fn push_pointer(
         &mut self,
-        text: &mut String,
+        output: &mut String,
         pointer: any_pointer::Reader<'a, S>,
         of: Type,
         depth: u32,
     ) -> Result<(), AllocError> {
         if of.lists > 0 {
-            return self.open_list(text, pointer, of.element(), depth);
+            return self.open_list(output, pointer, of.element(), depth);
         }
         match of.base {
             Base::Text => match pointer.get_as::<text::Reader<'a>>() {
-                Ok(shown) => push_text(text, shown.as_bytes()),
-                Err(error) => push_error(text, &error),
+                Ok(shown) => push_text(output, shown.as_bytes()),
+                Err(error) => push_error(output, &error),
             },
             Base::Data => match pointer.get_as::<data::Reader<'a>>() {
-                Ok(bytes) => push_data(text, bytes),
-                Err(error) => push_error(text, &error),
+                Ok(bytes) => push_data(output, bytes),
+                Err(error) => push_error(output, &error),
             },
-            Base::Struct(of) => self.open_struct(text, pointer, of, depth),
-            Base::Interface => text.push_str("<external capability>"),
-            _ => text.push_str("<opaque pointer>"),
+            Base::Struct(of) => self.open_struct(output, pointer, of, depth),
+            Base::Interface => output.push_str("<external capability>"),
+            _ => output.push_str("<opaque pointer>"),
         }
     }
 
     // Begins a struct that a pointer leads to.
     fn open_struct(
         &mut self,
-        text: &mut String,
+        output: &mut String,
         pointer: any_pointer::Reader<'a, S>,
         of: u32,
         depth: u32,
     ) -> Result<(), AllocError> {
         if depth == 0 {
-            return text.push_str("(..)");
+            return output.push_str("(..)");
         }
         match pointer.get_as::<StructReader<'a, S>>() {
             Ok(fields) => {
                 self.structs.push(fields)?;
-                self.open_fields(text, of, false, depth.saturating_sub(1))
+                self.open_fields(output, of, false, depth.saturating_sub(1))
             }
-            Err(error) => push_error(text, &error),
+            Err(error) => push_error(output, &error),
         }
     }
 }
 
 // Adds an error in place of what can't be read.
-fn push_error(text: &mut String, error: &Error) -> Result<(), AllocError> {
-    write!(text, "<{error}>")
+fn push_error(output: &mut String, error: &Error) -> Result<(), AllocError> {
+    write!(output, "<{error}>")
 }

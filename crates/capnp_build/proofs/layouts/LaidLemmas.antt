@@ -94,5 +94,5 @@ laid_as spaces location form f children h traversed r there =
     let t = laid_root spaces location form children r in
     let same : tree form children none ≡ tree f h none = (one_tree (message spaces) (root ∷ []) (tree form children none) (tree f h none) t.0 traversed t.1 there).0 in
     let forms : form ≡ f = cc in
-    let helds : children ≡ h = cc in
-    subst (λ (x : Form). IsLaid spaces location x h) forms (subst (λ (x : Trees). IsLaid spaces location form x) helds r)
+    let same_children : children ≡ h = cc in
+    subst (λ (x : Form). IsLaid spaces location x h) forms (subst (λ (x : Trees). IsLaid spaces location form x) same_children r)

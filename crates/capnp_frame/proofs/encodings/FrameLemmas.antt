@@ -8,8 +8,8 @@ use Rattle.capnp_frame.specs.declared.serialize.segment_table.Padding.TheVariant
 use Rattle.capnp_frame.proofs.tables.TableLemmas.{length-fields, any_table, zero_table, zeros_kept}
 use Rattle.std.proofs.lemmas.List.Sums.{sum_by-cons}
 
-pub length-table : {rule : Padding} (text ns : List ℕ) → IsTable rule text ns → length text ≡ 8 + 8 * (length ns / 2)
-length-table text ns table =
+pub length-table : {rule : Padding} (encoding ns : List ℕ) → IsTable rule encoding ns → length encoding ≡ 8 + 8 * (length ns / 2)
+length-table encoding ns table =
     let some = table.can.some in
     let padded = table.padded in
     omega (arith, ap length table.spelled, length-append (field (length ns - 1) ++ flat_map field ns) table.padding, length-append (field (length ns - 1)) (flat_map field ns), length-fields ns)
@@ -21,8 +21,8 @@ length-segments (s ∷ ss) whole =
     let total : size_in_words (s ∷ ss) ≡ word_count s + size_in_words ss = sum_by-cons (λ x. x) (word_count s) (lengths ss) in
     omega (arith, length-append s (concat ss), length-segments ss whole.1)
 
-pub MessageFound-from_frame : {rule : Padding} (text rest : List ℕ) (segments : List (List ℕ)) → IsFrame rule text segments → MessageFound rule Splits segments (text ++ rest) rest
-MessageFound-from_frame {rule} text rest segments frame =
+pub MessageFound-from_frame : {rule : Padding} (encoding rest : List ℕ) (segments : List (List ℕ)) → IsFrame rule encoding segments → MessageFound rule Splits segments (encoding ++ rest) rest
+MessageFound-from_frame {rule} encoding rest segments frame =
     let head = frame.table in
     let long = length-table head (lengths segments) frame.lengths_declared in
     let whole : take 8 head ++ drop 8 head ≡ head = take-append-drop 8 head in
@@ -45,7 +45,7 @@ MessageFound-from_frame {rule} text rest segments frame =
       whole = frame.whole;
     }
 
-pub frame_from_requests : {rule : Padding} (raw rest : List ℕ) (segments : List (List ℕ)) → MessageFound rule Splits segments raw rest → (text : List ℕ) × IsFrame rule text segments × (raw ≡ text ++ rest)
+pub frame_from_requests : {rule : Padding} (raw rest : List ℕ) (segments : List (List ℕ)) → MessageFound rule Splits segments raw rest → (encoding : List ℕ) × IsFrame rule encoding segments × (raw ≡ encoding ++ rest)
 frame_from_requests raw rest segments sent =
     let head = sent.table.first ++ sent.table.others in (
       head ++ concat segments,
@@ -73,22 +73,22 @@ frame_bytes_are rule segments can whole = record {
   spelled = refl;
 }
 
-pub plain_requests : (rule : Padding) (segments : List (List ℕ)) (raw rest : List ℕ) → MessageFound rule Splits segments raw rest ↔ ((text : List ℕ) × IsFrame rule text segments × (raw ≡ text ++ rest))
+pub plain_requests : (rule : Padding) (segments : List (List ℕ)) (raw rest : List ℕ) → MessageFound rule Splits segments raw rest ↔ ((encoding : List ℕ) × IsFrame rule encoding segments × (raw ≡ encoding ++ rest))
 plain_requests rule segments raw rest = (
   frame_from_requests raw rest segments,
-  λ (text, frame, e). subst (λ l. MessageFound rule Splits segments l rest) (sym e) (MessageFound-from_frame text rest segments frame),
+  λ (encoding, frame, e). subst (λ l. MessageFound rule Splits segments l rest) (sym e) (MessageFound-from_frame encoding rest segments frame),
 )
 
 -- a table of zero padding, as one of any padding
-pub zero_table_is : (text ns : List ℕ) → IsTable Zero text ns ↔ (IsTable Any text ns × (text ≡ zero_padded_table ns))
-zero_table_is text ns = (
-  λ table. (any_table text ns table, zero_table text ns table),
+pub zero_table_is : (encoding ns : List ℕ) → IsTable Zero encoding ns ↔ (IsTable Any encoding ns × (encoding ≡ zero_padded_table ns))
+zero_table_is encoding ns = (
+  λ table. (any_table encoding ns table, zero_table encoding ns table),
   λ (table, is). subst (λ l. IsTable Zero l ns) (sym is) (zero_padded_is Zero ns table.can),
 )
 
 -- a frame by a rule is one of any padding
-pub any_frame : {rule : Padding} (text : List ℕ) (segments : List (List ℕ)) → IsFrame rule text segments → IsFrame Any text segments
-any_frame text segments frame = record {
+pub any_frame : {rule : Padding} (encoding : List ℕ) (segments : List (List ℕ)) → IsFrame rule encoding segments → IsFrame Any encoding segments
+any_frame encoding segments frame = record {
   table = frame.table;
   lengths_declared = any_table frame.table (lengths segments) frame.lengths_declared;
   whole = frame.whole;
@@ -96,5 +96,5 @@ any_frame text segments frame = record {
 }
 
 -- and one of zero padding is the one that is written
-pub zero_frame : (text : List ℕ) (segments : List (List ℕ)) → IsFrame Zero text segments → text ≡ frame_bytes segments
-zero_frame text segments frame = frame.spelled ∙ ap (λ l. l ++ concat segments) (zero_table frame.table (lengths segments) frame.lengths_declared)
+pub zero_frame : (encoding : List ℕ) (segments : List (List ℕ)) → IsFrame Zero encoding segments → encoding ≡ frame_bytes segments
+zero_frame encoding segments frame = frame.spelled ∙ ap (λ l. l ++ concat segments) (zero_table frame.table (lengths segments) frame.lengths_declared)

@@ -12,7 +12,7 @@ use Rattle.capnp_frame.specs.declared.serialize.segment_table.Padding.TheVariant
 use Rattle.capnp_frame.proofs.tables.Ranges.{concat-cut, length-cut}
 use Rattle.capnp_frame.proofs.encodings.RequestLemmas.{lengths-cut}
 use Rattle.capnp_frame.proofs.encodings.FrameLemmas.{length-table, length-segments}
-use Rattle.capnp_frame.proofs.encodings.TextLemmas.{frames_part}
+use Rattle.capnp_frame.proofs.encodings.EncodingLemmas.{frames_part}
 use Rattle.capnp_frame.proofs.sinks.WritingLemmas.{length-lengths}
 use Rattle.capnp_frame.proofs.tables.DeclaredTables.{length-declared, table_is, Declared, declared_from_table}
 
@@ -33,8 +33,8 @@ pub record Found (rule : Padding) (bytes : List ℕ) (count : ℕ) : Type 0 wher
   pub begins : HasFrame rule bytes (declared_segments count bytes) (drop (table_size count + 8 * sum (declared_lengths count bytes)) bytes)
   pub lengths_are : lengths (declared_segments count bytes) ≡ declared_lengths count bytes
 
-pub found_from_held : (rule : Padding) (bytes : List ℕ) (count : ℕ) → HoldsMessage bytes count → KeepsPadding rule (declared_padding count bytes) → Found rule bytes count
-found_from_held rule bytes count holds kept =
+pub found_from_holds : (rule : Padding) (bytes : List ℕ) (count : ℕ) → HoldsMessage bytes count → KeepsPadding rule (declared_padding count bytes) → Found rule bytes count
+found_from_holds rule bytes count holds kept =
     let ns = declared_lengths count bytes in
     let size = table_size count in
     let total = 8 * sum ns in
@@ -45,10 +45,10 @@ found_from_held rule bytes count holds kept =
     let parts = lengths-cut ns body long in
     let are : lengths (declared_segments count bytes) ≡ ns = ap lengths same ∙ parts.0 in
     let joined : concat (declared_segments count bytes) ≡ body = ap concat same ∙ concat-cut ns body long in
-    let text = take (size + total) bytes in
+    let encoding = take (size + total) bytes in
     record {
       begins = (
-        text,
+        encoding,
         record {
           table = take size bytes;
           lengths_declared = subst (IsTable rule (take size bytes)) (sym are) (table_is rule bytes count holds.table kept);
@@ -61,7 +61,7 @@ found_from_held rule bytes count holds kept =
     }
 
 -- and a message at its front is one that it has after a table
-pub record Held (rule : Padding) (bytes : List ℕ) (segments : List (List ℕ)) : Type 0 where
+pub record HoldsFront (rule : Padding) (bytes : List ℕ) (segments : List (List ℕ)) : Type 0 where
   pub holds : HoldsMessage bytes (length segments)
   pub lengths_are : declared_lengths (length segments) bytes ≡ lengths segments
   pub padding : KeepsPadding rule (declared_padding (length segments) bytes)
@@ -69,8 +69,8 @@ pub record Held (rule : Padding) (bytes : List ℕ) (segments : List (List ℕ))
   pub segments_are : declared_segments (length segments) bytes ≡ segments
   pub rest_is : (rest : List ℕ) → HasFrame rule bytes segments rest → rest ≡ drop (table_size (length segments) + 8 * size_in_words segments) bytes
 
-pub held_from_begins : (rule : Padding) (bytes : List ℕ) (segments : List (List ℕ)) (rest : List ℕ) (limit : Option ℕ) → HasFrame rule bytes segments rest → IsWithin segments limit → Held rule bytes segments
-held_from_begins rule bytes segments rest limit (text, frame, is) within =
+pub holds_from_begins : (rule : Padding) (bytes : List ℕ) (segments : List (List ℕ)) (rest : List ℕ) (limit : Option ℕ) → HasFrame rule bytes segments rest → IsWithin segments limit → HoldsFront rule bytes segments
+holds_from_begins rule bytes segments rest limit (encoding, frame, is) within =
     let many = length-lengths segments in
     let few = within.few in
     let bytes_are : bytes ≡ frame.table ++ (concat segments ++ rest) = is ∙ ap (λ l. l ++ rest) frame.spelled ∙ append_assoc frame.table (concat segments) rest in
@@ -86,7 +86,7 @@ held_from_begins rule bytes segments rest limit (text, frame, is) within =
     let total : sum (declared_lengths (length segments) bytes) ≡ size_in_words segments = ap sum declared_are in
     let holds : HoldsMessage bytes (length segments) = record { table = tells; room = omega arith } in
     let kept : KeepsPadding rule (declared_padding (length segments) bytes) = subst (λ k. KeepsPadding rule (declared_padding k bytes)) many declared.padding in
-    let found = found_from_held rule bytes (length segments) holds kept in
+    let found = found_from_holds rule bytes (length segments) holds kept in
     let parts = λ (left : List ℕ) (begins : HasFrame rule bytes segments left). frames_part found.begins.0 begins.0
     (drop (table_size (length segments) + 8 * sum (declared_lengths (length segments) bytes)) bytes) left
     (declared_segments (length segments) bytes) segments found.begins.1 begins.1 (sym found.begins.2 ∙ begins.2) in
@@ -95,7 +95,7 @@ held_from_begins rule bytes segments rest limit (text, frame, is) within =
       lengths_are = declared_are;
       padding = kept;
       count = declared.count ∙ many;
-      segments_are = (parts rest (text, frame, is)).1;
+      segments_are = (parts rest (encoding, frame, is)).1;
       rest_is = λ left begins. sym (parts left begins).2 ∙ ap (λ k. drop (table_size (length segments) + 8 * k) bytes) total;
     }
 
@@ -105,7 +105,7 @@ within_declared bytes count limit holds keeps =
     let len = length-declared count bytes in
     let some = holds.table.some in
     let few = holds.table.few in
-    subst (λ l. AreWithin l limit) (sym (found_from_held Any bytes count holds tt).lengths_are) (record { some = omega arith; few = omega arith; each = holds.table.lengths.each; size = keeps })
+    subst (λ l. AreWithin l limit) (sym (found_from_holds Any bytes count holds tt).lengths_are) (record { some = omega arith; few = omega arith; each = holds.table.lengths.each; size = keeps })
 
 pub length-declared_segments : (count : ℕ) (bytes : List ℕ) → length (declared_segments count bytes) ≡ count
 length-declared_segments count bytes = length-cut (declared_lengths count bytes) (drop (table_size count) bytes) ∙ length-declared count bytes

@@ -12,7 +12,7 @@ use Rattle.capnp_frame.specs.Prelude.{lengths, size_in_words, FitsField, zero_pa
 use Rattle.capnp_frame.specs.declared.serialize.segment_table.Padding.TheVariants.{Zero}
 use Rattle.capnp_frame.proofs.encodings.FrameLemmas.{zero_padded_is, length-table, length-segments}
 use Rattle.capnp_frame.proofs.sources.AskLemmas.{never_fails}
-use Rattle.capnp_frame.proofs.encodings.TextLemmas.{chunks_joined}
+use Rattle.capnp_frame.proofs.encodings.EncodingLemmas.{chunks_joined}
 use Rattle.capnp_frame.proofs.sinks.WritingLemmas.{parts_one, parts_two, length-lengths}
 
 pub HasTable-writable : (segments : List (List ℕ)) → IsWritable segments → HasTable (lengths segments)

@@ -22,12 +22,12 @@ left_none : (appends : Appending) (leaves : Leaving) (xs : List (List ℕ)) → 
 left_none appends leaves [] = refl
 left_none appends leaves (x ∷ xs) = inl refl
 
-pub left_front : (appends : Appending) (leaves : Leaving) (xs ys : List (List ℕ)) (text : List ℕ)
-    → LeavesSome appends leaves xs text → LeavesSome appends leaves (xs ++ ys) text
-left_front appends leaves [] ys text p = subst (LeavesSome appends leaves ys) (sym p) (left_none appends leaves ys)
-left_front appends leaves (x ∷ xs) ys text (inl p) = inl p
-left_front appends leaves (x ∷ xs) ys text (inr (inl p)) = inr (inl p)
-left_front appends leaves (x ∷ xs) ys text (inr (inr p)) = inr (inr (p.0, p.1, p.2, left_front appends leaves xs ys p.1 p.3, p.4))
+pub left_front : (appends : Appending) (leaves : Leaving) (xs ys : List (List ℕ)) (added : List ℕ)
+    → LeavesSome appends leaves xs added → LeavesSome appends leaves (xs ++ ys) added
+left_front appends leaves [] ys added p = subst (LeavesSome appends leaves ys) (sym p) (left_none appends leaves ys)
+left_front appends leaves (x ∷ xs) ys added (inl p) = inl p
+left_front appends leaves (x ∷ xs) ys added (inr (inl p)) = inr (inl p)
+left_front appends leaves (x ∷ xs) ys added (inr (inr p)) = inr (inr (p.0, p.1, p.2, left_front appends leaves xs ys p.1 p.3, p.4))
 
 pub left_after : (appends : Appending) (leaves : Leaving) (xs ys : List (List ℕ)) (s t : List ℕ)
     → AppendsAll appends xs s → LeavesSome appends leaves ys t → LeavesSome appends leaves (xs ++ ys) (s ++ t)
@@ -66,13 +66,13 @@ left_at appends leaves xs i x a b c here before remains =
     (left_following appends leaves (take i xs) (x ∷ []) a b c before (left_one appends leaves x b c remains)))
 
 -- at a plain sink it is a front of the chunks, joined
-pub left_is_front : (leaves : Leaving) → ((chunk text : List ℕ) → leaves chunk text → IsFront text chunk) → (xs : List (List ℕ)) (text : List ℕ)
-    → LeavesSome AppendsSame leaves xs text → IsFront text (concat xs)
-left_is_front leaves within [] text p = ([], sym (append-nil text ∙ p))
-left_is_front leaves within (x ∷ xs) text (inl p) = (concat (x ∷ xs), sym (ap (λ l. l ++ concat (x ∷ xs)) p))
-left_is_front leaves within (x ∷ xs) text (inr (inl p)) = let (tail, e) = within x text p in
-    (tail ++ concat xs, ap (λ l. l ++ concat xs) e ∙ append_assoc text tail (concat xs))
-left_is_front leaves within (x ∷ xs) text (inr (inr p)) = let (tail, e) = left_is_front leaves within xs p.1 p.3 in
+pub left_is_front : (leaves : Leaving) → ((chunk added : List ℕ) → leaves chunk added → IsFront added chunk) → (xs : List (List ℕ)) (added : List ℕ)
+    → LeavesSome AppendsSame leaves xs added → IsFront added (concat xs)
+left_is_front leaves within [] added p = ([], sym (append-nil added ∙ p))
+left_is_front leaves within (x ∷ xs) added (inl p) = (concat (x ∷ xs), sym (ap (λ l. l ++ concat (x ∷ xs)) p))
+left_is_front leaves within (x ∷ xs) added (inr (inl p)) = let (tail, e) = within x added p in
+    (tail ++ concat xs, ap (λ l. l ++ concat xs) e ∙ append_assoc added tail (concat xs))
+left_is_front leaves within (x ∷ xs) added (inr (inr p)) = let (tail, e) = left_is_front leaves within xs p.1 p.3 in
     (tail, ap (λ l. x ++ l) e ∙ sym (append_assoc x p.1 tail) ∙ ap (λ l. l ++ tail) (ap (λ l. l ++ p.1) (sym p.2) ∙ sym p.4))
 
 -- Writing

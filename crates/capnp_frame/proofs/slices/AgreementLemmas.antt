@@ -9,7 +9,7 @@ use Rattle.capnp_frame.specs.declared.serialize.segment_table.Padding.{Padding}
 use Rattle.capnp_frame.specs.Prelude.{table_size, KeepsPadding, KeepsLimit, Unless, IsOutOfRange, IsTooLarge, HasFrame, number, declared_lengths, declared_padding, FlatForm, by_words, by_fields, empty_kind, cut_kind, count_end, count_of, lengths_end, LengthsError, FlatError}
 use Rattle.capnp_frame.proofs.errors.StreamErrorLemmas.{Unless-after, in_range, within_limit}
 use Rattle.capnp_frame.proofs.tables.PaddingLemmas.{padding_cases}
-use Rattle.capnp_frame.proofs.encodings.TextLemmas.{frames_part}
+use Rattle.capnp_frame.proofs.encodings.EncodingLemmas.{frames_part}
 use Rattle.capnp_frame.proofs.slices.FlatLemmas.{cut_first, count_out, cut_lengths, past_lengths, cut_segments}
 
 -- what every form accepts
@@ -161,8 +161,8 @@ flat_agree form other rule limit kind bytes each errors = elim (error_or_accepte
 ]
 
 pub one_at_a_front : (rule also : Padding) (bytes rest left : List ℕ) (segments others : List (List ℕ)) → HasFrame rule bytes segments rest → HasFrame also bytes others left → (segments ≡ others) × (rest ≡ left)
-one_at_a_front rule also bytes rest left segments others (text, frame, is) (other, so, are) =
-    let parts = frames_part text other rest left segments others frame so (sym is ∙ are) in
+one_at_a_front rule also bytes rest left segments others (encoding, frame, is) (other, so, are) =
+    let parts = frames_part encoding other rest left segments others frame so (sym is ∙ are) in
     (parts.1, parts.2)
 
 pub index_below : (segments : List (List ℕ)) (index : ℕ) → IsSome (slice_get segments index) ↔ (index < length segments)

@@ -12,7 +12,7 @@ use Rattle.capnp_frame.specs.Prelude.{field, table_size, KeepsPadding, IsTable, 
 use Rattle.capnp_frame.proofs.tables.TableLemmas.{count_declared}
 use Rattle.capnp_frame.proofs.encodings.FrameLemmas.{length-table}
 use Rattle.capnp_frame.proofs.tables.DeclaredTables.{number-field, table_is, Declared, declared_from_table}
-use Rattle.capnp_frame.proofs.encodings.FrontMessages.{held_from_begins}
+use Rattle.capnp_frame.proofs.encodings.FrontMessages.{holds_from_begins}
 use Rattle.capnp_frame.proofs.errors.StreamErrorLemmas.{Unless-once, Unless-after, in_range, within_limit}
 
 -- one line at most is the first that holds
@@ -85,22 +85,22 @@ counted by_fields last count declared few = declared
 pub frame_counted : (form : FlatForm) (rule : Padding) (limit : Option ℕ) (bytes : List ℕ) (segments : List (List ℕ)) (rest : List ℕ)
     → HasFrame rule bytes segments rest → IsWithin segments limit → count_of form (number bytes) ≡ length segments
 frame_counted form rule limit bytes segments rest begins within =
-    let held = held_from_begins rule bytes segments rest limit begins within in
-    counted form (number bytes) (length segments) held.count held.holds.table.few
+    let front = holds_from_begins rule bytes segments rest limit begins within in
+    counted form (number bytes) (length segments) front.count front.holds.table.few
 
 -- and there no line holds
 pub FlatError-apart : (form : FlatForm) (rule : Padding) (limit : Option ℕ) (kind : ErrorKind) (bytes : List ℕ)
     (segments : List (List ℕ)) (rest : List ℕ) → HasFrame rule bytes segments rest → IsWithin segments limit
     → FlatError form rule limit kind bytes → ⊥
 FlatError-apart form rule limit kind bytes segments rest begins within =
-    let held = held_from_begins rule bytes segments rest limit begins within in
+    let front = holds_from_begins rule bytes segments rest limit begins within in
     let count = length segments in
-    let declared = held.count in
-    let few = held.holds.table.few in
-    let some = held.holds.table.some in
-    let room = held.holds.room in
+    let declared = front.count in
+    let few = front.holds.table.few in
+    let some = front.holds.table.some in
+    let room = front.holds.room in
     let declared_count : count_of form (number bytes) ≡ count = counted form (number bytes) count declared few in
-    let keeps : KeepsLimit (declared_lengths count bytes) limit = subst (λ l. KeepsLimit l limit) (sym held.lengths_are) within.size in
+    let keeps : KeepsLimit (declared_lengths count bytes) limit = subst (λ l. KeepsLimit l limit) (sym front.lengths_are) within.size in
     let fewest = first_end form count some in
     let less = within_table form count in
     Unless-after (λ none. absurd (omega (arith, ap length none)))
@@ -108,7 +108,7 @@ FlatError-apart form rule limit kind bytes segments rest begins within =
     let counted_so : FlatCountError form rule limit kind bytes count = subst (FlatCountError form rule limit kind bytes) declared_count x in
     Unless-after (in_range count some few) (Unless-after (λ short. absurd (omega arith))
     (Unless-after (within_limit (declared_lengths count bytes) limit keeps)
-    (Unless-after (λ short. absurd (omega arith)) (Unless-after (λ rejected. rejected held.padding)
+    (Unless-after (λ short. absurd (omega arith)) (Unless-after (λ rejected. rejected front.padding)
     (λ cuts. let short = cuts.0 in absurd (omega arith))))))
     counted_so))
   where

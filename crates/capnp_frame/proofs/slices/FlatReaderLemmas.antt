@@ -7,13 +7,13 @@ use Rattle.capnp_frame.specs.declared.error.ErrorKind.{ErrorKind}
 use Rattle.capnp_frame.specs.declared.error.ErrorKind.TheVariants.{OutOfMemory}
 use Rattle.capnp_frame.specs.declared.serialize.segment_table.Padding.{Padding}
 use Rattle.capnp_frame.specs.Prelude.{table_size, KeepsPadding, KeepsLimit, number, declared_lengths, declared_padding, declared_segments, HoldsMessage, FlatForm, by_words, by_fields, count_of, AcceptsSeveral, FlatError, FlatRules, FoundBy, RulesError, Leaves, OrOutOfMemory, AcceptsFlat, ReadsFlat}
-use Rattle.capnp_frame.proofs.encodings.FrontMessages.{found_from_held, within_declared}
+use Rattle.capnp_frame.proofs.encodings.FrontMessages.{found_from_holds, within_declared}
 use Rattle.capnp_frame.proofs.slices.FlatLemmas.{FlatError-once, frame_counted, FlatError-apart}
 
 -- no line holds where a message is
 found_apart : (rules : FlatRules) (kind : ErrorKind) (bytes rest : List ℕ) (message : List (List ℕ)) → FoundBy rules message bytes rest → RulesError rules kind bytes → ⊥
 found_apart rules kind bytes rest message begins =
-    FlatError-apart rules.form rules.padding rules.limit kind bytes message rest (begins.text, begins.is_text, begins.spelled) begins.within
+    FlatError-apart rules.form rules.padding rules.limit kind bytes message rest (begins.encoding, begins.is_encoding, begins.spelled) begins.within
 
 -- where a call fails, it fails by its rules
 
@@ -41,7 +41,7 @@ reads_none {X} rules bytes left segments error (Err own) is stays errors =
     subst (λ e. ReadsFlat rules bytes left segments (Err e)) (sym is) (record {
       found = tt;
       accepted = λ message rest begins. memory_alone X rules.form rules.padding rules.limit bytes message error errors
-          (frame_counted rules.form rules.padding rules.limit bytes message rest (begins.text, begins.is_text, begins.spelled) begins.within)
+          (frame_counted rules.form rules.padding rules.limit bytes message rest (begins.encoding, begins.is_encoding, begins.spelled) begins.within)
           (found_apart rules error.kind bytes rest message begins);
       unchanged = stays;
       errors = errors;
@@ -58,17 +58,17 @@ leaves : (left : Option (List ℕ)) (is_found : List ℕ → Type 0) (rest : Lis
 leaves None is_found rest is begins = (rest, begins)
 leaves (Some left) is_found rest is begins = subst is_found (sym is) begins
 
-pub reads_held : {X : Type 0} (rules : FlatRules) (bytes : List ℕ) (left : Option (List ℕ)) (segments : X → List (List ℕ)) (x : X)
+pub reads_found : {X : Type 0} (rules : FlatRules) (bytes : List ℕ) (left : Option (List ℕ)) (segments : X → List (List ℕ)) (x : X)
     (count : ℕ) → HoldsMessage bytes count → segments x ≡ declared_segments count bytes
     → KeepsLimit (declared_lengths count bytes) rules.limit → KeepsPadding rules.padding (declared_padding count bytes)
     → IfSome left (λ left. left ≡ drop (table_size count + 8 * sum (declared_lengths count bytes)) bytes)
     → ReadsFlat rules bytes left segments (Ok x)
-reads_held rules bytes left segments x count holds are keeps kept is =
+reads_found rules bytes left segments x count holds are keeps kept is =
     let rest = drop (table_size count + 8 * sum (declared_lengths count bytes)) bytes in
-    let frame = (found_from_held rules.padding bytes count holds kept).begins in
+    let frame = (found_from_holds rules.padding bytes count holds kept).begins in
     let begins : FoundBy rules (segments x) bytes rest = subst (λ l. FoundBy rules l bytes rest) (sym are) (record {
-      text = frame.0;
-      is_text = frame.1;
+      encoding = frame.0;
+      is_encoding = frame.1;
       within = within_declared bytes count rules.limit holds keeps;
       spelled = frame.2;
     }) in

@@ -9,7 +9,7 @@ use Rattle.capnp_frame.specs.Prelude.{field, table_size, padding_len, zero_padde
 use Rattle.capnp_frame.proofs.tables.TableLemmas.{length-fields}
 use Rattle.capnp_frame.proofs.encodings.FrameLemmas.{zero_padded_is, length-table}
 use Rattle.capnp_frame.proofs.tables.DeclaredTables.{table_is, Declared, declared_from_table, length-declared}
-use Rattle.capnp_frame.proofs.encodings.FrontMessages.{found_from_held}
+use Rattle.capnp_frame.proofs.encodings.FrontMessages.{found_from_holds}
 
 -- the padding of the message in a buffer is zeroed: the buffer has the same message
 pub record IsZeroed (before after : List ℕ) (count : ℕ) : Type 0 where
@@ -64,4 +64,4 @@ pub zeroed_begins : (before after : List ℕ) (count size total : ℕ) → IsZer
 zeroed_begins before after count size total zero size_is total_is =
     let sums : sum (declared_lengths count after) ≡ sum (declared_lengths count before) = ap sum zero.lengths_are in
     let place : table_size count + 8 * sum (declared_lengths count after) ≡ size + total = omega arith in
-    subst (λ k. HasFrame Zero after (declared_segments count after) (drop k after)) place (found_from_held Zero after count zero.holds zero.padding).begins
+    subst (λ k. HasFrame Zero after (declared_segments count after) (drop k after)) place (found_from_holds Zero after count zero.holds zero.padding).begins

@@ -12,10 +12,10 @@ use Rattle.capnp_frame.specs.declared.serialize.segment_table.Padding.{Padding}
 use Rattle.capnp_frame.specs.declared.serialize.segment_table.Padding.TheVariants.{Any}
 use Rattle.capnp_frame.specs.declared.io.Read.{Ghosts}
 use Rattle.capnp_frame.proofs.encodings.RequestLemmas.{MessageFound-cut}
-use Rattle.capnp_frame.proofs.slices.HeldLemmas.{within_held, begins_held}
+use Rattle.capnp_frame.proofs.slices.BufferLemmas.{within_from_holds, begins_from_holds}
 use Rattle.capnp_frame.proofs.errors.MetErrors.{body_met, segments_met}
 use Rattle.capnp_frame.proofs.tables.DeclaredTables.{table_is, Declared, declared_from_table, length-declared}
-use Rattle.capnp_frame.proofs.encodings.FrontMessages.{found_from_held, cut-take}
+use Rattle.capnp_frame.proofs.encodings.FrontMessages.{found_from_holds, cut-take}
 use Rattle.capnp_frame.proofs.errors.StreamErrorLemmas.{StreamError-apart, StreamError-once}
 use Rattle.capnp_frame.proofs.sinks.WritingLemmas.{length-lengths}
 
@@ -148,7 +148,7 @@ pub provided_apart : {gives : Giving} {refuses : Refusing} (rule : Padding) (law
 provided_apart rule laws limit buffer count len segments None new holds are long found within = tt
 provided_apart rule laws limit buffer count len segments (Some raw) None holds are long found within = absurd found
 provided_apart rule laws limit buffer count len segments (Some raw) (Some rest) holds are long found within = λ kind left met.
-    let lens : lengths segments ≡ declared_lengths count buffer = ap lengths are ∙ (found_from_held Any buffer count holds tt).lengths_are in
+    let lens : lengths segments ≡ declared_lengths count buffer = ap lengths are ∙ (found_from_holds Any buffer count holds tt).lengths_are in
     let many : length (lengths segments) ≡ count = ap length lens ∙ length-declared count buffer in
     let total : size_in_words segments ≡ sum (declared_lengths count buffer) = ap sum lens in
     let room = holds.room in
@@ -164,11 +164,11 @@ pub reads_into : {S : Type 0} (rule : Padding) (source : Ghosts S) (laws : IsSou
     → ReadsStreamInto source old new (framed_rules rule source.gives source.refuses) limit room (Ok (Some segments))
 reads_into rule source laws old new limit room buffer count segments holds are long keeps is_found enough advances =
     let found = subst (λ m. IfKnown (source.unread old) (source.unread new) (MessageFound rule source.gives m)) (sym are) is_found in
-    let within = within_held buffer count segments limit holds are keeps in
+    let within = within_from_holds buffer count segments limit holds are keeps in
     record {
       found = found;
       within = within;
-      whole = (begins_held Any buffer count segments holds tt are).1.1.whole;
+      whole = (begins_from_holds Any buffer count segments holds tt are).1.1.whole;
       none = tt;
       accepted = provided_accepted rule laws limit room _ (source.unread new) (Ok (Some segments)) tt;
       end = tt;

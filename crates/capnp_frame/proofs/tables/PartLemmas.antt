@@ -20,7 +20,7 @@ sum_at_le [] i n here = cc
 sum_at_le (m ∷ ns) zero n here = let same : m ≡ n = cc in omega (arith, sum_by-cons (λ x. x) m ns)
 sum_at_le (m ∷ ns) (suc i) n here = omega (arith, sum_at_le ns i n here, sum_by-cons (λ x. x) m (take i ns), sum_by-cons (λ x. x) m ns)
 
--- where a segment that is held begins and ends
+-- where a segment of the message begins and ends
 pub record IsPartAt (bytes : List ℕ) (count index start n : ℕ) : Type 0 where
   pub within : start + 8 * n ≤ length bytes
   pub part : slice_get (declared_segments count bytes) index ≡ Some (take (start + 8 * n - start) (drop start bytes))
@@ -52,7 +52,7 @@ sum-declared bytes index =
     ∙ sum_push (declared_lengths index bytes) (number (drop (4 * index) (drop 4 bytes)))
     ∙ ap (λ k. sum (declared_lengths index bytes) + k) there
 
--- where a segment that is held lies, between the sums of the lengths before it and after it
+-- where a segment of the message lies, between the sums of the lengths before it and after it
 pub record Lies (bytes : List ℕ) (count index first last : ℕ) : Type 0 where
   pub ordered : first ≤ last
   pub within : last ≤ length bytes

@@ -40,8 +40,8 @@ count_declared first others ns n table word read fits =
     omega arith
 
 -- bytes are a table of at most one list of lengths
-pub IsTable-once : {rule other : Padding} (text ns ms : List ℕ) → IsTable rule text ns → IsTable other text ms → ns ≡ ms
-IsTable-once text ns ms p q =
+pub IsTable-once : {rule other : Padding} (encoding ns ms : List ℕ) → IsTable rule encoding ns → IsTable other encoding ms → ns ≡ ms
+IsTable-once encoding ns ms p q =
     let whole : table_bytes ns p.padding ≡ table_bytes ms q.padding = sym p.spelled ∙ q.spelled in
     let some = p.can.some in
     let others = q.can.some in
@@ -55,16 +55,16 @@ IsTable-once text ns ms p q =
     fields_once ns ms p.can.each q.can.each fields.0
 
 -- the padding is after the fields
-pub padding_at : {rule : Padding} (text ns : List ℕ) (count : ℕ) → (table : IsTable rule text ns) → count ≡ length ns → drop (4 * (count + 1)) text ≡ table.padding
-padding_at text ns count table many =
+pub padding_at : {rule : Padding} (encoding ns : List ℕ) (count : ℕ) → (table : IsTable rule encoding ns) → count ≡ length ns → drop (4 * (count + 1)) encoding ≡ table.padding
+padding_at encoding ns count table many =
     let front = field (length ns - 1) ++ flat_map field ns in
     let some = table.can.some in
     let long : length front ≡ 4 * (count + 1) = omega (arith, length-append (field (length ns - 1)) (flat_map field ns), length-fields ns) in
     ap (drop (4 * (count + 1))) table.spelled ∙ drop_at front table.padding (4 * (count + 1)) long
 
 -- a table by a rule is one of any padding
-pub any_table : {rule : Padding} (text ns : List ℕ) → IsTable rule text ns → IsTable Any text ns
-any_table text ns table = record { can = table.can; padding = table.padding; padded = table.padded; kept = tt; spelled = table.spelled }
+pub any_table : {rule : Padding} (encoding ns : List ℕ) → IsTable rule encoding ns → IsTable Any encoding ns
+any_table encoding ns table = record { can = table.can; padding = table.padding; padded = table.padded; kept = tt; spelled = table.spelled }
 
 -- each rule accepts zeros
 pub zeros_kept : (rule : Padding) (count : ℕ) → KeepsPadding rule (replicate count 0)
@@ -72,8 +72,8 @@ zeros_kept Any count = tt
 zeros_kept Zero count = ap (λ k. replicate k 0) (sym (length-replicate count 0))
 
 -- and a table of zero padding is the one that is written
-pub zero_table : (text ns : List ℕ) → IsTable Zero text ns → text ≡ zero_padded_table ns
-zero_table text ns table = table.spelled ∙ ap (table_bytes ns) (table.kept ∙ ap (λ k. replicate k 0) table.padded)
+pub zero_table : (encoding ns : List ℕ) → IsTable Zero encoding ns → encoding ≡ zero_padded_table ns
+zero_table encoding ns table = table.spelled ∙ ap (table_bytes ns) (table.kept ∙ ap (λ k. replicate k 0) table.padded)
 
 -- the number in the first field
 abbrev number : List ℕ → ℕ
@@ -101,5 +101,5 @@ TableFound-once {rule} gives raw ns rest ms left unique all p q =
     let rests = unique q.between (8 * (length ms / 2)) p.others rest q.others left
     (subst (λ k. gives q.between (8 * (k / 2)) p.others rest) lens
     (subst (λ l. gives l (8 * (length ns / 2)) p.others rest) first.1 p.others_given)) q.others_given in
-    let texts : p.first ++ p.others ≡ q.first ++ q.others = ap (λ l. l ++ p.others) first.0 ∙ ap (λ l. q.first ++ l) rests.0 in
-    (IsTable-once (q.first ++ q.others) ns ms (subst (λ l. IsTable rule l ns) texts p.table) q.table, rests.1)
+    let encodings : p.first ++ p.others ≡ q.first ++ q.others = ap (λ l. l ++ p.others) first.0 ∙ ap (λ l. q.first ++ l) rests.0 in
+    (IsTable-once (q.first ++ q.others) ns ms (subst (λ l. IsTable rule l ns) encodings p.table) q.table, rests.1)

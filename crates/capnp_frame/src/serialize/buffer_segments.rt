@@ -35,13 +35,13 @@ impl<T: AsBytes> Model for BufferSegments<T> {
 
     ghost Value = { SeenBuffer T };
 
-    ghost view = { λ held. record {
-      buffer = held.buffer;
-      segments = cut held.segment_indices (drop held.table_len (T.bytes held.buffer));
+    ghost view = { λ reader. record {
+      buffer = reader.buffer;
+      segments = cut reader.segment_indices (drop reader.table_len (T.bytes reader.buffer));
     } };
 
-    ghost invariant = { λ held.
-        held.table_len + 8 * sum held.segment_indices ≤ length (T.bytes held.buffer) };
+    ghost invariant = { λ reader.
+        reader.table_len + 8 * sum reader.segment_indices ≤ length (T.bytes reader.buffer) };
 }
 
 impl<T: AsBytes> BufferSegments<T> {

@@ -36,13 +36,13 @@ impl<T: AsBytes> Model for NoAllocBufferSegments<T> {
 
     ghost Value = { SeenBuffer T };
 
-    ghost view = { λ held. record {
-      buffer = held.buffer;
-      segments = declared_segments held.segments_count (T.bytes held.buffer);
+    ghost view = { λ reader. record {
+      buffer = reader.buffer;
+      segments = declared_segments reader.segments_count (T.bytes reader.buffer);
     } };
 
-    ghost invariant = { λ held. HoldsMessage (T.bytes held.buffer) held.segments_count
-        × KeepsEnds held.ends held.segments_count (T.bytes held.buffer) };
+    ghost invariant = { λ reader. HoldsMessage (T.bytes reader.buffer) reader.segments_count
+        × KeepsEnds reader.ends reader.segments_count (T.bytes reader.buffer) };
 }
 
 impl<T: AsBytes> NoAllocBufferSegments<T> {
@@ -200,7 +200,7 @@ fn first_ends(bytes: &[u8], count: usize) -> [usize; KEPT_ENDS]
 
 // Where the segment at this index begins and ends, in words after the table.
 fn place(bytes: &[u8], ends: &[usize; KEPT_ENDS], index: usize) -> (usize, usize)
-    requires held { (count : ℕ) × HoldsMessage bytes.now count × (index < count)
+    requires message { (count : ℕ) × HoldsMessage bytes.now count × (index < count)
         × KeepsEnds ends.now count bytes.now }
     ensures start { result.0 ≡ sum (declared_lengths index bytes.now) }
     ensures end { result.1 ≡ sum (declared_lengths (index + 1) bytes.now) }
@@ -219,7 +219,7 @@ fn place(bytes: &[u8], ends: &[usize; KEPT_ENDS], index: usize) -> (usize, usize
 // register of them without widening (workload `far`).
 #[inline(always)]
 fn later_start(bytes: &[u8], end: usize, index: usize) -> usize
-    requires held { (count : ℕ) × HoldsMessage bytes.now count × (index < count) }
+    requires message { (count : ℕ) × HoldsMessage bytes.now count × (index < count) }
     requires later { 8 ≤ index }
     requires end { end ≡ sum (declared_lengths 8 bytes.now) }
     ensures { result ≡ sum (declared_lengths index bytes.now) }

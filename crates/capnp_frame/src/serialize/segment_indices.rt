@@ -1,6 +1,6 @@
 //! Where the segments of a message begin and end.
 ghost use Rattle.std.specs.Prelude.{◌≡◌, ℕ, ◌≤◌, max, List, [], ◌∷◌, length, map, sum, vec_len};
-ghost use Rattle.capnp_frame.specs.SegmentLengths.{ranges, range_len, held_ranges, AreRanges};
+ghost use Rattle.capnp_frame.specs.SegmentLengths.{ranges, range_len, kept_ranges, AreRanges};
 
 use std::alloc::Global;
 use std::marker::Model;
@@ -23,9 +23,9 @@ pub(crate) struct SegmentIndices {
 impl Model for SegmentIndices {
     ghost Value = { List ℕ };
 
-    ghost view = { λ held. map range_len (held_ranges held.is_single held.all held.several.items) };
+    ghost view = { λ indices. map range_len (kept_ranges indices.is_single indices.all indices.several.items) };
 
-    ghost invariant = { λ held. AreRanges (held_ranges held.is_single held.all held.several.items) held.all.1 };
+    ghost invariant = { λ indices. AreRanges (kept_ranges indices.is_single indices.all indices.several.items) indices.all.1 };
 }
 
 impl SegmentIndices {

@@ -38,13 +38,13 @@ pub fn write_segments<W: Write, S: ReaderSegments>(
 /// memory is taken, and else with `OutOfMemory` alone.
 pub fn segments_to_words<S: ReaderSegments>(alloc: Global, segments: &S) -> Result<Vec<u8>>
     requires { IsWritable (S.segments segments.now) }
-    ensures { ReturnsEncoding (S.segments segments.now) (λ text. text.items) result }
+    ensures { ReturnsEncoding (S.segments segments.now) (λ encoding. encoding.items) result }
 {
     check_count(segments)?; // before memory is taken
     let words = serialized_size_in_words(segments)?;
-    let mut text = Vec::with_capacity(alloc, 8 * words)?;
-    write_segments(alloc, &mut text, segments)?;
-    Ok(text)
+    let mut encoding = Vec::with_capacity(alloc, 8 * words)?;
+    write_segments(alloc, &mut encoding, segments)?;
+    Ok(encoding)
 }
 
 /// Returns how many words a message takes with its table; for no segments, one word.

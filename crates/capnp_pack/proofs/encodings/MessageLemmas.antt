@@ -5,7 +5,7 @@ use Rattle.capnp_frame.specs.declared.serialize.segment_table.Padding.{Padding}
 use Rattle.capnp_frame.specs.Prelude.{IsWithin, IfKnown, MessageFound, lengths}
 use Rattle.capnp_frame.proofs.sources.SourceLemmas.{IfKnown-weaker}
 use Rattle.capnp_frame.proofs.tables.TableLemmas.{any_table}
-use Rattle.capnp_frame.proofs.encodings.TextLemmas.{texts_part}
+use Rattle.capnp_frame.proofs.encodings.EncodingLemmas.{encodings_part}
 use Rattle.capnp_frame.specs.declared.serialize.segment_table.Padding.TheVariants.{Any}
 use Rattle.capnp_pack.specs.Prelude.{IsPackedFrame, PackedFound, Unpacks, unpacking}
 use Rattle.capnp_pack.proofs.encodings.PackedFrameLemmas.{packed_requests}
@@ -25,15 +25,15 @@ accepted_packed rule limit F None accepted = tt
 accepted_packed rule limit F (Some raw) accepted = λ m rest is_found within. accepted m rest ((packed_requests rule m raw rest).1 is_found) within
 
 -- a packed encoding by a rule is one of any padding
-any_packed : {rule : Padding} (text : List ℕ) (segments : List (List ℕ)) → IsPackedFrame rule text segments → IsPackedFrame Any text segments
-any_packed text segments frame = record {
+any_packed : {rule : Padding} (encoding : List ℕ) (segments : List (List ℕ)) → IsPackedFrame rule encoding segments → IsPackedFrame Any encoding segments
+any_packed encoding segments frame = record {
   first = frame.first;
   others = frame.others;
   one_word = frame.one_word;
   table = any_table (frame.first ++ frame.others) (lengths segments) frame.table;
   whole = frame.whole;
-  first_text = frame.first_text;
-  others_text = frame.others_text;
+  first_encoding = frame.first_encoding;
+  others_encoding = frame.others_encoding;
   segments_encoding = frame.segments_encoding;
   first_packed = frame.first_packed;
   others_packed = frame.others_packed;
@@ -42,8 +42,8 @@ any_packed text segments frame = record {
 }
 
 -- no packed encoding is the start of a different one
-pub packed_frames_part : (rule also : Padding) (text other rest left : List ℕ) (segments others : List (List ℕ))
-    → IsPackedFrame rule text segments → IsPackedFrame also other others → text ++ rest ≡ other ++ left
-    → (text ≡ other) × (segments ≡ others) × (rest ≡ left)
-packed_frames_part rule also text other rest left segments others is so =
-    texts_part Any unpacking (packed_requests Any) text other rest left segments others (any_packed text segments is) (any_packed other others so)
+pub packed_frames_part : (rule also : Padding) (encoding other rest left : List ℕ) (segments others : List (List ℕ))
+    → IsPackedFrame rule encoding segments → IsPackedFrame also other others → encoding ++ rest ≡ other ++ left
+    → (encoding ≡ other) × (segments ≡ others) × (rest ≡ left)
+packed_frames_part rule also encoding other rest left segments others is so =
+    encodings_part Any unpacking (packed_requests Any) encoding other rest left segments others (any_packed encoding segments is) (any_packed other others so)

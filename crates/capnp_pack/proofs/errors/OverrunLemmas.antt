@@ -7,7 +7,7 @@ use Rattle.capnp_frame.specs.declared.error.ErrorKind.{ErrorKind}
 use Rattle.capnp_frame.specs.declared.error.ErrorKind.TheVariants.{DeviceFailed, PackedInputDidNotEndCleanlyOnASegmentBoundary}
 use Rattle.capnp_frame.specs.Prelude.{IfKnown, RequestError, RunsShort}
 use Rattle.capnp_frame.proofs.sources.SourceLemmas.{IfKnown-join, IfKnown-weaker}
-use Rattle.capnp_pack.specs.Prelude.{IsGroup, zeros, literal, IsWord, group_encoding, group_words, marked, zero_word, text_of, words_of_groups, LeavesOverrun, head_encoding, HasProgress, HeadOver, CountOver, MarkedAt, CutError}
+use Rattle.capnp_pack.specs.Prelude.{IsGroup, zeros, literal, IsWord, group_encoding, group_words, marked, zero_word, encoding_of, words_of_groups, LeavesOverrun, head_encoding, HasProgress, HeadOver, CountOver, MarkedAt, CutError}
 use Rattle.capnp_pack.proofs.words.AllLemmas.{AllByRecursion-append}
 use Rattle.capnp_pack.proofs.errors.GroupErrorLemmas.{literal_head, literal_size, zeros_size}
 use Rattle.capnp_pack.proofs.words.WordLemmas.{full_word}
@@ -74,8 +74,8 @@ over_after n k m a b c both = IfKnown-join a b c (λ x y z (groups, each, spelle
     ap (λ l. length (concat l)) (flat_map-append group_words groups over.groups) ∙ ap length (concat-append (words_of_groups groups) (words_of_groups over.groups))
     ∙ length-append (concat (words_of_groups groups)) (concat (words_of_groups over.groups)) ∙ ap (λ j. j + length (concat (words_of_groups over.groups))) counted in
     let head = head_encoding over.group ++ z in
-    let joined : text_of groups ++ (text_of over.groups ++ head) ≡ text_of (groups ++ over.groups) ++ head =
-    sym (append_assoc (text_of groups) (text_of over.groups) head) ∙ ap (λ l. l ++ head) (sym (flat_map-append group_encoding groups over.groups)) in
+    let joined : encoding_of groups ++ (encoding_of over.groups ++ head) ≡ encoding_of (groups ++ over.groups) ++ head =
+    sym (append_assoc (encoding_of groups) (encoding_of over.groups) head) ∙ ap (λ l. l ++ head) (sym (flat_map-append group_encoding groups over.groups)) in
     let fewer = over.fewer in
     let long = over.long in
     record {
@@ -85,5 +85,5 @@ over_after n k m a b c both = IfKnown-join a b c (λ x y z (groups, each, spelle
       group = over.group;
       is = over.is;
       long = omega (arith, words, long, both);
-      spelled = spelled ∙ ap (λ l. text_of groups ++ l) over.spelled ∙ joined;
+      spelled = spelled ∙ ap (λ l. encoding_of groups ++ l) over.spelled ∙ joined;
     })

@@ -39,21 +39,21 @@ last_word words count P past = subst (λ l. IfFirst l P) (sym (other_words words
 
 -- one more group
 pub buffered_more : (words : List (List ℕ)) (count n : ℕ) (w : List ℕ) (os : List (List ℕ)) (old buffer new : List ℕ) → drop count words ≡ w ∷ os → os ≡ drop (count + 1) words
-    → ((text : List ℕ) × PacksTo words text (drop count words) × (buffer ≡ old ++ text))
+    → ((encoding : List ℕ) × PacksTo words encoding (drop count words) × (buffer ≡ old ++ encoding))
     → ((g : Group) × IsGroupOf w os n g × (new ≡ buffer ++ group_encoding g))
-    → (text : List ℕ) × PacksTo words text (drop (count + (1 + n)) words) × (new ≡ old ++ text)
-buffered_more words count n w os old buffer new front rest (text, to, is) (g, made, more) = (
-  text ++ group_encoding g,
-  PacksTo-more words text count (count + (1 + n)) n w os g front (words_after words count n os rest) made to,
-  more ∙ ap (λ l. l ++ group_encoding g) is ∙ append_assoc old text (group_encoding g),
+    → (encoding : List ℕ) × PacksTo words encoding (drop (count + (1 + n)) words) × (new ≡ old ++ encoding)
+buffered_more words count n w os old buffer new front rest (encoding, to, is) (g, made, more) = (
+  encoding ++ group_encoding g,
+  PacksTo-more words encoding count (count + (1 + n)) n w os g front (words_after words count n os rest) made to,
+  more ∙ ap (λ l. l ++ group_encoding g) is ∙ append_assoc old encoding (group_encoding g),
 )
 
 HandsTo-join : (appends : Appending) (words next left : List (List ℕ)) (old buffer new : List ℕ) (a b c : Option (List ℕ))
     → HandsTo appends words next old buffer a b → HandsTo appends next left buffer new b c → HandsTo appends words left old new a c
-HandsTo-join appends words next left old buffer new a b c (text, to, handed) (more, further, following) = (
-  text ++ more,
-  λ rest packs. subst (PacksWords words) (sym (append_assoc text more rest)) (to (more ++ rest) (further rest packs)),
-  IfKnown-join a b c (λ x y z p q. Hands-join appends old text buffer more new x y z p q) handed following,
+HandsTo-join appends words next left old buffer new a b c (encoding, to, handed) (more, further, following) = (
+  encoding ++ more,
+  λ rest packs. subst (PacksWords words) (sym (append_assoc encoding more rest)) (to (more ++ rest) (further rest packs)),
+  IfKnown-join a b c (λ x y z p q. Hands-join appends old encoding buffer more new x y z p q) handed following,
 )
 
 -- the words from one on, as a slice of them
@@ -67,19 +67,19 @@ handed_on appends words left n slice old buffer new a b c is first next =
     subst (λ l. HandsTo appends words l old new a c) (sym is) (HandsTo-join appends words left (drop n left) old buffer new a b c first next)
 
 -- of no words nothing is packed
-pub none_taken : (words : List (List ℕ)) (buffer : List ℕ) → (text : List ℕ) × PacksTo words text (drop 0 words) × (buffer ≡ buffer ++ text)
+pub none_taken : (words : List (List ℕ)) (buffer : List ℕ) → (encoding : List ℕ) × PacksTo words encoding (drop 0 words) × (buffer ≡ buffer ++ encoding)
 none_taken words buffer = ([], (λ more packs. packs), sym (append-nil buffer))
 
 -- words are packed that the buffer takes, and the others are a slice
 pub taken_on : (appends : Appending) (words left : List (List ℕ)) (n : ℕ) (slice : List (List ℕ)) (old buffer new : List ℕ) (a b : Option (List ℕ)) → slice ≡ drop n left
-    → HandsTo appends words left old buffer a b → ((text : List ℕ) × PacksTo left text (drop n left) × (new ≡ buffer ++ text))
+    → HandsTo appends words left old buffer a b → ((encoding : List ℕ) × PacksTo left encoding (drop n left) × (new ≡ buffer ++ encoding))
     → HandsTo appends words slice old new a b
-taken_on appends words left n slice old buffer new a b is first (text, to, kept) =
-    handed_on appends words left n slice old buffer new a b b is first (text, to, kept_all b)
+taken_on appends words left n slice old buffer new a b is first (encoding, to, kept) =
+    handed_on appends words left n slice old buffer new a b b is first (encoding, to, kept_all b)
   where
-    kept_all : (b : Option (List ℕ)) → IfKnown b b (Hands appends buffer text new)
+    kept_all : (b : Option (List ℕ)) → IfKnown b b (Hands appends buffer encoding new)
     kept_all None = tt
-    kept_all (Some x) = Hands-none appends buffer text new x kept
+    kept_all (Some x) = Hands-none appends buffer encoding new x kept
 
 -- the group of the first word is handed on
 pub handed_next : (appends : Appending) (words : List (List ℕ)) (count : ℕ) (w : List ℕ) (os : List (List ℕ)) (buffer new : List ℕ) (a b : Option (List ℕ))

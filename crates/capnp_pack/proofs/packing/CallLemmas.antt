@@ -20,7 +20,7 @@ pub hands_chunk : {S X : Type 0} (sink : Sink S) (old new : S) (kept chunk : Lis
     → OnOk r (IfKnown (sink.written old) (sink.written new) (Adds (sink.appends chunk)))
     → OnErr r (IfKnown (sink.written old) (sink.written new) (Adds (sink.leaves chunk))) → FailsOr r (sink.refuses chunk)
     → IfErr r (λ e. e.kind ≡ DeviceFailed → Fails (sink.failures old) (sink.failures new)) → Grows sink.written sink.failures sink.same old new
-    → HandsOn sink old new (λ text. text ≡ kept) (λ _. IfKnown (sink.written old) (sink.written new) (Hands sink.appends kept [] [])) r
+    → HandsOn sink old new (λ encoding. encoding ≡ kept) (λ _. IfKnown (sink.written old) (sink.written new) (Hands sink.appends kept [] [])) r
 hands_chunk sink old new kept chunk (Ok x) is added left errors failed grows =
     record { handed = IfKnown-flush sink.appends kept chunk _ _ is added; left = tt; errors = tt; failed = tt; grows = grows }
 hands_chunk sink old new kept chunk (Err e) is added left errors failed grows = record {

@@ -47,25 +47,25 @@ literal_granted grants word os count more start end made old new is all full old
     let own = literal word further in
     let same : own ≡ made = (IsGroupOf-once word os run.0 count own made (IsGroupOf-literal word os run.0 is all full run.1) theirs).1 in
     let head : length (take end new) ≡ length (take start old) + length (255 ∷ word) = ap length fill ∙ length-append (take start old) (255 ∷ word) in
-    let text : length (group_encoding own) ≡ length (255 ∷ word) + length (length further ∷ concat further) =
+    let encoding : length (group_encoding own) ≡ length (255 ∷ word) + length (length further ∷ concat further) =
     length-append (255 ∷ word) (length further ∷ concat further) in
     let begun : length (take start old) ≡ start = length-take-le start old (omega (arith, old_long)) in
     let ended : length (take end new) ≡ end = length-take-le end new (omega (arith, new_long)) in
-    let both : start + (length (group_encoding own) + more) ≡ end + (1 + (length (concat further) + more)) = omega (arith, head, text, begun, ended) in
+    let both : start + (length (group_encoding own) + more) ≡ end + (1 + (length (concat further) + more)) = omega (arith, head, encoding, begun, ended) in
     (run.0, run.1, subst grants (ap (λ g. start + (length (group_encoding g) + more)) (sym same) ∙ both) granted)
 
 -- what is granted for the encoding of words is granted for what a buffer of 64 bytes has once it
 -- took some of them, and for the rest
 pub granted_taken : (grants : ℕ → Type 0) (words : List (List ℕ)) (n used end more : ℕ) (old new whole : List ℕ) → ((i : ℕ) → i < length words → length (get_or words i []) ≡ 8)
-    → length old ≡ 64 → length new ≡ 64 → used ≤ 64 → end ≤ 64 → ((text : List ℕ) × PacksTo words text (drop n words) × (take end new ≡ take used old ++ text))
+    → length old ≡ 64 → length new ≡ 64 → used ≤ 64 → end ≤ 64 → ((encoding : List ℕ) × PacksTo words encoding (drop n words) × (take end new ≡ take used old ++ encoding))
     → PacksWords words whole → grants (used + (length whole + more)) → GrantsTo grants (drop n words) end more
-granted_taken grants words n used end more old new whole each old_long new_long before after (text, to, is) packs granted =
+granted_taken grants words n used end more old new whole each old_long new_long before after (encoding, to, is) packs granted =
     let (rest, left) = PacksWords-some (drop n words) (AllByRecursion-drop IsWord n words (each_word words each)) in
-    let both : whole ≡ text ++ rest = PacksWords-once words whole (text ++ rest) packs (to rest left) in
+    let both : whole ≡ encoding ++ rest = PacksWords-once words whole (encoding ++ rest) packs (to rest left) in
     let begun : length (take used old) ≡ used = length-take-le used old (omega (arith, old_long)) in
     let ended : length (take end new) ≡ end = length-take-le end new (omega (arith, new_long)) in
     let same : used + (length whole + more) ≡ end + (length rest + more) =
-    omega (arith, ap length is, length-append (take used old) text, begun, ended, ap length both, length-append text rest) in
+    omega (arith, ap length is, length-append (take used old) encoding, begun, ended, ap length both, length-append encoding rest) in
     (rest, left, subst grants same granted)
 
 -- it is granted once all that the buffer has is handed on
@@ -112,17 +112,17 @@ granted_more before after words n count used end more w os P each front others (
 
 -- and what a call is granted, after which the others are a slice
 pub granted_on : (before after : ℕ → Type 0) (left slice : List (List ℕ)) (n used end more : ℕ) → slice ≡ drop n left → GrantsTo before left used more
-    → ((text : List ℕ) (others : ℕ) → PacksWords left text → before (used + (length text + others)) → GrantsTo after (drop n left) end others)
+    → ((encoding : List ℕ) (others : ℕ) → PacksWords left encoding → before (used + (length encoding + others)) → GrantsTo after (drop n left) end others)
     → GrantsTo after slice end more
 granted_on before after left slice n used end more is (rest, packs, granted) step = subst (λ l. GrantsTo after l end more) (sym is) (step rest more packs granted)
 
 -- and what the buffer takes, after which the others are a slice
 pub granted_kept : (grants : ℕ → Type 0) (left slice : List (List ℕ)) (n used end more : ℕ) (old new : List ℕ) → slice ≡ drop n left
-    → length old ≡ 64 → length new ≡ 64 → used ≤ 64 → end ≤ 64 → ((text : List ℕ) × PacksTo left text (drop n left) × (take end new ≡ take used old ++ text))
+    → length old ≡ 64 → length new ≡ 64 → used ≤ 64 → end ≤ 64 → ((encoding : List ℕ) × PacksTo left encoding (drop n left) × (take end new ≡ take used old ++ encoding))
     → GrantsTo grants left used more → GrantsTo grants slice end more
 granted_kept grants left slice n used end more old new is old_long new_long before after taken granted =
     granted_on grants grants left slice n used end more is granted
-    (λ text others packs given. granted_taken grants left n used end others old new text (PacksWords-each left text packs) old_long new_long before after taken packs given)
+    (λ encoding others packs given. granted_taken grants left n used end others old new encoding (PacksWords-each left encoding packs) old_long new_long before after taken packs given)
 
 -- and the group of the first word
 pub granted_next : (before after : ℕ → Type 0) (words : List (List ℕ)) (count used end more : ℕ) (w : List ℕ) (os : List (List ℕ)) (P : Group → Type 0)

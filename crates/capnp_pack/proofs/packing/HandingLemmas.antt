@@ -22,8 +22,8 @@ Hands-join appends old s mid t new x y z p q = record {
 }
 
 -- bytes that the buffer takes
-pub Hands-none : (appends : Appending) (old text new x : List ℕ) → new ≡ old ++ text → Hands appends old text new x x
-Hands-none appends old text new x e = record { parts = []; handed = []; declared = refl; added = sym (append-nil x); kept = sym e }
+pub Hands-none : (appends : Appending) (old encoding new x : List ℕ) → new ≡ old ++ encoding → Hands appends old encoding new x x
+Hands-none appends old encoding new x e = record { parts = []; handed = []; declared = refl; added = sym (append-nil x); kept = sym e }
 
 -- nothing of what the buffer has
 pub Hands-same : (appends : Appending) (old : List ℕ) (a : Option (List ℕ)) → IfKnown a a (Hands appends old [] old)
@@ -31,8 +31,8 @@ Hands-same appends old None = tt
 Hands-same appends old (Some x) = Hands-none appends old [] old x (sym (append-nil old))
 
 -- a chunk after an empty buffer, or the buffer itself
-pub Hands-one : (appends : Appending) (old text chunk x y : List ℕ) → old ++ text ≡ chunk → Adds (appends chunk) x y → Hands appends old text [] x y
-Hands-one appends old text chunk x y e added = record {
+pub Hands-one : (appends : Appending) (old encoding chunk x y : List ℕ) → old ++ encoding ≡ chunk → Adds (appends chunk) x y → Hands appends old encoding [] x y
+Hands-one appends old encoding chunk x y e added = record {
   parts = chunk ∷ [];
   handed = added.0;
   declared = (added.0, [], added.1, refl, sym (append-nil added.0));

@@ -4,13 +4,13 @@ use Rattle.std.specs.List.{concat, AllByRecursion}
 use Rattle.std.specs.Simd.{first_chunks}
 use Rattle.std.proofs.lemmas.List.{length-drop, take-append-drop, take_at, drop_at}
 use Rattle.capnp_frame.specs.Prelude.{same_front}
-use Rattle.capnp_pack.specs.Prelude.{Group, tagged, zeros, literal, IsGroup, IsWord, zero_word, group_encoding, group_words, text_of, words_of_groups, Packs, IsLongest, AreLongest, IsGroupOf, PacksWords, Unpacks, words_len, unpack_once, zero_words}
+use Rattle.capnp_pack.specs.Prelude.{Group, tagged, zeros, literal, IsGroup, IsWord, zero_word, group_encoding, group_words, encoding_of, words_of_groups, Packs, IsLongest, AreLongest, IsGroupOf, PacksWords, Unpacks, words_len, unpack_once, zero_words}
 use Rattle.capnp_pack.proofs.words.AllLemmas.{AllByRecursion-append, AllByRecursion-drop}
 use Rattle.capnp_pack.proofs.packing.PackerGroups.{IsGroupOf-some, IsGroupOf-once, first_is}
 use Rattle.capnp_pack.proofs.words.Chunks.{chunks_whole}
 
-pub PacksWords-more : (w : List ℕ) (os : List (List ℕ)) (n : ℕ) (g : Group) (text : List ℕ) → IsGroupOf w os n g → PacksWords (drop n os) text → PacksWords (w ∷ os) (group_encoding g ++ text)
-PacksWords-more w os n g text made p = record {
+pub PacksWords-more : (w : List ℕ) (os : List (List ℕ)) (n : ℕ) (g : Group) (encoding : List ℕ) → IsGroupOf w os n g → PacksWords (drop n os) encoding → PacksWords (w ∷ os) (group_encoding g ++ encoding)
+PacksWords-more w os n g encoding made p = record {
   groups = g ∷ p.groups;
   each = (made.is, p.each);
   longest = (subst (IsLongest g) (sym p.unpacked) made.longest, p.longest);
@@ -21,16 +21,16 @@ PacksWords-more w os n g text made p = record {
 pub PacksWords-none : PacksWords [] []
 PacksWords-none = record { groups = []; each = tt; longest = tt; spelled = refl; unpacked = refl }
 
-PacksWords-fuel : (fuel : ℕ) (ws : List (List ℕ)) → length ws ≤ fuel → AllByRecursion IsWord ws → (text : List ℕ) × PacksWords ws text
+PacksWords-fuel : (fuel : ℕ) (ws : List (List ℕ)) → length ws ≤ fuel → AllByRecursion IsWord ws → (encoding : List ℕ) × PacksWords ws encoding
 PacksWords-fuel fuel [] short all = ([], PacksWords-none)
 PacksWords-fuel zero (w ∷ ws) short all = absurd (omega arith)
 PacksWords-fuel (suc fuel) (w ∷ ws) short all =
     let made : (n : ℕ) × ((g : Group) × IsGroupOf w ws n g) = IsGroupOf-some w ws all.0 all.1 in
-    let left : (text : List ℕ) × PacksWords (drop made.0 ws) text = PacksWords-fuel fuel (drop made.0 ws) (omega (arith, length-drop made.0 ws)) (AllByRecursion-drop IsWord made.0 ws all.1) in
+    let left : (encoding : List ℕ) × PacksWords (drop made.0 ws) encoding = PacksWords-fuel fuel (drop made.0 ws) (omega (arith, length-drop made.0 ws)) (AllByRecursion-drop IsWord made.0 ws all.1) in
     (group_encoding made.1.0 ++ left.0, PacksWords-more w ws made.0 made.1.0 left.0 made.1.1 left.1)
 
 -- there is a packed encoding
-pub PacksWords-some : (ws : List (List ℕ)) → AllByRecursion IsWord ws → (text : List ℕ) × PacksWords ws text
+pub PacksWords-some : (ws : List (List ℕ)) → AllByRecursion IsWord ws → (encoding : List ℕ) × PacksWords ws encoding
 PacksWords-some ws all = PacksWords-fuel (length ws) ws (omega arith) all
 
 -- a group's first word, and its others
@@ -88,42 +88,42 @@ words_once [] (y ∷ ys) p q e = absurd (omega (arith, ap length e, length-appen
 words_once (x ∷ xs) [] p q e = absurd (omega (arith, ap length e, length-append x (concat xs), p.0))
 words_once (x ∷ xs) (y ∷ ys) p q e = let parts = same_front x y (concat xs) (concat ys) (p.0 ∙ sym q.0) e in ap (λ k. k ∷ xs) parts.0 ∙ ap (λ l. y ∷ l) (words_once xs ys p.1 q.1 parts.1)
 
-pub Packs-once : (bytes text other : List ℕ) → Packs bytes text → Packs bytes other → text ≡ other
-Packs-once bytes text other p q =
+pub Packs-once : (bytes encoding other : List ℕ) → Packs bytes encoding → Packs bytes other → encoding ≡ other
+Packs-once bytes encoding other p q =
     let same : words_of_groups p.groups ≡ words_of_groups q.groups =
     words_once (words_of_groups p.groups) (words_of_groups q.groups) (words_whole p.groups p.each) (words_whole q.groups q.each) (sym p.unpacked ∙ q.unpacked) in
-    p.spelled ∙ ap text_of (groups_once p.groups q.groups p.each q.each p.longest q.longest same) ∙ sym q.spelled
+    p.spelled ∙ ap encoding_of (groups_once p.groups q.groups p.each q.each p.longest q.longest same) ∙ sym q.spelled
 
-pub Packs-words : (words : List (List ℕ)) (text : List ℕ) → PacksWords words text → Packs (concat words) text
-Packs-words words text p = record { groups = p.groups; each = p.each; longest = p.longest; spelled = p.spelled; unpacked = ap concat (sym p.unpacked) }
+pub Packs-words : (words : List (List ℕ)) (encoding : List ℕ) → PacksWords words encoding → Packs (concat words) encoding
+Packs-words words encoding p = record { groups = p.groups; each = p.each; longest = p.longest; spelled = p.spelled; unpacked = ap concat (sym p.unpacked) }
 
-pub PacksWords-once : (words : List (List ℕ)) (text other : List ℕ) → PacksWords words text → PacksWords words other → text ≡ other
-PacksWords-once words text other p q =
-    p.spelled ∙ ap text_of (groups_once p.groups q.groups p.each q.each p.longest q.longest (p.unpacked ∙ sym q.unpacked)) ∙ sym q.spelled
+pub PacksWords-once : (words : List (List ℕ)) (encoding other : List ℕ) → PacksWords words encoding → PacksWords words other → encoding ≡ other
+PacksWords-once words encoding other p q =
+    p.spelled ∙ ap encoding_of (groups_once p.groups q.groups p.each q.each p.longest q.longest (p.unpacked ∙ sym q.unpacked)) ∙ sym q.spelled
 
 -- a chunk's encoding is that of its words
-pub Packs-of-words : (chunk text : List ℕ) (words : List (List ℕ)) → concat words ≡ chunk → AllByRecursion IsWord words → Packs chunk text → PacksWords words text
-Packs-of-words chunk text words whole all packs =
+pub Packs-of-words : (chunk encoding : List ℕ) (words : List (List ℕ)) → concat words ≡ chunk → AllByRecursion IsWord words → Packs chunk encoding → PacksWords words encoding
+Packs-of-words chunk encoding words whole all packs =
     let (own, made) = PacksWords-some words all in
-    subst (PacksWords words) (Packs-once chunk own text (subst (λ b. Packs b own) whole (Packs-words words own made)) packs) made
+    subst (PacksWords words) (Packs-once chunk own encoding (subst (λ b. Packs b own) whole (Packs-words words own made)) packs) made
 
-pub Packs-some : (bytes : List ℕ) → length bytes % 8 ≡ 0 → (text : List ℕ) × Packs bytes text
+pub Packs-some : (bytes : List ℕ) → length bytes % 8 ≡ 0 → (encoding : List ℕ) × Packs bytes encoding
 Packs-some bytes whole =
     let cut = chunks_whole (length bytes / 8) bytes (omega arith) in
     let words = first_chunks 8 (length bytes / 8) bytes in
-    let some : (text : List ℕ) × PacksWords words text = PacksWords-some words cut.1 in
+    let some : (encoding : List ℕ) × PacksWords words encoding = PacksWords-some words cut.1 in
     (some.0, subst (λ b. Packs b some.0) cut.0 (Packs-words words some.0 some.1))
 
-pub Packs-whole : (bytes text : List ℕ) → Packs bytes text → length bytes % 8 ≡ 0
-Packs-whole bytes text p = let long = words_len p.groups p.each in omega (arith, ap length p.unpacked, long.1)
+pub Packs-whole : (bytes encoding : List ℕ) → Packs bytes encoding → length bytes % 8 ≡ 0
+Packs-whole bytes encoding p = let long = words_len p.groups p.each in omega (arith, ap length p.unpacked, long.1)
 
 -- packed words unpack to themselves, whatever follows
-pub Packs-unpacks : (bytes text rest : List ℕ) → Packs bytes text → Unpacks (text ++ rest) (length bytes) bytes rest
-Packs-unpacks bytes text rest p = (text, record { groups = p.groups; each = p.each; spelled = p.spelled; unpacked = p.unpacked }, refl, refl)
+pub Packs-unpacks : (bytes encoding rest : List ℕ) → Packs bytes encoding → Unpacks (encoding ++ rest) (length bytes) bytes rest
+Packs-unpacks bytes encoding rest p = (encoding, record { groups = p.groups; each = p.each; spelled = p.spelled; unpacked = p.unpacked }, refl, refl)
 
 -- and to nothing else
-pub Packs-unpacks-alone : (bytes text rest others left : List ℕ) → Packs bytes text → Unpacks (text ++ rest) (length bytes) others left → (others ≡ bytes) × (left ≡ rest)
-Packs-unpacks-alone bytes text rest others left p q = unpack_once (text ++ rest) (length bytes) others left bytes rest q (Packs-unpacks bytes text rest p)
+pub Packs-unpacks-alone : (bytes encoding rest others left : List ℕ) → Packs bytes encoding → Unpacks (encoding ++ rest) (length bytes) others left → (others ≡ bytes) × (left ≡ rest)
+Packs-unpacks-alone bytes encoding rest others left p q = unpack_once (encoding ++ rest) (length bytes) others left bytes rest q (Packs-unpacks bytes encoding rest p)
 
 -- what is packed are words
 zeros_each : (n : ℕ) → AllByRecursion IsWord (replicate n zero_word)
@@ -144,5 +144,5 @@ word_each [] all i low = absurd (omega arith)
 word_each (w ∷ ws) all zero low = all.0
 word_each (w ∷ ws) all (suc i) low = word_each ws all.1 i (omega arith)
 
-pub PacksWords-each : (words : List (List ℕ)) (text : List ℕ) → PacksWords words text → (i : ℕ) → i < length words → length (get_or words i []) ≡ 8
-PacksWords-each words text p = word_each words (subst (AllByRecursion IsWord) p.unpacked (groups_each p.groups p.each))
+pub PacksWords-each : (words : List (List ℕ)) (encoding : List ℕ) → PacksWords words encoding → (i : ℕ) → i < length words → length (get_or words i []) ≡ 8
+PacksWords-each words encoding p = word_each words (subst (AllByRecursion IsWord) p.unpacked (groups_each p.groups p.each))

@@ -17,13 +17,13 @@ nonzero_all (zero ∷ w) e = absurd (omega (arith, zeros_cons 0 w))
 nonzero_all (suc b ∷ w) e = nonzero_suc b w ∙ ap (λ l. suc b ∷ l) (nonzero_all w (sym (zeros_suc b w) ∙ e))
 
 -- bytes that the buffer takes, after those that it had or handed on
-pub buffered_after : (appends : Appending) (old held roomy text new : List ℕ) (a b : Option (List ℕ)) → new ≡ roomy ++ text → IfKnown a b (Hands appends old held roomy)
-    → IfKnown a b (Hands appends old (held ++ text) new)
-buffered_after appends old held roomy text new a b e handed = IfKnown-weaker a b (λ x y p. Hands-join appends old held roomy text new x y y p (Hands-none appends roomy text new y e)) handed
+pub buffered_after : (appends : Appending) (old kept roomy encoding new : List ℕ) (a b : Option (List ℕ)) → new ≡ roomy ++ encoding → IfKnown a b (Hands appends old kept roomy)
+    → IfKnown a b (Hands appends old (kept ++ encoding) new)
+buffered_after appends old kept roomy encoding new a b e handed = IfKnown-weaker a b (λ x y p. Hands-join appends old kept roomy encoding new x y y p (Hands-none appends roomy encoding new y e)) handed
 
 -- a group that the buffer takes
-buffered : (appends : Appending) (old roomy new text : List ℕ) (a b : Option (List ℕ)) → new ≡ roomy ++ text → IfKnown a b (Hands appends old [] roomy) → IfKnown a b (Hands appends old text new)
-buffered appends old roomy new text a b e roomed = buffered_after appends old [] roomy text new a b e roomed
+buffered : (appends : Appending) (old roomy new encoding : List ℕ) (a b : Option (List ℕ)) → new ≡ roomy ++ encoding → IfKnown a b (Hands appends old [] roomy) → IfKnown a b (Hands appends old encoding new)
+buffered appends old roomy new encoding a b e roomed = buffered_after appends old [] roomy encoding new a b e roomed
 
 -- a run of zero words
 pub ends_zeros : (word : List ℕ) (os : List (List ℕ)) (count tag : ℕ) (filled new : List ℕ) → IsWord word → tag ≡ tag_of word → tag ≡ 0
@@ -31,10 +31,10 @@ pub ends_zeros : (word : List ℕ) (os : List (List ℕ)) (count tag : ℕ) (fil
 ends_zeros word os count tag filled new is tagged_by none run push =
     let zero_tag : tag_of word ≡ 0 = sym tagged_by ∙ none in
     let first : word ≡ zero_word = tag_zero word zero_tag ∙ ap (λ k. replicate k 0) is in
-    let text : tag_of word ∷ nonzero word ≡ 0 ∷ [] = ap (λ k. k ∷ nonzero word) zero_tag ∙ ap (λ l. 0 ∷ nonzero l) first in (
+    let encoding : tag_of word ∷ nonzero word ≡ 0 ∷ [] = ap (λ k. k ∷ nonzero word) zero_tag ∙ ap (λ l. 0 ∷ nonzero l) first in (
       zeros count,
       IsGroupOf-zeros word os count is zero_tag run,
-      λ front fill. push ∙ ap (λ l. l ++ count ∷ []) (fill ∙ ap (λ l. front ++ l) text) ∙ append_assoc front (0 ∷ []) (count ∷ []),
+      λ front fill. push ∙ ap (λ l. l ++ count ∷ []) (fill ∙ ap (λ l. front ++ l) encoding) ∙ append_assoc front (0 ∷ []) (count ∷ []),
     )
 
 -- a word whose tag marks some of its bytes
@@ -77,12 +77,12 @@ made_literal words new appends word os old roomy filled a b c (Ok v) is all full
 
 -- the whole chunk
 
-pub PacksTo-more : (words : List (List ℕ)) (text : List ℕ) (done next n : ℕ) (w : List ℕ) (os : List (List ℕ)) (g : Group) →
-    drop done words ≡ w ∷ os → drop n os ≡ drop next words → IsGroupOf w os n g → PacksTo words text (drop done words) → PacksTo words (text ++ group_encoding g) (drop next words)
-PacksTo-more words text done next n w os g front left made to = λ more p.
+pub PacksTo-more : (words : List (List ℕ)) (encoding : List ℕ) (done next n : ℕ) (w : List ℕ) (os : List (List ℕ)) (g : Group) →
+    drop done words ≡ w ∷ os → drop n os ≡ drop next words → IsGroupOf w os n g → PacksTo words encoding (drop done words) → PacksTo words (encoding ++ group_encoding g) (drop next words)
+PacksTo-more words encoding done next n w os g front left made to = λ more p.
     let step : PacksWords (drop done words) (group_encoding g ++ more) =
     subst (λ l. PacksWords l (group_encoding g ++ more)) (sym front) (PacksWords-more w os n g more made (subst (λ l. PacksWords l more) (sym left) p)) in
-    subst (PacksWords words) (sym (append_assoc text (group_encoding g) more)) (to (group_encoding g ++ more) step)
+    subst (PacksWords words) (sym (append_assoc encoding (group_encoding g) more)) (to (group_encoding g ++ more) step)
 
 -- the words after one, as a slice of them
 pub other_words : (words : List (List ℕ)) (done : ℕ) → take (length words - (done + 1)) (drop (done + 1) words) ≡ drop (done + 1) words
@@ -103,14 +103,14 @@ words_after words done n os rest =
 -- the next group, after those that the buffer took
 pub packed_more : (appends : Appending) (words : List (List ℕ)) (done count : ℕ) (w : List ℕ) (os : List (List ℕ)) (old buffer new : List ℕ)
     (a b : Option (List ℕ)) → drop done words ≡ w ∷ os → os ≡ drop (done + 1) words
-    → ((text : List ℕ) × PacksTo words text (drop done words) × (buffer ≡ old ++ text))
+    → ((encoding : List ℕ) × PacksTo words encoding (drop done words) × (buffer ≡ old ++ encoding))
     → (n : ℕ) × (count ≡ 1 + n) × (g : Group) × IsGroupOf w os n g × IfKnown a b (Hands appends buffer (group_encoding g) new)
     → HandsTo appends words (drop (done + count) words) old new a b
-packed_more appends words done count w os old buffer new a b front rest (text, to, is) (n, counted, g, made, more) =
+packed_more appends words done count w os old buffer new a b front rest (encoding, to, is) (n, counted, g, made, more) =
     let left : drop n os ≡ drop (done + count) words = words_after words done n os rest ∙ ap (λ k. drop (done + k) words) (sym counted) in (
-      text ++ group_encoding g,
-      PacksTo-more words text done (done + count) n w os g front left made to,
-      IfKnown-weaker a b (λ x y p. Hands-join appends old text buffer (group_encoding g) new x x y (Hands-none appends old text buffer x is) p) more,
+      encoding ++ group_encoding g,
+      PacksTo-more words encoding done (done + count) n w os g front left made to,
+      IfKnown-weaker a b (λ x y p. Hands-join appends old encoding buffer (group_encoding g) new x x y (Hands-none appends old encoding buffer x is) p) more,
     )
 
 -- the last bytes of a chunk
@@ -118,12 +118,12 @@ pub packed_all : (appends : Appending) (chunk : List ℕ) (words rest : List (Li
     concat words ≡ chunk → rest ≡ [] → left ≡ [] →
     HandsTo appends words rest [] buffer a b →
     IfKnown b c (Hands appends buffer [] left) → IfKnown a c (Adds (AppendsPacked appends chunk))
-packed_all appends chunk words rest buffer left a b c whole over none (text, to, handed) last =
-    let all : PacksWords words text = subst (PacksWords words) (append-nil text) (to [] (subst (λ l. PacksWords l []) (sym over) PacksWords-none)) in
-    let packed : Packs chunk text = subst (λ l. Packs l text) whole (Packs-words words text all) in
+packed_all appends chunk words rest buffer left a b c whole over none (encoding, to, handed) last =
+    let all : PacksWords words encoding = subst (PacksWords words) (append-nil encoding) (to [] (subst (λ l. PacksWords l []) (sym over) PacksWords-none)) in
+    let packed : Packs chunk encoding = subst (λ l. Packs l encoding) whole (Packs-words words encoding all) in
     IfKnown-join a b c (λ x y z p q.
-    let h = Hands-join appends [] text buffer [] left x y z p q in
-    let parts : concat h.parts ≡ text = sym (h.kept ∙ ap (λ l. concat h.parts ++ l) none ∙ append-nil (concat h.parts)) ∙ append-nil text in
+    let h = Hands-join appends [] encoding buffer [] left x y z p q in
+    let parts : concat h.parts ≡ encoding = sym (h.kept ∙ ap (λ l. concat h.parts ++ l) none ∙ append-nil (concat h.parts)) ∙ append-nil encoding in
     (h.handed, (h.parts, subst (Packs chunk) (sym parts) packed, h.declared), h.added)) handed last
 
 -- a run of no word

@@ -3,7 +3,7 @@ use Rattle.std.proofs.Common.{◌≡◌, ℕ, zero, suc, ◌+◌, ◌*◌, ◌/�
 use Rattle.std.proofs.lemmas.Bool.{cases_lt}
 use Rattle.std.specs.List.{concat, AllByRecursion}
 use Rattle.std.proofs.lemmas.List.{length-replicate}
-use Rattle.capnp_pack.specs.Prelude.{Group, tagged, zeros, literal, IsGroup, zero_word, zero_bytes, group_encoding, marked, text_of, words_of_groups, Packs, IsLongest, AreLongest, IfFirst, tag_of, nonzero, length-words}
+use Rattle.capnp_pack.specs.Prelude.{Group, tagged, zeros, literal, IsGroup, zero_word, zero_bytes, group_encoding, marked, encoding_of, words_of_groups, Packs, IsLongest, AreLongest, IfFirst, tag_of, nonzero, length-words}
 use Rattle.capnp_pack.proofs.words.TagLemmas.{zeros_cons, zeros_suc, nonzero_suc, tag_once, tag_whole, top, top_word, marked_tag}
 use Rattle.capnp_pack.proofs.packing.PackerLemmas.{words_whole}
 
@@ -29,13 +29,13 @@ tagged_len t w is longest =
 
 -- for n words, twice the length is at most 17 * n + 3, and at most 17 * n where the first word has
 -- two zero bytes
-bound : (gs : List Group) → AllByRecursion IsGroup gs → AreLongest gs → (2 * length (text_of gs) ≤ 17 * length (words_of_groups gs) + 3) ×
-    (IfFirst (words_of_groups gs) (λ w. 2 ≤ zero_bytes w) → 2 * length (text_of gs) ≤ 17 * length (words_of_groups gs))
+bound : (gs : List Group) → AllByRecursion IsGroup gs → AreLongest gs → (2 * length (encoding_of gs) ≤ 17 * length (words_of_groups gs) + 3) ×
+    (IfFirst (words_of_groups gs) (λ w. 2 ≤ zero_bytes w) → 2 * length (encoding_of gs) ≤ 17 * length (words_of_groups gs))
 bound [] each longest = (omega arith, λ first. omega arith)
 bound (tagged t w ∷ gs) each longest =
     let more = bound gs each.1 longest.1 in
     let long = tagged_len t w each.0 longest.0 in
-    let text : length (text_of (tagged t w ∷ gs)) ≡ 1 + length (marked t w) + length (text_of gs) = length-append (tag_and t w) (text_of gs) ∙ omega arith in
+    let encoding : length (encoding_of (tagged t w ∷ gs)) ≡ 1 + length (marked t w) + length (encoding_of gs) = length-append (tag_and t w) (encoding_of gs) ∙ omega arith in
     let words : length (words_of_groups (tagged t w ∷ gs)) ≡ 1 + length (words_of_groups gs) = omega arith in
     (omega (arith, more.0, long.1), λ first. let two : 2 ≤ zero_bytes w = first in omega (arith, more.0, long.0))
   where
@@ -43,7 +43,7 @@ bound (tagged t w ∷ gs) each longest =
     tag_and t w = group_encoding (tagged t w)
 bound (zeros k ∷ gs) each longest =
     let more = bound gs each.1 longest.1 in
-    let text : length (text_of (zeros k ∷ gs)) ≡ 2 + length (text_of gs) = omega arith in
+    let encoding : length (encoding_of (zeros k ∷ gs)) ≡ 2 + length (encoding_of gs) = omega arith in
     let words : length (words_of_groups (zeros k ∷ gs)) ≡ 1 + k + length (words_of_groups gs) =
     length-append (zero_word ∷ replicate k zero_word) (words_of_groups gs) ∙ omega (arith, length-replicate k zero_word) in
     (omega (arith, more.0), λ first. omega (arith, more.0))
@@ -53,18 +53,18 @@ bound (literal w fs ∷ gs) each longest =
     let further : length (concat fs) ≡ 8 * length fs = length-words fs each.0.1 in
     let few : length fs < 256 = each.0.2 in
     let none : zero_bytes w ≡ 0 = longest.0.0 in
-    let text : length (text_of (literal w fs ∷ gs)) ≡ 10 + 8 * length fs + length (text_of gs) =
-    length-append (group_encoding (literal w fs)) (text_of gs) ∙ omega (arith, length-append (255 ∷ w) (length fs ∷ concat fs)) in
+    let encoding : length (encoding_of (literal w fs ∷ gs)) ≡ 10 + 8 * length fs + length (encoding_of gs) =
+    length-append (group_encoding (literal w fs)) (encoding_of gs) ∙ omega (arith, length-append (255 ∷ w) (length fs ∷ concat fs)) in
     let words : length (words_of_groups (literal w fs ∷ gs)) ≡ 1 + length fs + length (words_of_groups gs) = length-append (w ∷ fs) (words_of_groups gs) ∙ omega arith in (
       elim (cases_lt (length fs) 255) [
-        | inl less ↦ let left : 2 * length (text_of gs) ≤ 17 * length (words_of_groups gs) = more.1 (longest.0.2 less) in omega arith
+        | inl less ↦ let left : 2 * length (encoding_of gs) ≤ 17 * length (words_of_groups gs) = more.1 (longest.0.2 less) in omega arith
         | inr full ↦ omega (arith, more.0)
       ],
       λ first. let two : 2 ≤ zero_bytes w = first in absurd (omega arith),
     )
 
-pub Packs-short : (bytes text : List ℕ) (n : ℕ) → Packs bytes text → length bytes ≡ 8 * n → 0 < n → length text ≤ 8 * n + (n + 3) / 2
-Packs-short bytes text n p count some =
+pub Packs-short : (bytes encoding : List ℕ) (n : ℕ) → Packs bytes encoding → length bytes ≡ 8 * n → 0 < n → length encoding ≤ 8 * n + (n + 3) / 2
+Packs-short bytes encoding n p count some =
     let long : length bytes ≡ 8 * length (words_of_groups p.groups) = ap length p.unpacked ∙ length-words (words_of_groups p.groups) (words_whole p.groups p.each) in
     let most = bound p.groups p.each p.longest in
     omega (arith, most.0, ap length p.spelled)

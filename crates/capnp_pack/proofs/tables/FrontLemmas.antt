@@ -44,15 +44,15 @@ pub stored_zero : (at count : ℕ) (bytes front : List ℕ) → length bytes ≡
 stored_zero at count bytes front long eight room none first =
     let stores = put_mid at (at + 8 - at) bytes (put_chunk 0 (mid_of at (at + 8 - at) bytes) front) in
     let one : at + count + 1 ≡ at + 1 = omega (arith, none) in
-    let held : take (at + count) stores ≡ take at bytes = ap (λ k. take (at + k) stores) none ∙ stored at 0 bytes front long eight room (omega arith) ∙ append-nil (take at bytes) in
-    ap (λ k. take k stores) one ∙ stored at 1 bytes front long eight room (omega arith) ∙ ap (λ l. take at bytes ++ l) first ∙ ap (λ l. l ++ 0 ∷ []) (sym held)
+    let kept : take (at + count) stores ≡ take at bytes = ap (λ k. take (at + k) stores) none ∙ stored at 0 bytes front long eight room (omega arith) ∙ append-nil (take at bytes) in
+    ap (λ k. take k stores) one ∙ stored at 1 bytes front long eight room (omega arith) ∙ ap (λ l. take at bytes ++ l) first ∙ ap (λ l. l ++ 0 ∷ []) (sym kept)
 
 -- the bytes that a tag marks, at their places in a word
-pub spread_lanes : (tag : ℕ) (text word places : List ℕ) → tag < 256 → 8 ≤ length text → IsWord word → places ≡ entry tag
-    → MarkedAt tag (put_chunk 0 word (eight_lanes (swz_l w8 16 (padded text) 0 places))) text (drop (ones tag) text)
-spread_lanes tag text word places low long is entry_is =
-    let lanes = swz_l w8 16 (padded text) 0 places in
-    let wide : length lanes ≡ 16 = length-swz_l w8 16 (padded text) 0 places ∙ ap length entry_is ∙ entry_len tag in
+pub spread_lanes : (tag : ℕ) (encoding word places : List ℕ) → tag < 256 → 8 ≤ length encoding → IsWord word → places ≡ entry tag
+    → MarkedAt tag (put_chunk 0 word (eight_lanes (swz_l w8 16 (padded encoding) 0 places))) encoding (drop (ones tag) encoding)
+spread_lanes tag encoding word places low long is entry_is =
+    let lanes = swz_l w8 16 (padded encoding) 0 places in
+    let wide : length lanes ≡ 16 = length-swz_l w8 16 (padded encoding) 0 places ∙ ap length entry_is ∙ entry_len tag in
     let eight : length (eight_lanes lanes) ≡ 8 = ap length (eight_first lanes wide) ∙ length-take-le 8 lanes (omega (arith, wide)) in
-    spread_word tag text _ low long (put_chunk_whole word (eight_lanes lanes) (is ∙ sym eight) ∙ eight_first lanes wide
-    ∙ ap (λ js. take 8 (swz_l w8 16 (padded text) 0 js)) entry_is)
+    spread_word tag encoding _ low long (put_chunk_whole word (eight_lanes lanes) (is ∙ sym eight) ∙ eight_first lanes wide
+    ∙ ap (λ js. take 8 (swz_l w8 16 (padded encoding) 0 js)) entry_is)

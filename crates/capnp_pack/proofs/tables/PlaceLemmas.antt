@@ -89,40 +89,40 @@ lane_at xs i j = cond (zeroes 16 w8 j) 0 (get_or xs (16 * (i / 16) + j) 0)
 clear_lane : (xs : List ℕ) (i rank bit : ℕ) → bit ≡ 0 → lane_at xs i (if bit == 1 then rank else 128) ≡ 0
 clear_lane xs i rank bit e = ap (λ b. lane_at xs i (if b == 1 then rank else 128)) e
 
-set_lane : (text : List ℕ) (i rank bit : ℕ) → bit ≡ 1 → rank < 8 → i < 8 → lane_at (padded text) i (if bit == 1 then rank else 128) ≡ get_or text rank 0
-set_lane text i rank bit e low small =
+set_lane : (encoding : List ℕ) (i rank bit : ℕ) → bit ≡ 1 → rank < 8 → i < 8 → lane_at (padded encoding) i (if bit == 1 then rank else 128) ≡ get_or encoding rank 0
+set_lane encoding i rank bit e low small =
     let first : 16 * ((i + 0) / 16) + rank ≡ rank = omega arith in
-    ap (λ b. lane_at (padded text) i (if b == 1 then rank else 128)) e
-    ∙ get_or-swz_l_below w8 16 (padded text) i (rank ∷ []) 0 (omega arith) (omega arith)
-    ∙ ap (λ k. get_or (padded text) k 0) first
-    ∙ padded_at text rank low
+    ap (λ b. lane_at (padded encoding) i (if b == 1 then rank else 128)) e
+    ∙ get_or-swz_l_below w8 16 (padded encoding) i (rank ∷ []) 0 (omega arith) (omega arith)
+    ∙ ap (λ k. get_or (padded encoding) k 0) first
+    ∙ padded_at encoding rank low
 
 -- the lanes at their places are a word under the tag
-spread : (n rank tag i : ℕ) (text : List ℕ) → n + i ≤ 8 → rank ≤ i → 8 ≤ length text → tag < 2 ^ n →
-    MarkedAt tag (swz_l w8 16 (padded text) i (places n rank tag)) (drop rank text) (drop (rank + ones tag) text)
-spread zero rank tag i text room following long low =
+spread : (n rank tag i : ℕ) (encoding : List ℕ) → n + i ≤ 8 → rank ≤ i → 8 ≤ length encoding → tag < 2 ^ n →
+    MarkedAt tag (swz_l w8 16 (padded encoding) i (places n rank tag)) (drop rank encoding) (drop (rank + ones tag) encoding)
+spread zero rank tag i encoding room following long low =
     let none : rank ≡ rank + ones tag = omega (arith, ones-le 0 tag low) in
-    (ap (λ k. drop k text) none, tt)
-spread (suc n) rank tag i text room following long low =
-    let lane = lane_at (padded text) i (if tag % 2 == 1 then rank else 128) in
-    let here = bit_here tag rank lane text (clear_lane (padded text) i rank (tag % 2)) (λ e. (omega arith, set_lane text i rank (tag % 2) e (omega arith) (omega arith))) in
-    let others = spread n (rank + tag % 2) (tag / 2) (suc i) text (omega arith) (omega arith) long (omega (arith, pow-suc 2 n)) in
+    (ap (λ k. drop k encoding) none, tt)
+spread (suc n) rank tag i encoding room following long low =
+    let lane = lane_at (padded encoding) i (if tag % 2 == 1 then rank else 128) in
+    let here = bit_here tag rank lane encoding (clear_lane (padded encoding) i rank (tag % 2)) (λ e. (omega arith, set_lane encoding i rank (tag % 2) e (omega arith) (omega arith))) in
+    let others = spread n (rank + tag % 2) (tag / 2) (suc i) encoding (omega arith) (omega arith) long (omega (arith, pow-suc 2 n)) in
     let counted : rank + tag % 2 + ones (tag / 2) ≡ rank + ones tag = omega (arith, ones_step tag) in
-    byte_joins tag lane (swz_l w8 16 (padded text) (suc i) (places n (rank + tag % 2) (tag / 2))) (drop rank text) (drop (rank + tag % 2) text) (drop (rank + ones tag) text) here
-    (subst (λ k. MarkedAt (tag / 2) (swz_l w8 16 (padded text) (suc i) (places n (rank + tag % 2) (tag / 2))) (drop (rank + tag % 2) text) (drop k text)) counted others)
+    byte_joins tag lane (swz_l w8 16 (padded encoding) (suc i) (places n (rank + tag % 2) (tag / 2))) (drop rank encoding) (drop (rank + tag % 2) encoding) (drop (rank + ones tag) encoding) here
+    (subst (λ k. MarkedAt (tag / 2) (swz_l w8 16 (padded encoding) (suc i) (places n (rank + tag % 2) (tag / 2))) (drop (rank + tag % 2) encoding) (drop k encoding)) counted others)
 
-pub spread_word : (tag : ℕ) (text word : List ℕ) → tag < 256 → 8 ≤ length text → word ≡ take 8 (swz_l w8 16 (padded text) 0 (entry tag)) → MarkedAt tag word text (drop (ones tag) text)
-spread_word tag text word low long is =
-    let front : take 8 (swz_l w8 16 (padded text) 0 (entry tag)) ≡ swz_l w8 16 (padded text) 0 (places 8 0 tag) = refl in
+pub spread_word : (tag : ℕ) (encoding word : List ℕ) → tag < 256 → 8 ≤ length encoding → word ≡ take 8 (swz_l w8 16 (padded encoding) 0 (entry tag)) → MarkedAt tag word encoding (drop (ones tag) encoding)
+spread_word tag encoding word low long is =
+    let front : take 8 (swz_l w8 16 (padded encoding) 0 (entry tag)) ≡ swz_l w8 16 (padded encoding) 0 (places 8 0 tag) = refl in
     let none : 0 + ones tag ≡ ones tag = omega arith in
-    subst (λ w. MarkedAt tag w text (drop (ones tag) text)) (sym (is ∙ front))
-    (subst (λ k. MarkedAt tag (swz_l w8 16 (padded text) 0 (places 8 0 tag)) text (drop k text)) none (spread 8 0 tag 0 text (omega arith) (omega arith) long low))
+    subst (λ w. MarkedAt tag w encoding (drop (ones tag) encoding)) (sym (is ∙ front))
+    (subst (λ k. MarkedAt tag (swz_l w8 16 (padded encoding) 0 (places 8 0 tag)) encoding (drop k encoding)) none (spread 8 0 tag 0 encoding (omega arith) (omega arith) long low))
 
 -- and from bytes that have the marked bytes, and no others, in common with these
-pub spread_front : (tag used : ℕ) (text front word : List ℕ) → used ≤ length front → take used front ≡ take used text →
-    MarkedAt tag word front (drop used front) → MarkedAt tag word text (drop used text)
-spread_front tag used text front word within same at =
+pub spread_front : (tag used : ℕ) (encoding front word : List ℕ) → used ≤ length front → take used front ≡ take used encoding →
+    MarkedAt tag word front (drop used front) → MarkedAt tag word encoding (drop used encoding)
+spread_front tag used encoding front word within same at =
     let counted : length (marked tag word) ≡ used = omega (arith, ap length at.0, length-append (marked tag word) (drop used front), length-drop used front) in
     let long : take used front ≡ marked tag word =
     ap (take used) at.0 ∙ ap (λ k. take k (marked tag word ++ drop used front)) (sym counted) ∙ take-append_seam (marked tag word) (drop used front) in
-    (sym (take-append-drop used text) ∙ ap (λ l. l ++ drop used text) (sym same ∙ long), at.1)
+    (sym (take-append-drop used encoding) ∙ ap (λ l. l ++ drop used encoding) (sym same ∙ long), at.1)

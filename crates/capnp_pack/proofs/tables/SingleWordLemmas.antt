@@ -64,8 +64,8 @@ unpacked_on used filled more count shown buffer part fits before after =
     (length-put_mid filled buffer part inside fits, unpacked_more used filled more count shown _ buffer part all fits before after)
 
 -- no group is taken
-pub none_unpacked : (text buffer : List ℕ) → Unpacked text buffer 0 0
-none_unpacked text buffer = record {
+pub none_unpacked : (encoding buffer : List ℕ) → Unpacked encoding buffer 0 0
+none_unpacked encoding buffer = record {
   used_within = omega arith;
   some = λ s. s;
   filled_within = omega arith;
@@ -78,7 +78,7 @@ pub unpacked_kept : (used filled : ℕ) (shown buffer part : List ℕ) → lengt
     Unpacked shown (put_mid filled (length buffer - filled) buffer part) used filled
 unpacked_kept used filled shown buffer part fits before =
     let after = put_mid filled (length buffer - filled) buffer part in
-    let text : used + 0 ≡ used = omega arith in
+    let encoding : used + 0 ≡ used = omega arith in
     let words : filled + 0 ≡ filled = omega arith in
     let same = unpacked_on used filled 0 0 shown buffer part fits before (none_unpacked (take (length shown - used) (drop used shown)) part) in
-    subst (λ u. Unpacked shown after u filled) text (subst (λ f. Unpacked shown after (used + 0) f) words same.1)
+    subst (λ u. Unpacked shown after u filled) encoding (subst (λ f. Unpacked shown after (used + 0) f) words same.1)

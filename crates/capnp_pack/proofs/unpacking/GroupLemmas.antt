@@ -6,7 +6,7 @@ use Rattle.std.proofs.lemmas.List.Folds.{concat-append}
 use Rattle.std.specs.List.{concat, AllByRecursion}
 use Rattle.capnp_frame.specs.Prelude.{IfKnown, ReturnsPart}
 use Rattle.capnp_frame.proofs.sources.SourceLemmas.{IfKnown-join, IfKnown-weaker}
-use Rattle.capnp_pack.specs.Prelude.{Group, zeros, IsGroup, zero_word, group_encoding, group_words, text_of, words_of_groups, Unpacks, PackedError, GroupAt, TakesGroups, group_len, same_group, error_later, error_after}
+use Rattle.capnp_pack.specs.Prelude.{Group, zeros, IsGroup, zero_word, group_encoding, group_words, encoding_of, words_of_groups, Unpacks, PackedError, GroupAt, TakesGroups, group_len, same_group, error_later, error_after}
 use Rattle.capnp_pack.proofs.unpacking.ProgressLemmas.{group_taken}
 
 -- a group at the front is a part of the result of each request that it fits into
@@ -35,15 +35,15 @@ group_takes n tag bytes raw left at fits =
     add_left : (bytes more : List ℕ) (n : ℕ) → length bytes ≤ n → length more ≡ n - length bytes → length bytes + length more ≡ n
     add_left bytes more n fits e = omega arith
 
-    split : (gs : List Group) (all rest : List ℕ) → AllByRecursion IsGroup gs → group_encoding at.0 ++ left ≡ text_of gs ++ rest →
+    split : (gs : List Group) (all rest : List ℕ) → AllByRecursion IsGroup gs → group_encoding at.0 ++ left ≡ encoding_of gs ++ rest →
         all ≡ concat (words_of_groups gs) → length all ≡ n → (more : List ℕ) × (all ≡ bytes ++ more) × Unpacks left (n - length bytes) more rest
     split [] all rest each e unpacked len = let long = group_len at.0 at.1 in absurd (omega (arith, ap length at.2, long.1, ap length unpacked))
     split (k ∷ ks) all rest each e unpacked len =
-        let same = same_group at.0 k left (text_of ks ++ rest) at.1 each.0 (e ∙ append_assoc (group_encoding k) (text_of ks) rest) in
+        let same = same_group at.0 k left (encoding_of ks ++ rest) at.1 each.0 (e ∙ append_assoc (group_encoding k) (encoding_of ks) rest) in
         let parts : all ≡ bytes ++ concat (words_of_groups ks) = unpacked ∙ concat-append (group_words k) (words_of_groups ks) ∙ ap (λ l. l ++ concat (words_of_groups ks)) (sym same.0 ∙ sym at.2) in (
           concat (words_of_groups ks),
           parts,
-          (text_of ks, record { groups = ks; each = each.1; spelled = refl; unpacked = refl }, same.1, omega (arith, len, ap length parts, length-append bytes (concat (words_of_groups ks)))),
+          (encoding_of ks, record { groups = ks; each = each.1; spelled = refl; unpacked = refl }, same.1, omega (arith, len, ap length parts, length-append bytes (concat (words_of_groups ks)))),
         )
 
 pub concat-zeros : (n : ℕ) → concat (replicate n zero_word) ≡ replicate (8 * n) 0

@@ -24,15 +24,15 @@ unpacked_passes most used filled shown words within p = record {
 -- a group that marks bytes of a word
 
 -- some word has the marked bytes that are there
-marked_word : (tag : ℕ) (text : List ℕ) → tag < 256 → ones tag ≤ length text → (word : List ℕ) × IsWord word × MarkedAt tag word text (drop (ones tag) text)
-marked_word tag text low within =
-    let front = text ++ replicate 8 0 in
+marked_word : (tag : ℕ) (encoding : List ℕ) → tag < 256 → ones tag ≤ length encoding → (word : List ℕ) × IsWord word × MarkedAt tag word encoding (drop (ones tag) encoding)
+marked_word tag encoding low within =
+    let front = encoding ++ replicate 8 0 in
     let lanes = swz_l w8 16 (padded front) 0 (entry tag) in
     let wide : length lanes ≡ 16 = length-swz_l w8 16 (padded front) 0 (entry tag) ∙ entry_len tag in
-    let long : length front ≡ length text + 8 = length-append text (replicate 8 0) in (
+    let long : length front ≡ length encoding + 8 = length-append encoding (replicate 8 0) in (
       take 8 lanes,
       length-take-le 8 lanes (omega (arith, wide)),
-      spread_front tag (ones tag) text front (take 8 lanes) (omega (arith, long)) (take-append-le (ones tag) text (replicate 8 0) within)
+      spread_front tag (ones tag) encoding front (take 8 lanes) (omega (arith, long)) (take-append-le (ones tag) encoding (replicate 8 0) within)
           (spread_word tag front (take 8 lanes) low (omega (arith, long)) refl),
     )
 
@@ -129,8 +129,8 @@ run_passes (suc t) head further most used shown following is low byte e within r
 
 -- groups after groups
 
-pub none_passes : (text : List ℕ) (most : ℕ) → Passes text most 0 0
-none_passes text most = record {
+pub none_passes : (encoding : List ℕ) (most : ℕ) → Passes encoding most 0 0
+none_passes encoding most = record {
   used_within = omega arith;
   some = λ s. s;
   filled_within = omega arith;

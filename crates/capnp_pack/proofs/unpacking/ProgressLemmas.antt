@@ -7,14 +7,14 @@ use Rattle.std.proofs.lemmas.List.Concat.{flat_map-append}
 use lib.Seq.{take-append-le}
 use Rattle.capnp_frame.specs.Prelude.{IfKnown, IsFront}
 use Rattle.capnp_frame.proofs.sources.SourceLemmas.{IfKnown-join}
-use Rattle.capnp_pack.specs.Prelude.{IsGroup, group_encoding, group_words, text_of, words_of_groups, HasProgress, GroupAt, Unpacked}
+use Rattle.capnp_pack.specs.Prelude.{IsGroup, group_encoding, group_words, encoding_of, words_of_groups, HasProgress, GroupAt, Unpacked}
 use Rattle.capnp_pack.proofs.words.AllLemmas.{AllByRecursion-append}
 
 pub more_taken : (j k : ℕ) (a b c : Option (List ℕ)) → IfKnown a b (HasProgress j) → IfKnown b c (HasProgress k) → IfKnown a c (HasProgress (j + k))
 more_taken j k a b c = IfKnown-join a b c (λ x y z (groups, each, spelled, counted) (more, also, rest, further). (
   groups ++ more,
   AllByRecursion-append IsGroup groups more each also,
-  spelled ∙ ap (λ l. text_of groups ++ l) rest ∙ sym (append_assoc (text_of groups) (text_of more) z) ∙ ap (λ l. l ++ z) (sym (flat_map-append group_encoding groups more)),
+  spelled ∙ ap (λ l. encoding_of groups ++ l) rest ∙ sym (append_assoc (encoding_of groups) (encoding_of more) z) ∙ ap (λ l. l ++ z) (sym (flat_map-append group_encoding groups more)),
   ap (λ l. length (concat l)) (flat_map-append group_words groups more) ∙ ap length (concat-append (words_of_groups groups) (words_of_groups more))
       ∙ length-append (concat (words_of_groups groups)) (concat (words_of_groups more)) ∙ ap (λ i. i + length (concat (words_of_groups more))) counted ∙ ap (λ i. j + i) further,
 ))
@@ -39,9 +39,9 @@ shown_taken used filled shown buffer a b c front same gone p = known a c front (
     known (Some x) None front gone = absurd gone
     known (Some x) (Some z) (tail, e) gone =
         let chunk = p.chunk in
-        let text : take used x ≡ text_of chunk.groups = ap (take used) e ∙ take-append-le used shown tail p.used_within ∙ chunk.spelled in (
+        let encoding : take used x ≡ encoding_of chunk.groups = ap (take used) e ∙ take-append-le used shown tail p.used_within ∙ chunk.spelled in (
           chunk.groups,
           chunk.each,
-          sym (take-append-drop used x) ∙ ap (λ l. l ++ drop used x) text ∙ ap (λ l. text_of chunk.groups ++ l) (sym gone),
+          sym (take-append-drop used x) ∙ ap (λ l. l ++ drop used x) encoding ∙ ap (λ l. encoding_of chunk.groups ++ l) (sym gone),
           ap length (sym chunk.unpacked) ∙ length-take-le filled buffer p.filled_within,
         )

@@ -11,7 +11,7 @@ use Rattle.capnp_frame.specs.declared.error.ErrorKind.TheVariants.{DeviceFailed,
 use Rattle.capnp_frame.specs.declared.io.Read.{Ghosts}
 use Rattle.capnp_frame.specs.Prelude.{FailsOr, IfKnown, IsFront, RequestError}
 use Rattle.capnp_frame.proofs.sources.SourceLemmas.{IfKnown-weaker}
-use Rattle.capnp_pack.specs.Prelude.{TakesNext, Group, tagged, zeros, literal, IsGroup, group_encoding, group_words, text_of, words_of_groups, Unpacks, group_size, GroupError, PackedError, ChunkError, LeavesOverrun, Overran, FirstGroupError, HasProgress, TakesGroups, Passes, PassesGroups, length-words}
+use Rattle.capnp_pack.specs.Prelude.{TakesNext, Group, tagged, zeros, literal, IsGroup, group_encoding, group_words, encoding_of, words_of_groups, Unpacks, group_size, GroupError, PackedError, ChunkError, LeavesOverrun, Overran, FirstGroupError, HasProgress, TakesGroups, Passes, PassesGroups, length-words}
 use Rattle.capnp_pack.proofs.words.AllLemmas.{AllByRecursion-append}
 use Rattle.capnp_pack.proofs.errors.ChunkLemmas.{group_error, group_meets, chunk_error, end_error, none_error, end_before}
 use Rattle.capnp_pack.proofs.errors.GroupErrorLemmas.{zeros_size}
@@ -30,7 +30,7 @@ passes_taken most used filled shown a b c front same gone p = known a c front (s
         let left : drop used x ≡ drop used shown ++ tail = ap (drop used) e ∙ drop-append-le used shown tail p.used_within in (
           groups,
           each,
-          e ∙ ap (λ l. l ++ tail) spelled ∙ append_assoc (text_of groups) (drop used shown) tail ∙ ap (λ l. text_of groups ++ l) (sym (gone ∙ left)),
+          e ∙ ap (λ l. l ++ tail) spelled ∙ append_assoc (encoding_of groups) (drop used shown) tail ∙ ap (λ l. encoding_of groups ++ l) (sym (gone ∙ left)),
           counted,
         )
 
@@ -125,7 +125,7 @@ error_after_groups n k raw left kind (groups, each, spelled, counted) p =
       groups = groups ++ p.groups;
       each = AllByRecursion-append IsGroup groups p.groups each p.each;
       left = p.left;
-      spelled = spelled ∙ ap (λ l. text_of groups ++ l) p.spelled ∙ sym (append_assoc (text_of groups) (text_of p.groups) p.left)
+      spelled = spelled ∙ ap (λ l. encoding_of groups ++ l) p.spelled ∙ sym (append_assoc (encoding_of groups) (encoding_of p.groups) p.left)
           ∙ ap (λ l. l ++ p.left) (sym (flat_map-append group_encoding groups p.groups));
       fewer = omega (arith, words, fewer);
       error = subst (λ j. GroupError p.left j kind) rest p.error;
@@ -163,5 +163,5 @@ skip_none n old mid whole some same none = none_error n old some whole (end_befo
 pub chunk_skipped : (n k : ℕ) (old new : Option (List ℕ)) → k ≡ n → IfKnown old new (HasProgress k) → IfKnown old new (λ raw rest. (words : List ℕ) × Unpacks raw n words rest)
 chunk_skipped n k old new all = IfKnown-weaker old new (λ raw rest (groups, each, spelled, counted). (
   concat (words_of_groups groups),
-  (text_of groups, record { groups = groups; each = each; spelled = refl; unpacked = refl }, spelled, counted ∙ all),
+  (encoding_of groups, record { groups = groups; each = each; spelled = refl; unpacked = refl }, spelled, counted ∙ all),
 ))

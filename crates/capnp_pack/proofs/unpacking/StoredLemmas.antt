@@ -16,8 +16,8 @@ shown_taken n shown bytes old mid new front same gone within is = from old new f
     from None new front gone = tt
     from (Some raw) None front gone = absurd gone
     from (Some raw) (Some left) front gone =
-        let text : take n raw ≡ bytes = ap (take n) front.1 ∙ take-append-le n shown front.0 within ∙ sym is in
-        sym (take-append-drop n raw) ∙ ap (λ l. l ++ drop n raw) text ∙ ap (λ l. bytes ++ l) (sym gone)
+        let encoding : take n raw ≡ bytes = ap (take n) front.1 ∙ take-append-le n shown front.0 within ∙ sym is in
+        sym (take-append-drop n raw) ∙ ap (λ l. l ++ drop n raw) encoding ∙ ap (λ l. bytes ++ l) (sym gone)
 
 -- a buffer whose rest is filled by a request
 stored_whole : (a : ℕ) (xs ys : List ℕ) → a ≤ length xs → length ys ≡ length xs - a → put_mid a (length xs - a) xs ys ≡ take a xs ++ ys

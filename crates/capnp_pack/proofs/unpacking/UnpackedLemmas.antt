@@ -10,7 +10,7 @@ use Rattle.std.specs.List.{concat, AllByRecursion}
 use borrow.Rule.Slice.PartMut.{put_mid}
 use Rattle.capnp_frame.specs.Prelude.{IfKnown, IsFront, ReturnsPart}
 use Rattle.capnp_frame.proofs.sources.SourceLemmas.{ReturnsPart-join, ReturnsPart-none, length-put_mid}
-use Rattle.capnp_pack.specs.Prelude.{Group, tagged, zeros, literal, IsGroup, IsWord, AreZero, group_encoding, group_words, marked, unmarked, text_of, words_of_groups, Unpacks, PackedError, MarkedAt, RunAt, GroupFollowing, Unpacked}
+use Rattle.capnp_pack.specs.Prelude.{Group, tagged, zeros, literal, IsGroup, IsWord, AreZero, group_encoding, group_words, marked, unmarked, encoding_of, words_of_groups, Unpacks, PackedError, MarkedAt, RunAt, GroupFollowing, Unpacked}
 use Rattle.capnp_pack.proofs.words.AllLemmas.{AllByRecursion-append}
 use Rattle.capnp_pack.proofs.unpacking.GroupLemmas.{group_takes, zeros_at}
 use Rattle.capnp_pack.proofs.words.WordLemmas.{clear_byte, set_byte, full_word}
@@ -18,19 +18,19 @@ use Rattle.capnp_frame.proofs.sources.SourceLemmas.{put_mid_front}
 use Rattle.capnp_pack.proofs.unpacking.WordGroups.{tagged_found, literal_found}
 
 -- a byte by its bit, in the bytes from `used` on
-pub bit_here : (bits used byte : ℕ) (text : List ℕ) → (bits % 2 ≡ 0 → byte ≡ 0) →
-    (bits % 2 ≡ 1 → (used < length text) × (byte ≡ get_or text used 0)) → MarkedAt bits (byte ∷ []) (drop used text) (drop (used + bits % 2) text)
-bit_here bits used byte text clear set = by_bit (bits % 2) refl
+pub bit_here : (bits used byte : ℕ) (encoding : List ℕ) → (bits % 2 ≡ 0 → byte ≡ 0) →
+    (bits % 2 ≡ 1 → (used < length encoding) × (byte ≡ get_or encoding used 0)) → MarkedAt bits (byte ∷ []) (drop used encoding) (drop (used + bits % 2) encoding)
+bit_here bits used byte encoding clear set = by_bit (bits % 2) refl
   where
-    by_bit : (bit : ℕ) → bits % 2 ≡ bit → MarkedAt bits (byte ∷ []) (drop used text) (drop (used + bit) text)
+    by_bit : (bit : ℕ) → bits % 2 ≡ bit → MarkedAt bits (byte ∷ []) (drop used encoding) (drop (used + bit) encoding)
     by_bit zero e =
         let none : used + 0 ≡ used = omega arith in
-        subst (λ k. MarkedAt bits (byte ∷ []) (drop used text) (drop k text)) (sym none)
-        (subst (λ b. MarkedAt bits (b ∷ []) (drop used text) (drop used text)) (sym (clear e)) (clear_byte bits (Some (drop used text)) e))
+        subst (λ k. MarkedAt bits (byte ∷ []) (drop used encoding) (drop k encoding)) (sym none)
+        (subst (λ b. MarkedAt bits (b ∷ []) (drop used encoding) (drop used encoding)) (sym (clear e)) (clear_byte bits (Some (drop used encoding)) e))
     by_bit (suc zero) e =
         let here = set e in
-        let front : drop used text ≡ byte ∷ drop (used + 1) text = drop-cons text used 0 here.0 ∙ ap (λ b. b ∷ drop (suc used) text) (sym here.1) ∙ ap (λ k. byte ∷ drop k text) (sym (add-one used)) in
-        set_byte bits byte (Some (drop used text)) (Some (drop (used + 1) text)) (λ z. absurd (omega arith)) front
+        let front : drop used encoding ≡ byte ∷ drop (used + 1) encoding = drop-cons encoding used 0 here.0 ∙ ap (λ b. b ∷ drop (suc used) encoding) (sym here.1) ∙ ap (λ k. byte ∷ drop k encoding) (sym (add-one used)) in
+        set_byte bits byte (Some (drop used encoding)) (Some (drop (used + 1) encoding)) (λ z. absurd (omega arith)) front
     by_bit (suc (suc bit)) e = absurd (omega arith)
 
 -- the groups by their tags
@@ -58,17 +58,17 @@ zeros_after filled following buffer long byte count room clear =
     }
 
 -- what is copied by its ends, with nothing between them
-pub copied_ends : (part count : ℕ) (text buffer last : List ℕ) → part ≤ count → count ≤ 2 * part → count ≤ length buffer → take part buffer ≡ take part text →
-    length last ≡ length buffer - (count - part) → take part last ≡ take part (drop (count - part) text) →
-    take count (put_mid (count - part) (length buffer - (count - part)) buffer last) ≡ take count text
-copied_ends part count text buffer last most twice room front fits end =
+pub copied_ends : (part count : ℕ) (encoding buffer last : List ℕ) → part ≤ count → count ≤ 2 * part → count ≤ length buffer → take part buffer ≡ take part encoding →
+    length last ≡ length buffer - (count - part) → take part last ≡ take part (drop (count - part) encoding) →
+    take count (put_mid (count - part) (length buffer - (count - part)) buffer last) ≡ take count encoding
+copied_ends part count encoding buffer last most twice room front fits end =
     let cut = count - part in
     let after = put_mid cut (length buffer - cut) buffer last in
     let joined : cut + part ≡ count = omega arith in
-    let before : take cut buffer ≡ take cut text = sym (take-take cut part buffer (omega arith)) ∙ ap (take cut) front ∙ take-take cut part text (omega arith) in
-    let both : take (cut + part) after ≡ take (cut + part) text = put_mid_front cut (length buffer - cut) part buffer last (omega arith) (omega arith)
-    ∙ ap (λ l. l ++ take part last) before ∙ ap (λ l. take cut text ++ l) end ∙ sym (take-add cut part text) in
-    subst (λ n. take n after ≡ take n text) joined both
+    let before : take cut buffer ≡ take cut encoding = sym (take-take cut part buffer (omega arith)) ∙ ap (take cut) front ∙ take-take cut part encoding (omega arith) in
+    let both : take (cut + part) after ≡ take (cut + part) encoding = put_mid_front cut (length buffer - cut) part buffer last (omega arith) (omega arith)
+    ∙ ap (λ l. l ++ take part last) before ∙ ap (λ l. take cut encoding ++ l) end ∙ sym (take-add cut part encoding) in
+    subst (λ n. take n after ≡ take n encoding) joined both
 
 -- and where their first sixteen bytes and their last sixteen are cleared, with nothing between them
 pub short_zeros_after : (filled : ℕ) (following buffer part : List ℕ) → 1 ≤ length following → get_or following 0 0 < 256 → filled ≡ 8 * (get_or following 0 0 + 1) →
@@ -171,7 +171,7 @@ unpacked_more used filled more count shown rest buffer part e fits p q =
         groups = gs ++ hs;
         each = AllByRecursion-append IsGroup gs hs p.chunk.each q.chunk.each;
         spelled = take-add used more shown ∙ ap (λ l. take used shown ++ take more l) (sym e) ∙ ap (λ l. l ++ take more rest) p.chunk.spelled
-            ∙ ap (λ l. text_of gs ++ l) q.chunk.spelled ∙ sym (flat_map-append group_encoding gs hs);
+            ∙ ap (λ l. encoding_of gs ++ l) q.chunk.spelled ∙ sym (flat_map-append group_encoding gs hs);
         unpacked = put_mid_front filled (length buffer - filled) count buffer part before inside ∙ ap (λ l. l ++ take count part) p.chunk.unpacked
             ∙ ap (λ l. concat (words_of_groups gs) ++ l) q.chunk.unpacked ∙ sym (concat-append (words_of_groups gs) (words_of_groups hs))
             ∙ ap concat (sym (flat_map-append group_words gs hs));
@@ -186,17 +186,17 @@ group_first (zeros further) n left is fits = group_takes n 0 _ (further ∷ left
 group_first (literal word further) n left is fits = group_takes n 255 _ ((word ++ length further ∷ concat further) ++ left) left (literal word further, is, refl, refl) fits
 
 chunk_takes : (gs : List Group) (n : ℕ) (left : List ℕ) → AllByRecursion IsGroup gs → length (concat (words_of_groups gs)) ≤ n →
-    ReturnsPart Unpacks PackedError n (concat (words_of_groups gs)) (text_of gs ++ left) left
+    ReturnsPart Unpacks PackedError n (concat (words_of_groups gs)) (encoding_of gs ++ left) left
 chunk_takes [] n left each fits = ReturnsPart-none n left
 chunk_takes (g ∷ gs) n left each fits =
     let parts : concat (words_of_groups (g ∷ gs)) ≡ concat (group_words g) ++ concat (words_of_groups gs) = concat-append (group_words g) (words_of_groups gs) in
     let size = length-append (concat (group_words g)) (concat (words_of_groups gs)) in
     let whole = ap length parts in
-    let first = group_first g n (text_of gs ++ left) each.0 (omega arith) in
+    let first = group_first g n (encoding_of gs ++ left) each.0 (omega arith) in
     let others = chunk_takes gs (n - length (concat (group_words g))) left each.1 (omega arith) in
-    subst (λ l. ReturnsPart Unpacks PackedError n l (text_of (g ∷ gs) ++ left) left) (sym parts)
-    (subst (λ l. ReturnsPart Unpacks PackedError n (concat (group_words g) ++ concat (words_of_groups gs)) l left) (sym (append_assoc (group_encoding g) (text_of gs) left))
-    (ReturnsPart-join n (concat (group_words g)) (concat (words_of_groups gs)) _ (text_of gs ++ left) left first others))
+    subst (λ l. ReturnsPart Unpacks PackedError n l (encoding_of (g ∷ gs) ++ left) left) (sym parts)
+    (subst (λ l. ReturnsPart Unpacks PackedError n (concat (group_words g) ++ concat (words_of_groups gs)) l left) (sym (append_assoc (group_encoding g) (encoding_of gs) left))
+    (ReturnsPart-join n (concat (group_words g)) (concat (words_of_groups gs)) _ (encoding_of gs ++ left) left first others))
 
 taken_from : (used filled : ℕ) (shown buffer : List ℕ) (old new : Option (List ℕ)) → IfSome old (IsFront shown) →
     IfKnown old new (λ raw left. left ≡ drop used raw) → Unpacked shown buffer used filled → IfKnown old new (ReturnsPart Unpacks PackedError (length buffer) (take filled buffer))
@@ -204,8 +204,8 @@ taken_from used filled shown buffer None new front gone p = tt
 taken_from used filled shown buffer (Some raw) None front gone p = absurd gone
 taken_from used filled shown buffer (Some raw) (Some left) front gone p =
     let gs = p.chunk.groups in
-    let text : take used raw ≡ text_of gs = ap (take used) front.1 ∙ take-append-le used shown front.0 p.used_within ∙ p.chunk.spelled in
-    let whole : raw ≡ text_of gs ++ left = sym (take-append-drop used raw) ∙ ap (λ l. l ++ drop used raw) text ∙ ap (λ l. text_of gs ++ l) (sym gone) in
+    let encoding : take used raw ≡ encoding_of gs = ap (take used) front.1 ∙ take-append-le used shown front.0 p.used_within ∙ p.chunk.spelled in
+    let whole : raw ≡ encoding_of gs ++ left = sym (take-append-drop used raw) ∙ ap (λ l. l ++ drop used raw) encoding ∙ ap (λ l. encoding_of gs ++ l) (sym gone) in
     let part : length (take filled buffer) ≡ filled = length-take-le filled buffer p.filled_within in
     let inside = p.filled_within in
     let fits : length (concat (words_of_groups gs)) ≤ length buffer = omega (arith, ap length p.chunk.unpacked) in

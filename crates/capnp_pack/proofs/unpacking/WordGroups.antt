@@ -20,9 +20,9 @@ literal_at tag word run bytes x y z full is both (at, clear) (more, low, long, e
     let fs = first_chunks 8 more run in
     let cut = chunks_whole more run long in
     let count : length fs ≡ more = chunks_len more run in
-    let text : x ≡ word ++ y = at ∙ ap (λ k. marked k word ++ y) full ∙ ap (λ l. l ++ y) (full_word word is).0 in
+    let encoding : x ≡ word ++ y = at ∙ ap (λ k. marked k word ++ y) full ∙ ap (λ l. l ++ y) (full_word word is).0 in
     let rest : y ≡ length fs ∷ concat fs ++ z = e ∙ ap (λ k. k ∷ run ++ z) (sym count) ∙ ap (λ l. length fs ∷ l ++ z) (sym cut.0) in
-    let whole : x ≡ (word ++ length fs ∷ concat fs) ++ z = text ∙ ap (λ l. word ++ l) rest ∙ sym (append_assoc word (length fs ∷ concat fs) z) in
+    let whole : x ≡ (word ++ length fs ∷ concat fs) ++ z = encoding ∙ ap (λ l. word ++ l) rest ∙ sym (append_assoc word (length fs ∷ concat fs) z) in
     (literal word fs, (is, cut.1, subst (λ k. k < 256) (sym count) low), both ∙ ap (λ l. word ++ l) (sym cut.0), ap (λ k. k ∷ x) full ∙ ap (λ l. 255 ∷ l) whole)
 
 pub literal_found : (tag : ℕ) (word run bytes : List ℕ) (old mid new : Option (List ℕ)) → tag ≡ 255 → IsWord word → bytes ≡ word ++ run →

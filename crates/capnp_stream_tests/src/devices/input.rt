@@ -106,14 +106,14 @@ fn long_requests_go_past_the_buffer(rt: HostRuntime) -> Result<()> {
 
 fn read_much(rt: &(impl Abort + AllocGlobal), request: usize, longest: usize) -> Result<()> {
     let at = At::new("bytes asked for", request as u64);
-    let text = vec![in rt.alloc(); 7u8; 10000]?;
-    let mut device = giving(&text, 10000, 0, 0);
+    let bytes = vec![in rt.alloc(); 7u8; 10000]?;
+    let mut device = giving(&bytes, 10000, 0, 0);
     let mut input = input_of(rt.alloc(), &mut device)?;
     let mut got = vec![in rt.alloc(); 0u8; request]?;
     let count = Read::read(&mut input, &mut got)?;
     drop(input);
     assert_count(rt, count, request, at);
     assert_count(rt, device.longest, longest, at);
-    assert_bytes(rt, &got, text.get(..request).unwrap_or(&[]), at);
+    assert_bytes(rt, &got, bytes.get(..request).unwrap_or(&[]), at);
     Ok(())
 }

@@ -1,7 +1,7 @@
 //! Each caller once, on bytes of the encoding document and of the C++ tool.
 use crate::building::write_struct;
 use crate::canonical::canonical_words;
-use crate::packed_struct::{a_struct_is_read_packed, packed_text, read_packed_words};
+use crate::packed_struct::{a_struct_is_read_packed, packed_encoding, read_packed_words};
 use crate::packing::{pack_words, unpack_words, words_are_unpacked};
 use crate::reading::{borrowed_message, first_message, root_text};
 use crate::record_log::two_records_are_read_back;
@@ -121,9 +121,9 @@ fn the_next_message(rt: HostRuntime) -> Result<()> {
     Ok(())
 }
 
-fn unpacked(text: &[u8]) -> Result<[u8; 16]> {
+fn unpacked(encoding: &[u8]) -> Result<[u8; 16]> {
     let mut words = [0; 16];
-    unpack_words(text, &mut words)?;
+    unpack_words(encoding, &mut words)?;
     Ok(words)
 }
 
@@ -131,10 +131,10 @@ fn unpacked(text: &[u8]) -> Result<[u8; 16]> {
 #[test]
 fn words_of_the_document(rt: HostRuntime) -> Result<()> {
     let words = [8, 0, 0, 0, 3, 0, 2, 0, 0x19, 0, 0, 0, 0xaa, 1, 0, 0];
-    let text = pack_words(rt.alloc(), &words)?;
+    let encoding = pack_words(rt.alloc(), &words)?;
     let wanted = [0x51, 8, 3, 2, 0x31, 0x19, 0xaa, 1];
-    expect(&rt, "packed", text.as_slice(), wanted.as_slice());
-    assert!(rt; unpacked(&text)? == words);
+    expect(&rt, "packed", encoding.as_slice(), wanted.as_slice());
+    assert!(rt; unpacked(&encoding)? == words);
     let back = words_are_unpacked(rt.alloc(), &words)?;
     expect(&rt, "both ways", back.as_slice(), words.as_slice());
     Ok(())
@@ -182,13 +182,13 @@ fn a_struct_is_packed(rt: HostRuntime) -> Result<()> {
     let mut message = Builder::new_default(rt.alloc());
     write_struct(&mut message, 10, 20)?;
     assert!(rt; !message.is_empty());
-    let text = packed_text(rt.alloc(), &message)?;
+    let encoding = packed_encoding(rt.alloc(), &message)?;
     let wanted = [0x10, 3, 0x10, 2, 1, 10, 1, 20];
-    expect(&rt, "packed", text.as_slice(), wanted.as_slice());
+    expect(&rt, "packed", encoding.as_slice(), wanted.as_slice());
     expect(
         &rt,
         "words",
-        read_packed_words(rt.alloc(), &text)?,
+        read_packed_words(rt.alloc(), &encoding)?,
         (10, 20),
     );
     Ok(())

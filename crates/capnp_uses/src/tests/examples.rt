@@ -124,10 +124,10 @@ fn appends_a_record_to_a_log(rt: HostRuntime) -> Result<(), Fail> {
 #[test]
 fn packs_words(rt: HostRuntime) -> Result<(), Fail> {
     let alloc = rt.alloc();
-    let mut text = Vec::new(alloc);
-    let mut packed = PackedWrite::new(&mut text);
+    let mut encoding = Vec::new(alloc);
+    let mut packed = PackedWrite::new(&mut encoding);
     packed.write_all(&[8, 0, 0, 0, 3, 0, 2, 0])?;
-    assert_eq!(rt; text.as_slice(), [0x51, 8, 3, 2].as_slice());
+    assert_eq!(rt; encoding.as_slice(), [0x51, 8, 3, 2].as_slice());
     Ok(())
 }
 

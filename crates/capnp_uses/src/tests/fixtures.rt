@@ -49,13 +49,13 @@ pub fn set_root_canonical(message: &mut Builder<HeapAllocator>, root: Source<'_>
 /// What a stream is transcoded to, and how many bytes of it are left.
 pub fn transcoded(alloc: Global, way: Way, stream: &[u8]) -> Result<(Vec<u8>, usize)> {
     let mut source = stream;
-    let mut text = Vec::new(alloc);
-    transcode(alloc, way, &mut source, &mut text, DEFAULT_READER_OPTIONS)?;
-    Ok((text, source.len()))
+    let mut encoding = Vec::new(alloc);
+    transcode(alloc, way, &mut source, &mut encoding, DEFAULT_READER_OPTIONS)?;
+    Ok((encoding, source.len()))
 }
 
 /// The canonical form of a message, framed.
-pub fn canonical_text(alloc: Global, reader: &Message<'_>) -> Result<Vec<u8>> {
+pub fn canonical_encoding(alloc: Global, reader: &Message<'_>) -> Result<Vec<u8>> {
     let mut sink: Vec<u8> = Vec::new(alloc);
     write_canonical_message(alloc, &mut sink, reader)?;
     Ok(sink)

@@ -1,6 +1,6 @@
 //! Messages of many words through each call that reads, writes and canonicalizes.
 use crate::tests::fixtures::{
-    Message, canonical_text, expect, message_of, set_root, set_root_canonical, transcoded,
+    Message, canonical_encoding, expect, message_of, set_root, set_root_canonical, transcoded,
 };
 use capnp::message::{Builder, DEFAULT_READER_OPTIONS, HeapAllocator, Reader, ReaderSegments};
 use capnp::{Result, Way, data, serialize, serialize_packed};
@@ -45,7 +45,7 @@ fn a_form_of_a_million_words(rt: HostRuntime) -> Result<()> {
 #[test]
 fn a_million_words_are_read(rt: HostRuntime) -> Result<()> {
     let segment = segment_of(&rt, 1 << 20)?;
-    let framed = framed_text(rt.alloc(), &segment)?;
+    let framed = framed_encoding(rt.alloc(), &segment)?;
     read_framed(&rt, &framed, &segment)?;
     read_slice(&rt, &framed, &segment)
 }
@@ -53,7 +53,7 @@ fn a_million_words_are_read(rt: HostRuntime) -> Result<()> {
 #[test]
 fn a_million_words_are_packed(rt: HostRuntime) -> Result<()> {
     let segment = segment_of(&rt, 1 << 20)?;
-    let framed = framed_text(rt.alloc(), &segment)?;
+    let framed = framed_encoding(rt.alloc(), &segment)?;
     assert!(rt; pack(&rt, &framed)? == packed_million(rt.alloc())?);
     Ok(())
 }
@@ -67,7 +67,7 @@ fn a_million_packed_words_are_read(rt: HostRuntime) -> Result<()> {
 #[test]
 fn a_million_packed_words_are_unpacked(rt: HostRuntime) -> Result<()> {
     let segment = segment_of(&rt, 1 << 20)?;
-    let framed = framed_text(rt.alloc(), &segment)?;
+    let framed = framed_encoding(rt.alloc(), &segment)?;
     unpack(&rt, &packed_million(rt.alloc())?, &framed)
 }
 
@@ -103,9 +103,9 @@ fn build_and_write(rt: &(impl Abort + AllocGlobal), segment: &[u8]) -> Result<()
     let words = segment.len() / 8;
     expect(rt, "words", message.size_in_words(), words);
     assert!(rt; message.get_segments_for_output().get_segment(1).is_none());
-    let text = framed_text(rt.alloc(), segment)?;
-    assert!(rt; written(rt, &message)? == text);
-    assert!(rt; serialize::write_message_to_words(rt.alloc(), &message)? == text);
+    let encoding = framed_encoding(rt.alloc(), segment)?;
+    assert!(rt; written(rt, &message)? == encoding);
+    assert!(rt; serialize::write_message_to_words(rt.alloc(), &message)? == encoding);
     Ok(())
 }
 
@@ -122,7 +122,7 @@ fn written(rt: &(impl Abort + AllocGlobal), message: &Builder<HeapAllocator>) ->
 
 // A framed encoding, and what is packed of it, by each reader.
 fn read_back(rt: &(impl Abort + AllocGlobal), segment: &[u8]) -> Result<()> {
-    let framed = framed_text(rt.alloc(), segment)?;
+    let framed = framed_encoding(rt.alloc(), segment)?;
     let packed = pack(rt, &framed)?;
     read_framed(rt, &framed, segment)?;
     read_slice(rt, &framed, segment)?;
@@ -130,7 +130,7 @@ fn read_back(rt: &(impl Abort + AllocGlobal), segment: &[u8]) -> Result<()> {
     unpack(rt, &packed, &framed)
 }
 
-pub(crate) fn framed_text(alloc: Global, segment: &[u8]) -> Result<Vec<u8>> {
+pub(crate) fn framed_encoding(alloc: Global, segment: &[u8]) -> Result<Vec<u8>> {
     let mut framed = ((segment.len() as u64 / 8) << 32)
         .to_le_bytes()
         .to_vec(alloc)?;
@@ -229,7 +229,7 @@ fn canonicalize(rt: &(impl Abort + AllocGlobal), segment: &[u8]) -> Result<()> {
     expect(rt, "words", words, segment.len() / 8);
     let form = reader.canonical_segment(rt.alloc())?;
     assert!(rt; form.as_slice() == segment);
-    assert!(rt; canonical_text(rt.alloc(), &reader)?.ends_with(segment));
+    assert!(rt; canonical_encoding(rt.alloc(), &reader)?.ends_with(segment));
     set_from(rt, &reader, segment)
 }
 

@@ -1,7 +1,7 @@
 //! Messages of more than 100,000 words, no two objects or numbers of which are equal: read, packed,
 //! copied and made canonical.
 use crate::tests::fixtures::{Source, expect, message_of, set_root, set_root_canonical};
-use crate::tests::large_messages::{framed_text, pack, read_framed, read_packed, has_segment, unpack};
+use crate::tests::large_messages::{framed_encoding, pack, read_framed, read_packed, has_segment, unpack};
 use capnp::Result;
 use capnp::message::{Builder, DEFAULT_READER_OPTIONS, HeapAllocator};
 use capnp_frame_tests::long_lists::{
@@ -22,7 +22,7 @@ const STRUCTS_COUNT: u32 = 33_335;
 fn many_words_by_each_format(rt: HostRuntime) -> Result<()> {
     let segment = list_of_numbers(rt.alloc(), 8, NUMBERS_COUNT)?;
     expect(&rt, "words", segment.len() / 8, 100_005);
-    let framed = framed_text(rt.alloc(), &segment)?;
+    let framed = framed_encoding(rt.alloc(), &segment)?;
     let mut packed: Vec<u8> = Vec::new(rt.alloc());
     for word in framed.chunks(8) {
         let mut bytes = [0; 8];

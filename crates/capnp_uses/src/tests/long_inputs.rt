@@ -72,14 +72,14 @@ fn a_long_chunk_in_a_slice(rt: HostRuntime) -> Result<()> {
 }
 
 fn packed(alloc: Global, words: &[u8]) -> Result<Vec<u8>> {
-    let mut text = Vec::new(alloc);
-    PackedWrite::new(&mut text).write_all(words)?;
-    Ok(text)
+    let mut encoding = Vec::new(alloc);
+    PackedWrite::new(&mut encoding).write_all(words)?;
+    Ok(encoding)
 }
 
-// Unpacks into a part, and returns how many bytes of the text are left.
-fn unpack_into(text: &[u8], part: &mut [u8]) -> Result<usize> {
-    let mut source = text;
+// Unpacks into a part, and returns how many bytes of the encoding are left.
+fn unpack_into(encoding: &[u8], part: &mut [u8]) -> Result<usize> {
+    let mut source = encoding;
     PackedRead::new(&mut source).read_exact(part)?;
     Ok(source.len())
 }
@@ -92,20 +92,20 @@ const PACKED_LENGTHS: [(usize, usize); 2] = [(65_544, 65_610), (2_000_904, 2_002
 fn long_packed_chunks(rt: HostRuntime) -> Result<()> {
     for (length, packed_length) in &PACKED_LENGTHS {
         let words = filled(rt.alloc(), 7, *length)?;
-        let text = packed(rt.alloc(), &words)?;
-        expect(&rt, "the text", text.len(), *packed_length);
-        assert!(rt; text.ends_with(&[255, 7, 7, 7, 7, 7, 7, 7, 7, 0]));
+        let encoding = packed(rt.alloc(), &words)?;
+        expect(&rt, "the encoding", encoding.len(), *packed_length);
+        assert!(rt; encoding.ends_with(&[255, 7, 7, 7, 7, 7, 7, 7, 7, 0]));
         let mut read = filled(rt.alloc(), 0, *length)?;
-        expect(&rt, "left", unpack_into(&text, &mut read)?, 0);
+        expect(&rt, "left", unpack_into(&encoding, &mut read)?, 0);
         assert!(rt; read == words);
     }
     Ok(())
 }
 
-fn repeated(alloc: Global, text: &[u8], times: usize) -> std::result::Result<Vec<u8>, AllocError> {
+fn repeated(alloc: Global, encoding: &[u8], times: usize) -> std::result::Result<Vec<u8>, AllocError> {
     let mut stream = Vec::new(alloc);
     for _ in 0..times {
-        stream.extend_from_slice(text)?;
+        stream.extend_from_slice(encoding)?;
     }
     Ok(stream)
 }
@@ -132,9 +132,9 @@ fn two_thousand_messages(rt: HostRuntime) -> Result<()> {
 fn two_thousand_messages_are_transcoded(rt: HostRuntime) -> Result<()> {
     let framed = repeated(rt.alloc(), &FRAMED, 2101)?;
     let packed = repeated(rt.alloc(), &PACKED, 2101)?;
-    let (text, _) = transcoded(rt.alloc(), Way::Pack, &framed)?;
-    assert!(rt; text == packed);
-    let (text, _) = transcoded(rt.alloc(), Way::Unpack, &packed)?;
-    assert!(rt; text == framed);
+    let (encoding, _) = transcoded(rt.alloc(), Way::Pack, &framed)?;
+    assert!(rt; encoding == packed);
+    let (encoding, _) = transcoded(rt.alloc(), Way::Unpack, &packed)?;
+    assert!(rt; encoding == framed);
     Ok(())
 }

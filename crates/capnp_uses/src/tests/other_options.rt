@@ -161,7 +161,7 @@ fn bytes_that_fail(rt: HostRuntime) {
 
 // Packed encodings, and the errors of two words that are unpacked and of the struct at the root.
 #[rattlefmt::skip]
-const PACKED_TEXTS: [(&[u8], [u8; 2]); 6] = [
+const PACKED_ENCODINGS: [(&[u8], [u8; 2]); 6] = [
     (&[],                                   [1, 9]),
     (&[0x10, 3, 0x10, 2, 1, 10, 1],         [0, 10]),
     (&[0, 2],                               [11, 11]),
@@ -172,14 +172,14 @@ const PACKED_TEXTS: [(&[u8], [u8; 2]); 6] = [
 ];
 
 #[test]
-fn packed_texts_that_fail(rt: HostRuntime) {
-    for (text, wanted) in &PACKED_TEXTS {
+fn packed_encodings_that_fail(rt: HostRuntime) {
+    for (encoding, wanted) in &PACKED_ENCODINGS {
         let mut words = [9; 16];
         let errors = [
-            error_of(unpack_words(text, &mut words)),
-            error_of(read_packed_words(rt.alloc(), text)),
+            error_of(unpack_words(encoding, &mut words)),
+            error_of(read_packed_words(rt.alloc(), encoding)),
         ];
-        expect(&rt, *text, errors, *wanted);
+        expect(&rt, *encoding, errors, *wanted);
     }
     let words = numbered(read_packed_words(rt.alloc(), &[0x10, 2, 0x10, 1, 1, 10]));
     expect(&rt, "one word", words, Ok((10, 0)));
@@ -207,8 +207,8 @@ fn is_unpacked(alloc: Global, words: &[u8; 2080]) -> Result<bool> {
 fn long_runs_are_packed(rt: HostRuntime) -> Result<()> {
     assert!(rt; pack_words(rt.alloc(), &[])?.is_empty());
     let zeros = [0; 2080];
-    let text = pack_words(rt.alloc(), &zeros)?;
-    expect(&rt, "zeros", text.as_slice(), [0, 255, 0, 3].as_slice());
+    let encoding = pack_words(rt.alloc(), &zeros)?;
+    expect(&rt, "zeros", encoding.as_slice(), [0, 255, 0, 3].as_slice());
     assert!(rt; is_unpacked(rt.alloc(), &zeros)?);
     Ok(())
 }
@@ -217,10 +217,10 @@ fn long_runs_are_packed(rt: HostRuntime) -> Result<()> {
 #[test]
 fn long_literal_runs_are_packed(rt: HostRuntime) -> Result<()> {
     let ones = [1; 2080];
-    let text = pack_words(rt.alloc(), &ones)?;
-    assert!(rt; text.len() == 2084);
+    let encoding = pack_words(rt.alloc(), &ones)?;
+    assert!(rt; encoding.len() == 2084);
     let first = [1, 255, 1, 1, 1, 1, 1, 1, 1, 1];
-    expect(&rt, "ones", &text[8..18], first.as_slice());
+    expect(&rt, "ones", &encoding[8..18], first.as_slice());
     assert!(rt; is_unpacked(rt.alloc(), &ones)?);
     Ok(())
 }

@@ -15,7 +15,7 @@ const TWO: &[&[u8]] = &[&[], &[1, 2, 3, 4, 5, 6, 7, 8]];
 const EMPTY: &[&[u8]] = &[&[]];
 
 // The encodings of both after one another.
-const TEXTS: [(Format, &[u8]); 2] = [
+const ENCODINGS: [(Format, &[u8]); 2] = [
     (
         Format::Framed,
         &[
@@ -31,12 +31,12 @@ const TEXTS: [(Format, &[u8]); 2] = [
 
 #[test]
 fn a_list_is_read_back(rt: HostRuntime) -> Result<()> {
-    for (format, text) in &TEXTS {
+    for (format, encoding) in &ENCODINGS {
         let messages = [SegmentArray::new(TWO), SegmentArray::new(EMPTY)];
         assert!(rt; is_writable(&messages[0]) && is_writable(&messages[1]));
         let options = DEFAULT_READER_OPTIONS;
         let done = appended::write_and_read_back(rt.alloc(), *format, &messages, options)?;
-        expect(&rt, *format, done.text.as_slice() == *text, true);
+        expect(&rt, *format, done.encodings.as_slice() == *encoding, true);
         expect(&rt, *format, done.readers.len(), 2);
         for (reader, segments) in done.readers.iter().zip(&[TWO, EMPTY]) {
             let is_back = has_segments(reader.get_segments(), segments);

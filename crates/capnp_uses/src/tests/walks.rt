@@ -1,7 +1,7 @@
 //! What the traversal limit counts while a message is walked over: views alone, from where they
 //! were.
 use crate::tests::fixtures::{
-    Message, Source, canonical_text, expect, limited, message_of, set_root, set_root_canonical,
+    Message, Source, canonical_encoding, expect, limited, message_of, set_root, set_root_canonical,
 };
 use capnp::message::Builder;
 use capnp::{Result, text};
@@ -48,7 +48,7 @@ fn target_words(reader: &Message<'_>) -> Result<usize> {
 }
 
 fn written_words(alloc: Global, reader: &Message<'_>) -> Result<usize> {
-    Ok((canonical_text(alloc, reader)?.len() / 8).saturating_sub(1))
+    Ok((canonical_encoding(alloc, reader)?.len() / 8).saturating_sub(1))
 }
 
 fn set_words(alloc: Global, reader: &Message<'_>) -> Result<usize> {

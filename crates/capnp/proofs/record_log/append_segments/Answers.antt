@@ -7,8 +7,8 @@ use Rattle.capnp.proofs.record_log.append_segments.Goals as goal
 pub returns-in-Ok : goal.returns-in-Ok
 returns-in-Ok g c = record {
   appended = appended_log (g.S.ReaderSegments.segments c.args.segments.now) c.args.log.now.items c.write_message_segments.new.sink.items
-      c.requires c.in-Ok.ensures.count.few (c.in-Ok.ensures.text (λ chunk text same. same));
-  added = c.in-Ok.ensures.text (λ chunk text same. same);
+      c.requires c.in-Ok.ensures.count.few (c.in-Ok.ensures.encoding (λ chunk encoding same. same));
+  added = c.in-Ok.ensures.encoding (λ chunk encoding same. same);
   unchanged = tt;
   count = c.in-Ok.ensures.count;
   errors = tt;

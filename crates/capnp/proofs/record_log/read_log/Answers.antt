@@ -16,7 +16,7 @@ returns-clause-read c =
     record {
       within = read.within;
       back = log_is_read limit _ reason c.args.log.now end read.within ends read.exact;
-      cut = cut_is_reported limit _ reason c.args.log.now end read.within read.texts ends;
+      cut = cut_is_reported limit _ reason c.args.log.now end read.within read.encodings ends;
       ends = ends;
-      reported = cut_reported limit _ reason c.args.log.now end read.within read.texts ends;
+      reported = cut_reported limit _ reason c.args.log.now end read.within read.encodings ends;
     }

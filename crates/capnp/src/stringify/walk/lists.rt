@@ -25,63 +25,63 @@ impl<'r, 'a, S: ReaderSegments> Walk<'r, 'a, S> {
     /// Fails only where memory is lacking.
     pub(super) fn open_list(
         &mut self,
-        text: &mut String,
+        output: &mut String,
         pointer: any_pointer::Reader<'a, S>,
         of: Type,
         depth: u32,
     ) -> Result<(), AllocError> {
         if depth == 0 {
-            return text.push_str("[..]");
+            return output.push_str("[..]");
         }
         if of.lists > 0 {
-            return self.open_pointers(text, pointer, of, depth);
+            return self.open_pointers(output, pointer, of, depth);
         }
         match of.base {
-            Base::Void => self.push_numbers::<()>(text, pointer, of.base),
-            Base::Bool => self.push_numbers::<bool>(text, pointer, of.base),
-            Base::Int8 | Base::Uint8 => self.push_numbers::<u8>(text, pointer, of.base),
+            Base::Void => self.push_numbers::<()>(output, pointer, of.base),
+            Base::Bool => self.push_numbers::<bool>(output, pointer, of.base),
+            Base::Int8 | Base::Uint8 => self.push_numbers::<u8>(output, pointer, of.base),
             Base::Int16 | Base::Uint16 | Base::Enum(_) => {
-                self.push_numbers::<u16>(text, pointer, of.base)
+                self.push_numbers::<u16>(output, pointer, of.base)
             }
             Base::Int32 | Base::Uint32 | Base::Float32 => {
-                self.push_numbers::<u32>(text, pointer, of.base)
+                self.push_numbers::<u32>(output, pointer, of.base)
             }
             Base::Int64 | Base::Uint64 | Base::Float64 => {
-                self.push_numbers::<u64>(text, pointer, of.base)
+                self.push_numbers::<u64>(output, pointer, of.base)
             }
-            Base::Struct(_) => self.open_structs(text, pointer, of, depth),
-            _ => self.open_pointers(text, pointer, of, depth),
+            Base::Struct(_) => self.open_structs(output, pointer, of, depth),
+            _ => self.open_pointers(output, pointer, of, depth),
         }
     }
 
     // Adds a list of numbers that have as many bits as `T`.
     fn push_numbers<T: PrimitiveElement + Drop>(
         &self,
-        text: &mut String,
+        output: &mut String,
         pointer: any_pointer::Reader<'a, S>,
         base: Base,
     ) -> Result<(), AllocError> {
         match pointer.get_as::<NumberList<'a, T>>() {
             Ok(list) => {
-                text.push('[')?;
+                output.push('[')?;
                 let mut is_first = true;
                 for number in list.iter() {
                     if !is_first {
-                        text.push_str(", ")?;
+                        output.push_str(", ")?;
                     }
                     is_first = false;
-                    push_bits(self.alloc, text, self.schema, base, number.to_bits())?;
+                    push_bits(self.alloc, output, self.schema, base, number.to_bits())?;
                 }
-                text.push(']')
+                output.push(']')
             }
-            Err(error) => push_error(text, &error),
+            Err(error) => push_error(output, &error),
         }
     }
 
     // Begins a list of structs.
     fn open_structs(
         &mut self,
-        text: &mut String,
+        output: &mut String,
         pointer: any_pointer::Reader<'a, S>,
         of: Type,
         depth: u32,
@@ -94,16 +94,16 @@ impl<'r, 'a, S: ReaderSegments> Walk<'r, 'a, S> {
                     of,
                     depth: depth.saturating_sub(1),
                 }))?;
-                text.push('[')
+                output.push('[')
             }
-            Err(error) => push_error(text, &error),
+            Err(error) => push_error(output, &error),
         }
     }
 
     // Begins a list of pointers.
     fn open_pointers(
         &mut self,
-        text: &mut String,
+        output: &mut String,
         pointer: any_pointer::Reader<'a, S>,
         of: Type,
         depth: u32,
@@ -116,9 +116,9 @@ impl<'r, 'a, S: ReaderSegments> Walk<'r, 'a, S> {
                     of,
                     depth: depth.saturating_sub(1),
                 }))?;
-                text.push('[')
+                output.push('[')
             }
-            Err(error) => push_error(text, &error),
+            Err(error) => push_error(output, &error),
         }
     }
 
@@ -127,24 +127,24 @@ impl<'r, 'a, S: ReaderSegments> Walk<'r, 'a, S> {
     /// Fails only where memory is lacking.
     pub(super) fn push_next_struct(
         &mut self,
-        text: &mut String,
+        output: &mut String,
         elements: Elements<StructList<'a, S>>,
     ) -> Result<(), AllocError> {
         let Some(element) = elements.list.try_get(elements.next) else {
-            return text.push(']');
+            return output.push(']');
         };
         let of = elements.of.base;
         let depth = elements.depth;
         if elements.next > 0 {
-            text.push_str(", ")?;
+            output.push_str(", ")?;
         }
         self.pending.push(Pending::Structs(elements.after()))?;
         match of {
             Base::Struct(of) if depth > 0 => {
                 self.structs.push(element)?;
-                self.open_fields(text, of, false, depth.saturating_sub(1))
+                self.open_fields(output, of, false, depth.saturating_sub(1))
             }
-            _ => text.push_str("(..)"),
+            _ => output.push_str("(..)"),
         }
     }
 
@@ -153,19 +153,19 @@ impl<'r, 'a, S: ReaderSegments> Walk<'r, 'a, S> {
     /// Fails only where memory is lacking.
     pub(super) fn push_next_pointer(
         &mut self,
-        text: &mut String,
+        output: &mut String,
         elements: Elements<PointerList<'a, S>>,
     ) -> Result<(), AllocError> {
         let Some(pointer) = elements.list.try_get(elements.next) else {
-            return text.push(']');
+            return output.push(']');
         };
         let of = elements.of;
         let depth = elements.depth;
         if elements.next > 0 {
-            text.push_str(", ")?;
+            output.push_str(", ")?;
         }
         self.pending.push(Pending::Pointers(elements.after()))?;
-        self.push_pointer(text, pointer, of, depth)
+        self.push_pointer(output, pointer, of, depth)
     }
 }
 

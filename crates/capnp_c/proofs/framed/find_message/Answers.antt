@@ -14,7 +14,7 @@ returns-in-Ok c =
         front,
         c.len-count.ensures,
         ap table_size c.len-count.ensures,
-        omega (arith, ap length front.spelled, length-append front.text left),
+        omega (arith, ap length front.spelled, length-append front.encoding left),
       );
       accepted = search rules;
       errors = λ kind errors. absurd (c.in-Ok.ensures.exact kind errors);

@@ -8,7 +8,7 @@ pub returns-in-Ok : goal.returns-in-Ok
 returns-in-Ok c =
     let left = c.from_slice.new.slice.now in
     let front = c.in-Ok.ensures.found in
-    let whole : length left + length front.text ≡ length c.args.bytes.now = omega (arith, ap length front.spelled, length-append front.text left) in
+    let whole : length left + length front.encoding ≡ length c.args.bytes.now = omega (arith, ap length front.spelled, length-append front.encoding left) in
     let table = (front_table c.args.options c.args.bytes.now c.in-Ok.field-0.segments left front).1 in
     record {
       found = λ zero. inr (c.in-Ok.field-0.segments, left, front, omega (arith, whole));

@@ -7,13 +7,13 @@ use Rattle.capnp_c.proofs.packed.linsjoar_pack.Goals as goal
 
 pub returns-in-Ok-clause-short : goal.returns-in-Ok-clause-short
 returns-in-Ok-clause-short c packed packs short =
-    let text = packed_alone c.args.words.now _ _ _ _ c.new-sink.ensures.used c.in-Ok.ensures.packed in
-    absurd (packed_fits c.args.words.now packed _ c.len.result packs short (search (rules, text)))
+    let encoding = packed_alone c.args.words.now _ _ _ _ c.new-sink.ensures.used c.in-Ok.ensures.packed in
+    absurd (packed_fits c.args.words.now packed _ c.len.result packs short (search (rules, encoding)))
 
 pub returns-in-Ok-clause-packed : goal.returns-in-Ok-clause-packed
 returns-in-Ok-clause-packed c zero =
-    let text = packed_alone c.args.words.now _ _ _ _ c.new-sink.ensures.used c.in-Ok.ensures.packed in
-    search (rules, text)
+    let encoding = packed_alone c.args.words.now _ _ _ _ c.new-sink.ensures.used c.in-Ok.ensures.packed in
+    search (rules, encoding)
 
 pub returns-in-Err-clause-short : goal.returns-in-Err-clause-short
 returns-in-Err-clause-short c packed packs short =

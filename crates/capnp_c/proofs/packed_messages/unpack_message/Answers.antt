@@ -8,12 +8,12 @@ use Rattle.capnp_c.proofs.packed_messages.unpack_message.Goals as goal
 pub returns-in-Ok-Some : goal.returns-in-Ok-Some
 returns-in-Ok-Some c =
     let reads = rw (c.in-Ok-Some.field-0-is, c.new-rules.ensures) at c.in-Ok-Some.ensures.reads in
-    let text = rw c.in-Ok-Some.field-0-is at c.in-Ok-Some.ensures.text in
+    let encoding = rw c.in-Ok-Some.field-0-is at c.in-Ok-Some.ensures.encoding in
     let room = rw c.in-Ok-Some.field-0-is at c.in-Ok-Some.ensures.room in
     let long : length c.try_read_packed_framed_into.new.buffer ≡ length c.args.framed.now = search rules in
     record {
       unpacked = λ zero. let left = taken _ _ _ reads.found in
-          (_, _, reads.found, front_message c.args.options _ _ _ text room reads.within, omega (arith, left));
+          (_, _, reads.found, front_message c.args.options _ _ _ encoding room reads.within, omega (arith, left));
       within = search rules;
       accepted = search rules;
       none = λ none room. absurd (none_found _ _ _ reads.found none);

@@ -6,5 +6,5 @@ use Rattle.capnp_frame.proofs.encodings.SizeLemmas.{concat-chunks}
 use Rattle.capnp_frame.proofs.laws.what_is_left_of_a_message_is_a_front.Goals as goal
 
 pub returns : goal.returns
-returns g c within segments text left = let (tail, e) = left_is_front g.W.Write.leaves within (chunks segments) text left in
+returns g c within segments encoding left = let (tail, e) = left_is_front g.W.Write.leaves within (chunks segments) encoding left in
     (tail, sym (concat-chunks segments) ∙ e)

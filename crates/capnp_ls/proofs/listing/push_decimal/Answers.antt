@@ -26,4 +26,4 @@ returns-clause-ok c =
     let same : length digits ≡ 20 = search rules in
     let all : take (20 - (at - 1)) (drop (at - 1) digits) ≡ drop (at - 1) digits = take_all (20 - (at - 1)) (drop (at - 1) digits) (omega (arith, length-drop (at - 1) digits)) in
     let first = digit_first c.args.number c.loop-left.left at c.loop-left.digits c.loop-left-test.false is.0 (omega arith) is.4 in
-    c.in_ok-write_all.ensures.added ∙ ap (λ l. c.args.text.now.items ++ l) (all ∙ sym first)
+    c.in_ok-write_all.ensures.added ∙ ap (λ l. c.args.line.now.items ++ l) (all ∙ sym first)

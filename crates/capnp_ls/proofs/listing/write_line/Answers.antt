@@ -24,16 +24,16 @@ pub loop-words-preserved : goal.loop-words-preserved
 loop-words-preserved c =
     let listed = c.loop-words.invariant.0 in
     let words = c.in-Some.words in
-    let longer : c.push_spaced-in-Some.new.text.items ≡ c.push_spaced-2.new.text.items ++ (listed ++ spaced words)
+    let longer : c.push_spaced-in-Some.new.line.items ≡ c.push_spaced-2.new.line.items ++ (listed ++ spaced words)
     = c.in_ok-push_spaced-3.ensures.ok ∙ ap (λ l. l ++ spaced words) c.loop-words.invariant.1
-    ∙ append_assoc c.push_spaced-2.new.text.items listed (spaced words) in
+    ∙ append_assoc c.push_spaced-2.new.line.items listed (spaced words) in
     (listed ++ spaced words, longer, ListsLengths-next _ _ words _ _ c.loop-words.invariant.2 c.in-Some.ensures refl)
 
 pub returns-clause-ok : goal.returns-clause-ok
 returns-clause-ok c =
     let ns = c.args.lengths.now in
     let whole = ListsLengths-whole ns c.loop-words.id c.loop-words.invariant.0 c.loop-words.invariant.2 c.in_default.ensures in
-    let first : c.push_decimal.new.text.items ≡ [] ++ decimal c.args.index = c.in_ok-push_decimal.ensures.ok ∙ ap (λ (l : List ℕ). l ++ decimal c.args.index) c.clear.ensures.items in
-    let second = c.in_ok-push_spaced.ensures.ok ∙ ap (λ k. c.push_decimal.new.text.items ++ spaced k) c.segments_count.ensures in
-    let third = c.in_ok-push_spaced-2.ensures.ok ∙ ap (λ k. c.push_spaced.new.text.items ++ spaced k) c.total_words.ensures in
+    let first : c.push_decimal.new.line.items ≡ [] ++ decimal c.args.index = c.in_ok-push_decimal.ensures.ok ∙ ap (λ (l : List ℕ). l ++ decimal c.args.index) c.clear.ensures.items in
+    let second = c.in_ok-push_spaced.ensures.ok ∙ ap (λ k. c.push_decimal.new.line.items ++ spaced k) c.segments_count.ensures in
+    let third = c.in_ok-push_spaced-2.ensures.ok ∙ ap (λ k. c.push_spaced.new.line.items ++ spaced k) c.total_words.ensures in
     lengths_parts c.args.index ns _ _ _ _ _ c.loop-words.invariant.0 first second third c.loop-words.invariant.1 whole c.in_ok-push.ensures.items

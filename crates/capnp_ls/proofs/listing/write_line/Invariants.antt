@@ -4,7 +4,7 @@ use Rattle.capnp_ls.proofs.LineLemmas.{ListsLengths}
 use Rattle.capnp_ls.proofs.listing.write_line.Given as goal
 
 abbrev pub invariant-loop-words : goal.invariant-loop-words
-invariant-loop-words l = (listed : List ℕ) × (l.text.items ≡ l.initial.text.items ++ listed) × ListsLengths l.lengths l.id listed
+invariant-loop-words l = (listed : List ℕ) × (l.line.items ≡ l.initial.line.items ++ listed) × ListsLengths l.lengths l.id listed
 
 abbrev pub decreases-loop-words : goal.decreases-loop-words
 decreases-loop-words l = length l.lengths - l.id

@@ -4,4 +4,4 @@ use Rattle.std.proofs.lemmas.Grind.{common_steps}
 use Rattle.capnp_ls.proofs.stop.error_line.Goals as goal
 
 pub returns : goal.returns
-returns c = (string_bytes c.in_ok-text.text, search (rules, common_steps))
+returns c = (string_bytes c.in_ok-reason.reason, search (rules, common_steps))

@@ -2,7 +2,7 @@
 use Rattle.std.proofs.lemmas.List.{take_all}
 use Rattle.std.proofs.Common.{◌≡◌, ℕ, ◌+◌, length, List, [], ◌∷◌, take, map, refl, sym, subst, arith, Bor}
 use Rattle.capnp_orphans.specs.Segments.{body_of}
-use Rattle.capnp_orphans.specs.Held.{AreValues, word_of}
+use Rattle.capnp_orphans.specs.Holds.{AreValues, word_of}
 use Rattle.capnp_orphans.specs.OrphanLaws.{keeps_on, pushed_value, their_trees, pointers_value}
 use Rattle.capnp_orphan_tests.specs.Uses.{IsTextList, IsText}
 use Rattle.capnp_orphan_tests.proofs.uses.list_of_texts.Goals as goal

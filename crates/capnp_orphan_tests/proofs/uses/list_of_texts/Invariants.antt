@@ -2,7 +2,7 @@
 use Rattle.std.proofs.Common.{take, map}
 use Rattle.capnp_orphans.specs.Adding.{Keeps}
 use Rattle.capnp_orphans.specs.Segments.{body_of}
-use Rattle.capnp_orphans.specs.Held.{AreValues, word_of}
+use Rattle.capnp_orphans.specs.Holds.{AreValues, word_of}
 use Rattle.capnp_orphan_tests.specs.Uses.{IsText}
 use Rattle.capnp_orphan_tests.proofs.uses.list_of_texts.Given as goal
 

@@ -93,7 +93,7 @@ const LINES: [(&[u8], u32, &str); 9] = [
 ];
 
 // The struct at the root of a segment, as text.
-fn text_of(alloc: Global, segment: &[u8], depth: u32) -> Result<String, Fail> {
+fn shown_of(alloc: Global, segment: &[u8], depth: u32) -> Result<String, Fail> {
     let segments = [segment];
     let message = message_of(&segments);
     let root: printed::Reader<'_, SegmentArray<'_>> = message.get_root()?;
@@ -103,8 +103,8 @@ fn text_of(alloc: Global, segment: &[u8], depth: u32) -> Result<String, Fail> {
 #[test]
 fn structs_are_printed(rt: HostRuntime) -> Result<(), Fail> {
     for (segment, depth, line) in LINES {
-        let text = text_of(rt.alloc(), segment, depth)?;
-        assert_eq!(rt; text.as_str(), line);
+        let shown = shown_of(rt.alloc(), segment, depth)?;
+        assert_eq!(rt; shown.as_str(), line);
     }
     Ok(())
 }

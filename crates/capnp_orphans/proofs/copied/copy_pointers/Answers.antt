@@ -1,7 +1,7 @@
 -- One pointer more, or the one that is not copied.
 use Rattle.std.proofs.Common.{◌≡◌, ℕ, length, arith, refl, sym, subst}
 use Rattle.capnp_wire.specs.Prelude.{struct_of, pointer_of}
-use Rattle.capnp_orphans.specs.Held.{word_of}
+use Rattle.capnp_orphans.specs.Holds.{word_of}
 use Rattle.capnp_orphans.proofs.CopyingLemmas.{IsCopied, one_copied, all_copied, copy_failed, same_failure}
 use Rattle.capnp_orphans.proofs.copied.copy_pointers.Goals as goal
 

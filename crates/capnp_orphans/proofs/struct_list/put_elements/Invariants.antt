@@ -1,7 +1,7 @@
 -- The structs so far are put.
 use Rattle.std.proofs.Common.{◌≡◌, ◌*◌, ◌+◌, take}
 use Rattle.capnp_layout.specs.Prelude.{words_of, put}
-use Rattle.capnp_orphans.specs.Held.{elements, AreSized}
+use Rattle.capnp_orphans.specs.Holds.{elements, AreSized}
 use Rattle.capnp_orphans.proofs.struct_list.put_elements.Given as goal
 
 abbrev pub invariant-loop-index : goal.invariant-loop-index

@@ -6,6 +6,6 @@ use Rattle.capnp_pack.proofs.copies.move_front.Goals as goal
 
 pub returns : goal.returns
 returns g c =
-    let lanes = take g.row.N c.args.text.now in
-    let long : length lanes ≡ g.row.N = length-take-le g.row.N c.args.text.now c.requires.text in
+    let lanes = take g.row.N c.args.bytes.now in
+    let long : length lanes ≡ g.row.N = length-take-le g.row.N c.args.bytes.now c.requires.bytes in
     take_more_put_chunk 0 c.args.buffer.now lanes g.row.N (omega (arith, long)) c.requires.room

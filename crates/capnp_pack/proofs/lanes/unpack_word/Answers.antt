@@ -13,4 +13,4 @@ swizzle c =
 pub returns-clause-taken : goal.returns-clause-taken
 returns-clause-taken c =
     let low : c.args.tag < 256 = omega arith in
-    record { used_within = search rules; marked = spread_lanes c.args.tag c.args.text.now c.args.word.now _ low c.requires.long c.requires.word (entry_of c.args.tag _ low) }
+    record { used_within = search rules; marked = spread_lanes c.args.tag c.args.shown.now c.args.word.now _ low c.requires.long c.requires.word (entry_of c.args.tag _ low) }

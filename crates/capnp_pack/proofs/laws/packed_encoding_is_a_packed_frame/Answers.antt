@@ -1,6 +1,6 @@
 -- A packer's groups are groups, and the table with zero padding is a table.
-use Rattle.capnp_pack.proofs.encodings.PackedFrameLemmas.{packed_text_is}
+use Rattle.capnp_pack.proofs.encodings.PackedFrameLemmas.{packed_encoding_is}
 use Rattle.capnp_pack.proofs.laws.packed_encoding_is_a_packed_frame.Goals as goal
 
 pub returns : goal.returns
-returns c = packed_text_is
+returns c = packed_encoding_is

@@ -6,8 +6,8 @@ use Rattle.capnp_pack.proofs.packing.PackerLemmas.{Packs-once}
 use Rattle.capnp_pack.proofs.laws.what_is_left_of_packed_words_is_a_front.Goals as goal
 
 pub returns : goal.returns
-returns g c within chunk text packed left packs = elim left [
+returns g c within chunk encoding packed left packs = elim left [
   | inl none ↦ (packed, ap (λ l. l ++ packed) (sym none))
-  | inr (parts, own, remains) ↦ let (tail, e) = left_is_front g.W.Write.leaves within parts text remains in
+  | inr (parts, own, remains) ↦ let (tail, e) = left_is_front g.W.Write.leaves within parts encoding remains in
       (tail, Packs-once chunk packed (concat parts) packs own ∙ e)
 ]

@@ -20,8 +20,8 @@ loop-left-preserved g c =
       packed.ensures.packs.fits,
       taken_on g.W.Write.appends _ left packed.result.words _ _ _ _ _ _ from c.loop-left.invariant.2 packed.ensures.packs.packed,
       c.loop-left.invariant.3,
-      λ text more packs granted. granted_kept (g.W.Write.grants c.loop-left.sink) left _ packed.result.words c.loop-left.used packed.result.used more _ _ (words_from left packed.result.words)
-          c.loop-left.invariant.5 packed.array_long c.loop-left.invariant.1 packed.ensures.packs.fits packed.ensures.packs.packed (c.loop-left.invariant.4 text more packs granted),
+      λ encoding more packs granted. granted_kept (g.W.Write.grants c.loop-left.sink) left _ packed.result.words c.loop-left.used packed.result.used more _ _ (words_from left packed.result.words)
+          c.loop-left.invariant.5 packed.array_long c.loop-left.invariant.1 packed.ensures.packs.fits packed.ensures.packs.packed (c.loop-left.invariant.4 encoding more packs granted),
       packed.array_long,
     )
 
@@ -38,9 +38,9 @@ loop-left-preserved-then-left-gt0 g c =
       handed_on g.W.Write.appends _ rest next.words _ _ _ _ _ _ _ on
           (taken_on g.W.Write.appends _ left packed.result.words rest _ _ _ _ _ from c.loop-left.invariant.2 packed.ensures.packs.packed) c.in_ok-next.ensures.hands.handed,
       Grows-join _ _ _ (g.met.W.Write.keeps.transitive _ _ _) c.loop-left.invariant.3 c.pack_next.ensures.hands.grows,
-      λ text more packs granted. granted_on (g.W.Write.grants c.loop-left.sink) (g.W.Write.grants c.pack_next.new.sink) rest _ next.words _ _ more on
+      λ encoding more packs granted. granted_on (g.W.Write.grants c.loop-left.sink) (g.W.Write.grants c.pack_next.new.sink) rest _ next.words _ _ more on
           (granted_kept (g.W.Write.grants c.loop-left.sink) left _ packed.result.words c.loop-left.used packed.result.used more _ _ (words_from left packed.result.words)
-          c.loop-left.invariant.5 packed.array_long c.loop-left.invariant.1 packed.ensures.packs.fits packed.ensures.packs.packed (c.loop-left.invariant.4 text more packs granted)) c.in_ok-next.ensures.granted,
+          c.loop-left.invariant.5 packed.array_long c.loop-left.invariant.1 packed.ensures.packs.fits packed.ensures.packs.packed (c.loop-left.invariant.4 encoding more packs granted)) c.in_ok-next.ensures.granted,
       c.pack_next.array_long,
     )
 
@@ -57,14 +57,14 @@ returns-in_err-next-clause-writes g c =
     c.loop-left.invariant.3 c.in_err-next.ensures.hands
 
 pub returns-in_err-next-clause-granted : goal.returns-in_err-next-clause-granted
-returns-in_err-next-clause-granted g c text more packs granted =
+returns-in_err-next-clause-granted g c encoding more packs granted =
     let words = c.as_chunks.result.0.now in
     let cut = whole_words c.args.chunk.now words c.requires c.as_chunks.ensures.front in
     let left = c.loop-left.left.now in
     let packed = c.pack_buffered-packed in
     let (rest, others, given) = granted_kept (g.W.Write.grants c.loop-left.sink) left _ packed.result.words c.loop-left.used packed.result.used more _ _ (words_from left packed.result.words)
     c.loop-left.invariant.5 packed.array_long c.loop-left.invariant.1 packed.ensures.packs.fits packed.ensures.packs.packed
-    (c.loop-left.invariant.4 text more (Packs-of-words c.args.chunk.now text words cut.0 cut.1 packs) granted) in
+    (c.loop-left.invariant.4 encoding more (Packs-of-words c.args.chunk.now encoding words cut.0 cut.1 packs) granted) in
     absurd (c.in_err-next.ensures.granted rest more others given)
 
 pub returns-clause-writes : goal.returns-clause-writes
@@ -78,9 +78,9 @@ returns-clause-writes g c =
     c.loop-left.invariant.3 c.flush.ensures.hands
 
 pub returns-clause-granted : goal.returns-clause-granted
-returns-clause-granted g c text more packs granted =
+returns-clause-granted g c encoding more packs granted =
     let words = c.as_chunks.result.0.now in
     let cut = whole_words c.args.chunk.now words c.requires c.as_chunks.ensures.front in
     let none = nil_from_length c.loop-left.left.now (omega arith) in
     c.flush.ensures.granted more (granted_last (g.W.Write.grants c.loop-left.sink) c.loop-left.left.now c.loop-left.used more none
-    (c.loop-left.invariant.4 text more (Packs-of-words c.args.chunk.now text words cut.0 cut.1 packs) granted))
+    (c.loop-left.invariant.4 encoding more (Packs-of-words c.args.chunk.now encoding words cut.0 cut.1 packs) granted))

@@ -10,7 +10,7 @@ invariant-loop-left g l = let W = g.W.Write in
     × (l.used ≤ 64)
     × HandsTo W.appends l.initial.left l.left [] (take l.used l.bytes) (W.written l.initial.sink) (W.written l.sink)
     × Grows W.written W.failures W.same l.initial.sink l.sink
-    × ((text : List ℕ) (more : ℕ) → PacksWords l.initial.left text → W.grants l.initial.sink (length text + more)
+    × ((encoding : List ℕ) (more : ℕ) → PacksWords l.initial.left encoding → W.grants l.initial.sink (length encoding + more)
     → GrantsTo (W.grants l.sink) l.left l.used more)
     × (length l.bytes ≡ 64)
 

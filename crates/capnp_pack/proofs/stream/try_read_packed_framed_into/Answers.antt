@@ -8,4 +8,4 @@ returns g c =
     let reported = c.try_read_framed_into.ensures in
     let after : c.source-1.given.0 ≡ c.try_read_framed_into.new.source.source.now = search rules in
     let reads = packed_reads_into c.args.rules.padding (λ p. p.source.now) g.R.Read _ _ _ c.args.rules.limit_in_words (length c.args.buffer.now) _ reported.reads.advances.same_source.1 reported.reads in
-    record { reads = rw after (rw c.new-packed.ensures.source at reads); text = reported.text; room = reported.room }
+    record { reads = rw after (rw c.new-packed.ensures.source at reads); encoding = reported.encoding; room = reported.room }

@@ -4,11 +4,11 @@ use Rattle.std.specs.Prelude.{if◌then◌else◌}
 use Rattle.std.specs.Char.{encode_utf8}
 use Rattle.std.specs.Result.{is_ok}
 use Rattle.std.proofs.lemmas.Fmt.{decimal_digit}
-use Rattle.capnp_show.proofs.TextLemmas.{pushed}
+use Rattle.capnp_show.proofs.EscapeLemmas.{pushed}
 use Rattle.capnp_show.proofs.numbers.push_decimal.Goals as goal
 
 pub returns-then-number-lt10 : goal.returns-then-number-lt10
 returns-then-number-lt10 c =
     let digit : encode_utf8 (48 + c.args.number) ≡ decimal c.args.number = c.push.ensures.ascii (omega arith) ∙ sym (decimal_digit c.args.number (omega arith)) in
-    pushed c.push.result (string_bytes c.args.text.now) (decimal c.args.number) _
-    (subst (λ (added : List ℕ). string_bytes c.push.new.self ≡ (if is_ok c.push.result then string_bytes c.args.text.now ++ added else string_bytes c.args.text.now)) digit c.push.ensures.bytes)
+    pushed c.push.result (string_bytes c.args.output.now) (decimal c.args.number) _
+    (subst (λ (added : List ℕ). string_bytes c.push.new.self ≡ (if is_ok c.push.result then string_bytes c.args.output.now ++ added else string_bytes c.args.output.now)) digit c.push.ensures.bytes)

@@ -8,7 +8,7 @@ use Rattle.capnp_uses.proofs.devices.all_of_source.Given as goal
 
 abbrev pub invariant-loop-count : goal.invariant-loop-count
 invariant-loop-count g l = let R = g.R.Read in record {
-  texts : IfKnown (R.unread l.initial.source) (R.unread l.source)
+  encodings : IfKnown (R.unread l.initial.source) (R.unread l.source)
       (AreEncodings (grammar_of Zero l.format) l.options.traversal_limit_in_words (map (λ reader. reader.segments) l.messages.items));
   options : AllByRecursion (λ reader. reader.options ≡ l.options) l.messages.items;
   many : length l.messages.items ≡ l.count;

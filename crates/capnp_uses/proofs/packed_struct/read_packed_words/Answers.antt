@@ -33,7 +33,7 @@ returns-in_err-message-clause-errors c =
 pub returns-in_err-fields-clause-found : goal.returns-in_err-fields-clause-found
 returns-in_err-fields-clause-found c message first second writable few size packed has_root =
     let reader = c.in_ok-message.message in
-    let here = packed_root default_limit (struct (first ∷ second ∷ [])) reader.segments message c.args.text.now _ (c.in_ok-message.ensures.texts tt).found writable packed has_root in
+    let here = packed_root default_limit (struct (first ∷ second ∷ [])) reader.segments message c.args.encoding.now _ (c.in_ok-message.ensures.encodings tt).found writable packed has_root in
     let p = err_from_is_err_and c.from_residual-in_err-fields.result c.from_residual-in_err-fields.ensures.1 in
     rw (p.1, p.2) (inr (root_meets_limit (root_of (λ segments. segments) reader) (struct (first ∷ second ∷ [])) StructFormError c.in_err-fields.field-0.0.kind refl here (default_depth reader.options c.in_ok-message.ensures.options_are)
     (struct_is_taken (first ∷ second ∷ []) c.in_err-fields.field-0.0.kind) c.in_err-fields.ensures.returned).2)
@@ -43,18 +43,18 @@ returns-in_err-fields-clause-errors c =
     let reader = c.in_ok-message.message in
     let p = err_from_is_err_and c.from_residual-in_err-fields.result c.from_residual-in_err-fields.ensures.1 in
     let same = root_is_default reader.segments reader.segments reader.options refl c.in_ok-message.ensures.options_are in
-    rw (p.1, p.2) (no_struct_error c.args.text.now reader.segments _ _ c.in_err-fields.field-0.0.kind same (c.in_ok-message.ensures.texts tt).found c.in_err-fields.ensures.returned)
+    rw (p.1, p.2) (no_struct_error c.args.encoding.now reader.segments _ _ c.in_err-fields.field-0.0.kind same (c.in_ok-message.ensures.encodings tt).found c.in_err-fields.ensures.returned)
 
 pub returns-clause-words : goal.returns-clause-words
 returns-clause-words c message first second writable packed has_root =
     let reader = c.in_ok-message.message in
-    let here = packed_root default_limit (struct (first ∷ second ∷ [])) reader.segments message c.args.text.now _ (c.in_ok-message.ensures.texts tt).found writable packed has_root in
+    let here = packed_root default_limit (struct (first ∷ second ∷ [])) reader.segments message c.args.encoding.now _ (c.in_ok-message.ensures.encodings tt).found writable packed has_root in
     let there = read_at_root (root_of (λ segments. segments) reader) (struct (first ∷ second ∷ [])) _ refl here c.in_ok-fields.ensures.returned.shown in
     search rules
 
 pub returns-clause-is_found : goal.returns-clause-is_found
 returns-clause-is_found c =
     let reader = c.in_ok-message.message in
-    shows_packed reader.segments c.args.text.now _ (root_of (λ segments. segments) reader) _ _ _
+    shows_packed reader.segments c.args.encoding.now _ (root_of (λ segments. segments) reader) _ _ _
     (root_is_default reader.segments reader.segments reader.options refl c.in_ok-message.ensures.options_are)
-    (c.in_ok-message.ensures.texts tt).found c.in_ok-fields.ensures.returned c.get_word.ensures c.get_word-2.ensures
+    (c.in_ok-message.ensures.encodings tt).found c.in_ok-fields.ensures.returned c.get_word.ensures c.get_word-2.ensures

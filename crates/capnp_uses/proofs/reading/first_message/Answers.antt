@@ -6,7 +6,7 @@ use Rattle.capnp_uses.proofs.reading.first_message.Goals as goal
 
 pub returns-clause-exact : goal.returns-clause-exact
 returns-clause-exact c = exactly (λ reader. reader.segments) Framed default_limit c.args.bytes.now _ c.try_read_message.result
-    (c.try_read_message.ensures.texts slices_are_plain) c.try_read_message.ensures.reads.none c.try_read_message.ensures.reads.failed
+    (c.try_read_message.ensures.encodings slices_are_plain) c.try_read_message.ensures.reads.none c.try_read_message.ensures.reads.failed
 
 pub returns-clause-errors : goal.returns-clause-errors
 returns-clause-errors c = next_error (λ reader. reader.segments) Framed default_limit c.args.bytes.now _ c.try_read_message.result

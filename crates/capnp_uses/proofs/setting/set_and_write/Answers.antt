@@ -1,4 +1,4 @@
--- The text is that of the used words.
+-- The encoding is that of the used words.
 use Rattle.std.proofs.Common.{inl, inr}
 use Rattle.std.proofs.lemmas.Result.{err_from_is_err_and}
 use Rattle.capnp.specs.Prelude.{output_of}
@@ -7,8 +7,8 @@ use Rattle.capnp_uses.proofs.setting.set_and_write.Goals as goal
 
 pub returns-clause-written : goal.returns-clause-written
 returns-clause-written g c =
-    added_frame (output_of c.set_root.new.self) c.new-text.result.items c.write_message.new.sink.items c.new-text.ensures.items
-    (c.in_ok-write_message.ensures.text (λ chunk text same. same))
+    added_frame (output_of c.set_root.new.self) c.new-encoding.result.items c.write_message.new.sink.items c.new-encoding.ensures.items
+    (c.in_ok-write_message.ensures.encoding (λ chunk encoding same. same))
 
 pub returns-in_err-write_message-clause-errors : goal.returns-in_err-write_message-clause-errors
 returns-in_err-write_message-clause-errors g c =

@@ -23,7 +23,7 @@ returns-in-Some-Err-clause-two c =
     let kind = c.in-Some-Err.error.kind in
     fails_at_once c.args.format c.args.stream.now _ c.in-Some-Err.error reads.failed reads.end
     (slice_error Zero c.args.format default_limit kind _ _ reads.failed reads.errors)
-    (λ message rest here. memory_only kind (reads.accepted message rest (here.text, here.is_text, here.spelled) here.within) reads.failed)
+    (λ message rest here. memory_only kind (reads.accepted message rest (here.encoding, here.is_encoding, here.spelled) here.within) reads.failed)
 
 pub returns-in-None-next-clause-two : goal.returns-in-None-next-clause-two
 returns-in-None-next-clause-two c =
@@ -41,7 +41,7 @@ returns-in-Some-Err-next-clause-two c =
     let kind = c.in-Some-Err-next.error.kind in
     fails_after c.args.format c.args.stream.now _ _ c.in-Some-Ok.first c.in-Some-Err-next.error second.0
     (slice_error Zero c.args.format default_limit kind _ _ second.1.failed second.1.errors)
-    (λ message rest here. memory_only kind (second.1.accepted message rest (here.text, here.is_text, here.spelled) here.within) second.1.failed)
+    (λ message rest here. memory_only kind (second.1.accepted message rest (here.encoding, here.is_encoding, here.spelled) here.within) second.1.failed)
 
 pub returns-in-Some-Ok-next-clause-two : goal.returns-in-Some-Ok-next-clause-two
 returns-in-Some-Ok-next-clause-two c =

@@ -14,7 +14,7 @@ returns-in_err-form g c =
     let p = err_from_is_err_and c.from_residual.result c.from_residual.ensures.1 in
     let reported = c.in_err-form.ensures in
     rw (p.1, p.2) (record {
-      text = λ plain. tt;
+      encoding = λ plain. tt;
       form_error = λ kind form_error. (reported.exact kind form_error, refl);
       writes = without_form g.W.Write g.met.W.Write.keeps _ _ _ (Err c.in_err-form.field-0.0) refl reported.returned;
       untouched = inr (inr refl);
@@ -38,11 +38,11 @@ pub returns : goal.returns
 returns g c =
     let wrote = c.write_segments.ensures in
     record {
-      text = λ plain. Adds-weaker c.write_segments.result _ _
-          (λ text p. (
+      encoding = λ plain. Adds-weaker c.write_segments.result _ _
+          (λ encoding p. (
             c.in_ok-form.form.items,
             form g c,
-            subst (λ (s : List (List ℕ)). IsFrameEncoding s text) (segment g c) (frame_bytes_added g.W.Write.appends plain _ text p),
+            subst (λ (s : List (List ℕ)). IsFrameEncoding s encoding) (segment g c) (frame_bytes_added g.W.Write.appends plain _ encoding p),
           ))
           wrote.parts.written;
       form_error = λ kind form_error. absurd (c.in_ok-form.ensures.exact kind form_error);

@@ -1,6 +1,6 @@
 -- The bytes are eight times the words.
-use Rattle.capnp.proofs.WriterLemmas.{text_size}
+use Rattle.capnp.proofs.WriterLemmas.{encoding_size}
 use Rattle.capnp.proofs.serialize.writing.compute_serialized_size_in_words.Goals as goal
 
 pub returns-clause-bytes : goal.returns-clause-bytes
-returns-clause-bytes g c = text_size c.serialized_size_in_words.result _ c.can_be_written.ensures c.serialized_size_in_words.ensures.size
+returns-clause-bytes g c = encoding_size c.serialized_size_in_words.result _ c.can_be_written.ensures c.serialized_size_in_words.ensures.size

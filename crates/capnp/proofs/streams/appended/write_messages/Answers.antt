@@ -3,7 +3,7 @@ use Rattle.std.proofs.Common.{arith}
 use Rattle.std.proofs.lemmas.List.{take_all}
 use Rattle.std.proofs.lemmas.Result.{err_from_is_err_and}
 use Rattle.capnp_frame.proofs.sources.SourceLemmas.{Grows-join}
-use Rattle.capnp.specs.Prelude.{IsTextOf, AppendsMessage, FailsAtMessage, ErrorsAs}
+use Rattle.capnp.specs.Prelude.{IsEncodingOf, AppendsMessage, FailsAtMessage, ErrorsAs}
 use Rattle.capnp.proofs.AppendedLemmas.{appended_next, writable_at, few_next}
 use Rattle.capnp.proofs.FailedRunLemmas.{error_at, fails_at_message, fails_among}
 use Rattle.capnp.proofs.streams.appended.write_messages.Goals as goal
@@ -18,7 +18,7 @@ returns-in_err-write_message g c =
     let reported = c.in_err-write_message.ensures in
     let segments = g.S.ReaderSegments.segments in
     rw (p.1, p.2) (record {
-      text = λ plain. tt;
+      encoding = λ plain. tt;
       written = tt;
       fails = fails_among segments (AppendsMessage c.args.format W.appends) (FailsAtMessage c.args.format W.appends W.leaves W.refuses) c.args.messages.now
           c.loop-message.message-index c.message-item.result _ _ _ _ c.loop-message-test.true c.message-item.is c.loop-message.invariant.written
@@ -34,9 +34,9 @@ pub loop-message-preserved : goal.loop-message-preserved
 loop-message-preserved g c =
     let reported = c.in_ok-write_message.ensures in
     let segments = g.S.ReaderSegments.segments in record {
-      text = λ plain. appended_next segments (IsTextOf c.args.format) c.args.messages.now
+      encoding = λ plain. appended_next segments (IsEncodingOf c.args.format) c.args.messages.now
           c.loop-message.message-index c.message-item.result _ _ _ c.loop-message-test.true c.message-item.is
-          (c.loop-message.invariant.text plain) (reported.text plain);
+          (c.loop-message.invariant.encoding plain) (reported.encoding plain);
       written = appended_next segments (AppendsMessage c.args.format g.W.Write.appends) c.args.messages.now
           c.loop-message.message-index c.message-item.result _ _ _ c.loop-message-test.true c.message-item.is
           c.loop-message.invariant.written reported.written;
@@ -50,7 +50,7 @@ returns g c =
     let all = take_all c.loop-message.message-index c.args.messages.now c.loop-message-test.false in
     let kept = c.loop-message.invariant in
     record {
-      text = λ plain. rw all at (kept.text plain);
+      encoding = λ plain. rw all at (kept.encoding plain);
       written = rw all at kept.written;
       fails = tt;
       few = rw all at kept.few;

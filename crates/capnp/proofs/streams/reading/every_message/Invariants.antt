@@ -7,7 +7,7 @@ use Rattle.capnp.proofs.streams.reading.every_message.Given as goal
 
 abbrev pub invariant-loop-count : goal.invariant-loop-count
 invariant-loop-count l = record {
-  texts : AreEncodings (grammar_of l.padding l.format) l.options.traversal_limit_in_words (map (λ reader. reader.segments) l.messages.items) l.stream l.rest;
+  encodings : AreEncodings (grammar_of l.padding l.format) l.options.traversal_limit_in_words (map (λ reader. reader.segments) l.messages.items) l.stream l.rest;
   options : AllByRecursion (λ reader. reader.options ≡ l.options) l.messages.items;
   long : l.count + length l.rest ≤ length l.stream;
   at : l.end ≡ length l.stream - length l.rest;

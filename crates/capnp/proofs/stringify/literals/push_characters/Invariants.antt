@@ -5,4 +5,4 @@ use Rattle.capnp.proofs.stringify.literals.push_characters.Given as goal
 
 abbrev pub invariant-loop-character : goal.invariant-loop-character
 invariant-loop-character l =
-    (shown : List ℕ) × (string_bytes l.text ≡ string_bytes l.fn.text ++ (34 ∷ shown)) × AreEscaped IsEscapeOf l.yielded shown
+    (shown : List ℕ) × (string_bytes l.output ≡ string_bytes l.fn.output ++ (34 ∷ shown)) × AreEscaped IsEscapeOf l.yielded shown

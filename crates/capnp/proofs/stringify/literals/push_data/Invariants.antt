@@ -5,4 +5,4 @@ use Rattle.capnp.proofs.stringify.literals.push_data.Given as goal
 
 abbrev pub invariant-loop-byte : goal.invariant-loop-byte
 invariant-loop-byte l =
-    (shown : List ℕ) × (string_bytes l.text ≡ string_bytes l.fn.text ++ (34 ∷ shown)) × AreEscaped IsByteEscape (take l.byte-index l.bytes) shown
+    (shown : List ℕ) × (string_bytes l.output ≡ string_bytes l.fn.output ++ (34 ∷ shown)) × AreEscaped IsByteEscape (take l.byte-index l.bytes) shown

@@ -1,8 +1,8 @@
 -- The message at the front is the one that is found.
 use Rattle.std.proofs.Common.{rules, ◌*◌, ◌∙◌, length, refl, sym, ap}
 use Rattle.std.specs.Prelude.{sum}
-use Rattle.capnp_frame.proofs.slices.HeldLemmas.{moved, parts_are, keeps_declared}
-use Rattle.capnp_frame.proofs.slices.FlatReaderLemmas.{reads_none, reads_held}
+use Rattle.capnp_frame.proofs.slices.BufferLemmas.{moved, parts_are, keeps_declared}
+use Rattle.capnp_frame.proofs.slices.FlatReaderLemmas.{reads_none, reads_found}
 use Rattle.capnp_frame.proofs.serialize.buffer_segments.take_segments_with_rules.Goals as goal
 
 pub returns-in_err-segment_indices : goal.returns-in_err-segment_indices
@@ -19,7 +19,7 @@ returns c =
     let found = c.in_ok-segment_indices.ensures in
     record {
       buffer = search rules;
-      reads = reads_held _ _ _ _ _ (length ns) found.holds
+      reads = reads_found _ _ _ _ _ (length ns) found.holds
           (parts_are bytes ns size c.from_parts.result.segments found.lengths found.table (ap (λ message. message.segments) c.from_parts.ensures))
           (keeps_declared bytes ns c.args.rules.limit_in_words found.lengths found.within) found.padding
           (moved bytes (length ns) size (8 * c.total_words.result) found.table (ap (λ k. 8 * k) (c.total_words.ensures ∙ ap sum (sym found.lengths))));

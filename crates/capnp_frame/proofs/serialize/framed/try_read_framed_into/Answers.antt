@@ -13,7 +13,7 @@ returns-in_err-info g c =
     rw (p.1, p.2) (record {
       reads = fails_into c.args.rules.padding g.R.Read g.met.R.Read.lawful _ _ c.args.rules.limit_in_words (length c.args.buffer.now) _
           reported.errors reported.end reported.short reported.kinds reported.asked.failed reported.asked.advances;
-      text = tt;
+      encoding = tt;
       room = tt;
     })
 
@@ -34,6 +34,6 @@ returns g c =
           (subst (λ l. KeepsLimit l limit) (sym zero.lengths_are) message.within)
           (subst (λ m. IfKnown (g.R.Read.unread c.args.source.now) (g.R.Read.unread c.read_into.new.source) (MessageFound rule g.R.Read.gives m)) (sym zero.segments_are) message.found)
           (λ few. (reported.asks.short few).1) reported.asks.asked.advances;
-      text = zeroed_begins c.read_into.new.buffer _ c.in-Some.info.segments_count _ _ zero size message.total_is;
+      encoding = zeroed_begins c.read_into.new.buffer _ c.in-Some.info.segments_count _ _ zero size message.total_is;
       room = search rules;
     }

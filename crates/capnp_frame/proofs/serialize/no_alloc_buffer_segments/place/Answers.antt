@@ -5,12 +5,12 @@ use Rattle.capnp_frame.proofs.serialize.no_alloc_buffer_segments.place.Goals as 
 
 pub overflow_add-result : goal.overflow_add-result
 overflow_add-result c =
-    let held = c.requires.held in
-    let next = reads_on c.args.bytes.now held.0 c.args.index c.field_at.result held.1 held.2 c.field_at.type_inv c.field_at.ensures in
+    let message = c.requires.message in
+    let next = reads_on c.args.bytes.now message.0 c.args.index c.field_at.result message.1 message.2 c.field_at.type_inv c.field_at.ensures in
     omega (arith, c.later_start-start.ensures, next.total, next.within)
 
 pub returns-clause-end : goal.returns-clause-end
 returns-clause-end c =
-    let held = c.requires.held in
-    let next = reads_on c.args.bytes.now held.0 c.args.index c.field_at.result held.1 held.2 c.field_at.type_inv c.field_at.ensures in
+    let message = c.requires.message in
+    let next = reads_on c.args.bytes.now message.0 c.args.index c.field_at.result message.1 message.2 c.field_at.type_inv c.field_at.ensures in
     ap (λ k. k + c.field_at.result) c.later_start-start.ensures ∙ sym next.total

@@ -1,6 +1,6 @@
 -- The struct that is added becomes the root.
 use Rattle.capnp_orphans.specs.Segments.{body_of}
-use Rattle.capnp_orphans.specs.Held.{HoldsStruct, TakesStruct}
+use Rattle.capnp_orphans.specs.Holds.{HoldsStruct, TakesStruct}
 use Rattle.capnp_orphans.proofs.AddingLemmas.{adds_root}
 use Rattle.capnp_orphans.proofs.orphanage.Orphanage.add_root.Goals as goal
 

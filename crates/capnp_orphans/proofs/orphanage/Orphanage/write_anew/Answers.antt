@@ -1,7 +1,7 @@
 -- The object is appended.
 use Rattle.std.proofs.Common.{Ok, subst}
 use Rattle.capnp_orphans.specs.Segments.{Segment, IsSegment, AppendsObject}
-use Rattle.capnp_orphans.specs.Held.{word_of}
+use Rattle.capnp_orphans.specs.Holds.{word_of}
 use Rattle.capnp_orphans.proofs.AddingLemmas.{adds_one}
 use Rattle.capnp_orphans.proofs.orphanage.Orphanage.write_anew.Goals as goal
 

@@ -1,7 +1,7 @@
 -- The structs come after their tag.
 use Rattle.std.proofs.Common.{◌≡◌, ◌∙◌, ◌+◌, ◌*◌, ℕ, [], ◌∷◌, length, drop, ap, arith, length-take}
 use Rattle.capnp_layout.specs.Prelude.{words_of, struct_pointer, list_pointer}
-use Rattle.capnp_orphans.specs.Held.{elements}
+use Rattle.capnp_orphans.specs.Holds.{elements}
 use Rattle.capnp_orphans.proofs.WrittenLemmas.{two_parts, structs_children}
 use Rattle.capnp_orphans.proofs.struct_list.StructListObject.write.Goals as goal
 

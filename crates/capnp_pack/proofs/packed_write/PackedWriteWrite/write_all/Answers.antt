@@ -10,4 +10,4 @@ returns-clause-errors g c = whole_chunk_error (λ kind. kind ≡ DeviceFailed) g
 
 -- and what is packed is whole words
 pub returns-then-chunk-ne0-clause-packed_granted : goal.returns-then-chunk-ne0-clause-packed_granted
-returns-then-chunk-ne0-clause-packed_granted g c text more packs granted = absurd (c.if-chunk-ne0.true (Packs-whole _ text packs))
+returns-then-chunk-ne0-clause-packed_granted g c encoding more packs granted = absurd (c.if-chunk-ne0.true (Packs-whole _ encoding packs))

@@ -14,7 +14,7 @@ loop-done-preserved g c =
     let chunk = c.args.chunk.now in
     let fits = c.in-Ok.ensures.bound in
     let most = length-take (length chunk - done) (drop done chunk) in
-    let joined = ap (λ text. take done chunk ++ text) (take-take count (length chunk - done) (drop done chunk) (omega arith)) ∙ sym (take-add done count chunk) in
+    let joined = ap (λ encoding. take done chunk ++ encoding) (take-take count (length chunk - done) (drop done chunk) (omega arith)) ∙ sym (take-add done count chunk) in
     (omega arith, c.loop-done.invariant.1, subst (Appends _ _) joined (Appends-trans _ _ _ _ _ c.loop-done.invariant.2 c.in-Ok.ensures.bytes))
 
 -- a call that fails, or takes nothing, leaves what was done

@@ -1,7 +1,7 @@
 -- The message at the front is the one that is found.
 use Rattle.std.proofs.Common.{rules, length, ap}
-use Rattle.capnp_frame.proofs.slices.HeldLemmas.{parts_are, keeps_declared}
-use Rattle.capnp_frame.proofs.slices.FlatReaderLemmas.{reads_none, reads_held}
+use Rattle.capnp_frame.proofs.slices.BufferLemmas.{parts_are, keeps_declared}
+use Rattle.capnp_frame.proofs.slices.FlatReaderLemmas.{reads_none, reads_found}
 use Rattle.capnp_frame.proofs.serialize.buffer_segments.BufferSegments.with_rules.Goals as goal
 
 pub returns-in_err-segment_indices : goal.returns-in_err-segment_indices
@@ -18,7 +18,7 @@ returns g c =
     let kept = rw c.as_bytes.ensures at c.in_ok-segment_indices.ensures.padding in
     record {
       buffer = search rules;
-      reads = reads_held _ _ _ _ _ (length ns) holds
+      reads = reads_found _ _ _ _ _ (length ns) holds
           (parts_are bytes ns c.in_ok-segment_indices.table_len c.from_parts.result.segments
           declared c.in_ok-segment_indices.ensures.table (ap (λ message. message.segments) c.from_parts.ensures))
           (keeps_declared bytes ns c.args.rules.limit_in_words declared c.in_ok-segment_indices.ensures.within) kept tt;

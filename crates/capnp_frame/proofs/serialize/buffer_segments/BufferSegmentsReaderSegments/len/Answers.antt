@@ -6,4 +6,4 @@ use Rattle.capnp_frame.proofs.serialize.buffer_segments.BufferSegmentsReaderSegm
 pub returns : goal.returns
 returns g c = c.len.ensures
     ∙ sym (length-cut c.self.inside.segment_indices (drop c.self.inside.table_len (g.T.AsBytes.bytes c.self.inside.buffer)))
-    ∙ ap (λ held. length held.segments) c.self.view_is
+    ∙ ap (λ reader. length reader.segments) c.self.view_is

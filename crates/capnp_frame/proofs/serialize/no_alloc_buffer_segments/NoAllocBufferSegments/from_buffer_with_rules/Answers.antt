@@ -1,6 +1,6 @@
--- The message at the front is the one that is held.
+-- The message at the front is the one in the buffer.
 use Rattle.std.proofs.Common.{rules, ap}
-use Rattle.capnp_frame.proofs.slices.FlatReaderLemmas.{reads_none, reads_held}
+use Rattle.capnp_frame.proofs.slices.FlatReaderLemmas.{reads_none, reads_found}
 use Rattle.capnp_frame.proofs.serialize.no_alloc_buffer_segments.NoAllocBufferSegments.from_buffer_with_rules.Goals as goal
 
 pub returns-in_err-info : goal.returns-in_err-info
@@ -15,5 +15,5 @@ returns g c =
     let keeps = rw c.as_bytes.ensures at c.in_ok-info.ensures.within in
     record {
       buffer = search rules;
-      reads = reads_held _ _ _ _ _ c.in_ok-info.info.segments_count holds (ap (λ message. message.segments) c.of_message.ensures) keeps kept tt;
+      reads = reads_found _ _ _ _ _ c.in_ok-info.info.segments_count holds (ap (λ message. message.segments) c.of_message.ensures) keeps kept tt;
     }

@@ -5,7 +5,7 @@ use capnp_frame::{Error, ErrorKind, Result};
 use std::process::Abort;
 
 #[rattlefmt::skip]
-const TEXTS: [(u8, ErrorKind, &[u8]); 26] = [
+const SENTENCES: [(u8, ErrorKind, &[u8]); 26] = [
     (1, ErrorKind::FailedToFillTheWholeBuffer, b"FailedToFillTheWholeBuffer"),
     (2, ErrorKind::BufferNotLargeEnough, b"BufferNotLargeEnough"),
     (3, ErrorKind::EmptyBuffer, b"EmptyBuffer"),
@@ -39,18 +39,18 @@ const TEXTS: [(u8, ErrorKind, &[u8]); 26] = [
 ];
 
 #[test]
-fn texts_and_numbers(rt: HostRuntime) -> Result<()> {
-    for &(number, kind, text) in &TEXTS {
-        retried!(print(&rt, number, kind, text))?;
+fn sentences_and_numbers(rt: HostRuntime) -> Result<()> {
+    for &(number, kind, sentence) in &SENTENCES {
+        retried!(print(&rt, number, kind, sentence))?;
     }
     Ok(())
 }
 
-fn print(rt: &(impl Abort + AllocGlobal), number: u8, kind: ErrorKind, text: &[u8]) -> Result<()> {
+fn print(rt: &(impl Abort + AllocGlobal), number: u8, kind: ErrorKind, sentence: &[u8]) -> Result<()> {
     let at = At::new("kind", u64::from(number));
     let error = Error::from_kind(kind);
     assert_holds(rt, kind.number() == number && error.kind == kind, at);
-    assert_bytes(rt, format!(in rt.alloc(); "{kind}")?.as_bytes(), text, at);
-    assert_bytes(rt, format!(in rt.alloc(); "{error}")?.as_bytes(), text, at);
+    assert_bytes(rt, format!(in rt.alloc(); "{kind}")?.as_bytes(), sentence, at);
+    assert_bytes(rt, format!(in rt.alloc(); "{error}")?.as_bytes(), sentence, at);
     Ok(())
 }

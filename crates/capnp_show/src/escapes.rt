@@ -1,6 +1,6 @@
-//! Texts, as they are shown.
+//! Strings, as they are shown.
 ghost use Rattle.std.specs.Prelude.{◌≡◌, ◌++◌, ◌∷◌, ℕ, List, [], MatchOption, IsUtf8, OnOk, codes, string_bytes};
-ghost use Rattle.capnp_show.specs.Texts.{IsEscapeOf, escaped, AddsEscaped};
+ghost use Rattle.capnp_show.specs.Output.{IsEscapeOf, escaped, AddsEscaped};
 
 use crate::runs::{next_run, push_run};
 use std::alloc::AllocError;
@@ -34,51 +34,51 @@ pub fn escape_of(character: char) -> Escape
     }
 }
 
-/// Adds a text, escaped.
-pub fn push_escaped(text: &mut String, shown: &str) -> Result<(), AllocError>
-    ensures { OnOk result (AddsEscaped [] shown.now [] (string_bytes text.old) (string_bytes text.new)) }
+/// Adds a string, escaped.
+pub fn push_escaped(output: &mut String, shown: &str) -> Result<(), AllocError>
+    ensures { OnOk result (AddsEscaped [] shown.now [] (string_bytes output.old) (string_bytes output.new)) }
 {
     let mut rest = shown;
     while let Some((plain, character, after)) = next_run(rest) {
-        push_run(text, plain)?;
-        push_escape(text, character, escape_of(character))?;
+        push_run(output, plain)?;
+        push_escape(output, character, escape_of(character))?;
         rest = after;
     }
-    text.push_str(rest)
+    output.push_str(rest)
 }
 
 /// Adds a character, escaped in this way.
-pub fn push_escape(text: &mut String, character: char, escape: Escape) -> Result<(), AllocError>
-    ensures { OnOk result (string_bytes text.new ≡ string_bytes text.old ++ escaped character escape) }
+pub fn push_escape(output: &mut String, character: char, escape: Escape) -> Result<(), AllocError>
+    ensures { OnOk result (string_bytes output.new ≡ string_bytes output.old ++ escaped character escape) }
 {
     match escape {
-        Escape::Plain => text.push(character),
+        Escape::Plain => output.push(character),
         Escape::Letter(letter) => {
-            text.push('\\')?;
-            text.push(letter)
+            output.push('\\')?;
+            output.push(letter)
         }
         Escape::Number => {
             let number = character as u32;
-            write!(text, "\\u{number:04x}")
+            write!(output, "\\u{number:04x}")
         }
     }
 }
 
-/// Adds a text, escaped and within quotation marks: a JSON string.
-pub fn push_quoted(text: &mut String, shown: &str) -> Result<(), AllocError>
+/// Adds a string, escaped and within quotation marks: a JSON string.
+pub fn push_quoted(output: &mut String, shown: &str) -> Result<(), AllocError>
     ensures { OnOk result (AddsEscaped (codes "\"") shown.now (codes "\"")
-        (string_bytes text.old) (string_bytes text.new)) }
+        (string_bytes output.old) (string_bytes output.new)) }
 {
-    text.push('"')?;
-    push_escaped(text, shown)?;
-    text.push('"')
+    output.push('"')?;
+    push_escaped(output, shown)?;
+    output.push('"')
 }
 
 /// The text that a list of bytes is: UTF-8, with a zero byte at the end, which doesn't belong to
 /// it; `None` where it is no text.
 pub fn text_in(bytes: &[u8]) -> Option<&str>
-    ensures { MatchOption result ((text : List ℕ) → bytes.now ≡ text ++ 0 ∷ [] → IsUtf8 text → ⊥)
-        (λ text. bytes.now ≡ text.now ++ 0 ∷ []) }
+    ensures { MatchOption result ((characters : List ℕ) → bytes.now ≡ characters ++ 0 ∷ [] → IsUtf8 characters → ⊥)
+        (λ characters. bytes.now ≡ characters.now ++ 0 ∷ []) }
 {
     let (last, front) = bytes.split_last()?;
     if *last != 0 {

@@ -1,12 +1,12 @@
--- The text is that of the used words.
+-- The encoding is that of the used words.
 use Rattle.std.proofs.Common.{◌≡◌, ◌⊎◌, subst}
 use Rattle.std.proofs.lemmas.Result.{err_from_is_err_and}
 use Rattle.capnp_frame.specs.declared.error.ErrorKind.TheVariants.{OutOfMemory}
 use Rattle.capnp_frame.specs.Prelude.{IsWritable, IsWithinSegmentLimit, SegmentCountError}
 use Rattle.capnp.specs.Prelude.{IsPackedEncodingOf}
 use Rattle.capnp.proofs.ChunkLemmas.{packed_memory}
-use Rattle.capnp_uses.proofs.PackedStructLemmas.{added_text}
-use Rattle.capnp_uses.proofs.packed_struct.packed_text.Goals as goal
+use Rattle.capnp_uses.proofs.PackedStructLemmas.{added_encoding}
+use Rattle.capnp_uses.proofs.packed_struct.packed_encoding.Goals as goal
 
 pub returns : goal.returns
 returns g c =
@@ -17,8 +17,8 @@ returns g c =
         subst IsWritable output.ensures.segments (output.ensures.writable c.requires),
         subst IsWithinSegmentLimit output.ensures.segments c.in_ok-write_message_segments.ensures.count.few,
         subst (λ m. IsPackedEncodingOf m c.write_message_segments.new.sink.items) output.ensures.segments
-            (added_text output.result c.new-text.result.items c.write_message_segments.new.sink.items c.new-text.ensures.items
-            (c.in_ok-write_message_segments.ensures.text (λ chunk text same. same))),
+            (added_encoding output.result c.new-encoding.result.items c.write_message_segments.new.sink.items c.new-encoding.ensures.items
+            (c.in_ok-write_message_segments.ensures.encoding (λ chunk encoding same. same))),
       );
     }
 

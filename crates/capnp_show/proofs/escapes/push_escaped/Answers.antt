@@ -2,10 +2,10 @@
 use Rattle.std.proofs.Common.{rules, ◌≡◌, ℕ, List, [], ◌∷◌, ◌++◌, refl, sym, subst, ap, ◌∙◌, string_bytes, append-nil}
 use Rattle.std.specs.Str.{chars}
 use Rattle.std.proofs.lemmas.Result.{on_ok_weaker}
-use Rattle.capnp_show.specs.Texts.{AreEscaped, none_shown, escaped}
-use Rattle.capnp_show.proofs.TextLemmas.{added_after, ended, pushed}
+use Rattle.capnp_show.specs.Output.{AreEscaped, none_shown, escaped}
+use Rattle.capnp_show.proofs.EscapeLemmas.{added_after, ended, pushed}
 use Rattle.capnp_show.proofs.RunLemmas.{escaped_more, escaped_last, characters_more}
-use Rattle.capnp_show.proofs.text.push_escaped.Goals as goal
+use Rattle.capnp_show.proofs.escapes.push_escaped.Goals as goal
 
 pub loop-plain-init : goal.loop-plain-init
 loop-plain-init c = ([], [], sym (append-nil _), none_shown, refl, c.utf8.shown)

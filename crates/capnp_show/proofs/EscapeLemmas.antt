@@ -1,9 +1,9 @@
--- Texts that are added one after the other.
+-- Strings that are added one after the other.
 use Rattle.std.proofs.Common.{◌≡◌, ℕ, List, [], ◌++◌, sym, ap, ◌∙◌, append-nil}
 use Rattle.std.specs.Prelude.{Result, Ok, Err, OnOk, if◌then◌else◌}
 use Rattle.std.specs.Result.{is_ok}
 use Rattle.std.proofs.lemmas.List.{append_assoc}
-use Rattle.capnp_show.specs.Texts.{AddsEscaped, AddsMarked}
+use Rattle.capnp_show.specs.Output.{AddsEscaped, AddsMarked}
 
 pub added_after : (start bytes middle new added : List ℕ) → middle ≡ start ++ bytes → new ≡ middle ++ added → new ≡ start ++ (bytes ++ added)
 added_after start bytes middle new added before is = is ∙ ap (λ (x : List ℕ). x ++ added) before ∙ append_assoc start bytes added
@@ -11,7 +11,7 @@ added_after start bytes middle new added before is = is ∙ ap (λ (x : List ℕ
 pub ended : (start bytes new : List ℕ) → new ≡ start ++ bytes → new ≡ start ++ (bytes ++ [])
 ended start bytes new is = is ∙ ap (λ (x : List ℕ). start ++ x) (sym (append-nil bytes))
 
--- a text between two others
+-- a string between two others
 pub three_added : (old front first middle second end new : List ℕ) → first ≡ old ++ front → second ≡ first ++ middle → new ≡ second ++ end → new ≡ old ++ (front ++ (middle ++ end))
 three_added old front first middle second end new one two three =
     added_after old front first new (middle ++ end) one (added_after first middle second new end two three)

@@ -9,20 +9,20 @@ use capnp_frame::{Error, ErrorKind, Result};
 
 /// The used bytes at the front of a caller-provided block, which the next chunk follows.
 #[derive(Drop)]
-pub struct ProvidedText<'a> {
+pub struct ProvidedBuffer<'a> {
     block: &'a mut [u8],
     used: usize,
     ghost within: { used ≤ length block.now },
 }
 
-impl<'a> ProvidedText<'a> {
+impl<'a> ProvidedBuffer<'a> {
     /// A sink into this block, of which no byte is used.
-    pub fn new(block: &'a mut [u8]) -> ProvidedText<'a>
+    pub fn new(block: &'a mut [u8]) -> ProvidedBuffer<'a>
         ensures same_reference { result.block.ghost_name ≡ block.entry.ghost_name }
         ensures block { result.block.now ≡ block.old }
         ensures used { result.used ≡ 0 }
     {
-        ProvidedText { block, used: 0 }
+        ProvidedBuffer { block, used: 0 }
     }
 
     /// The number of used bytes.
@@ -34,8 +34,8 @@ impl<'a> ProvidedText<'a> {
 }
 
 // A chunk that does not fit fails with `BufferNotLargeEnough`, and nothing of it is written.
-impl Write for ProvidedText<'_> {
-    ghost written = { λ text. Some (take text.used text.block.now) };
+impl Write for ProvidedBuffer<'_> {
+    ghost written = { λ buffer. Some (take buffer.used buffer.block.now) };
 
     ghost failures = { λ _. 0 };
 
@@ -43,7 +43,7 @@ impl Write for ProvidedText<'_> {
 
     ghost leaves = { LeavesNothing };
 
-    ghost grants = { λ text bytes. text.used + bytes ≤ length text.block.now };
+    ghost grants = { λ buffer bytes. buffer.used + bytes ≤ length buffer.block.now };
 
     ghost refuses = { ByKind ErrorKind.BufferNotLargeEnough };
 

@@ -10,16 +10,16 @@ use Rattle.capnp_frame.specs.Prelude.{size_in_words, table_size, KeepsPadding, c
 use Rattle.capnp_frame.specs.declared.serialize.segment_table.Padding.{Padding}
 use Rattle.capnp_frame.specs.declared.serialize.segment_table.Padding.TheVariants.{Any}
 use Rattle.capnp_frame.proofs.sources.AskLemmas.{never_fails}
-use Rattle.capnp_frame.proofs.encodings.FrontMessages.{found_from_held, held_from_begins, within_declared, length-declared_segments}
+use Rattle.capnp_frame.proofs.encodings.FrontMessages.{found_from_holds, holds_from_begins, within_declared, length-declared_segments}
 use Rattle.capnp_frame.proofs.slices.FlatLemmas.{FlatError-apart, declared_by_requests, several_accepted, words_error, past_lengths, cut_segments}
 
 -- the frame at the front
 
-pub begins_held : (rule : Padding) (bytes : List ℕ) (count : ℕ) (segments : List (List ℕ)) → HoldsMessage bytes count
+pub begins_from_holds : (rule : Padding) (bytes : List ℕ) (count : ℕ) (segments : List (List ℕ)) → HoldsMessage bytes count
     → KeepsPadding rule (declared_padding count bytes) → segments ≡ declared_segments count bytes → (rest : List ℕ) × HasFrame rule bytes segments rest
-begins_held rule bytes count segments holds kept are =
+begins_from_holds rule bytes count segments holds kept are =
     let left = drop (table_size count + 8 * sum (declared_lengths count bytes)) bytes in
-    (left, subst (λ l. HasFrame rule bytes l left) (sym are) (found_from_held rule bytes count holds kept).begins)
+    (left, subst (λ l. HasFrame rule bytes l left) (sym are) (found_from_holds rule bytes count holds kept).begins)
 
 -- a slice that moved past it
 pub moved : (bytes : List ℕ) (count size total : ℕ) → size ≡ table_size count → total ≡ 8 * sum (declared_lengths count bytes)
@@ -28,9 +28,9 @@ moved bytes count size total table_is total_is =
     let place : size + total ≡ table_size count + 8 * sum (declared_lengths count bytes) = omega arith in
     take_rest bytes (size + total) ∙ ap (λ k. drop k bytes) place
 
-pub within_held : (bytes : List ℕ) (count : ℕ) (segments : List (List ℕ)) (limit : Option ℕ) → HoldsMessage bytes count
+pub within_from_holds : (bytes : List ℕ) (count : ℕ) (segments : List (List ℕ)) (limit : Option ℕ) → HoldsMessage bytes count
     → segments ≡ declared_segments count bytes → KeepsLimit (declared_lengths count bytes) limit → IsWithin segments limit
-within_held bytes count segments limit holds are keeps = subst (λ l. IsWithin l limit) (sym are) (within_declared bytes count limit holds keeps)
+within_from_holds bytes count segments limit holds are keeps = subst (λ l. IsWithin l limit) (sym are) (within_declared bytes count limit holds keeps)
 
 -- parts after a table
 
@@ -83,17 +83,17 @@ slice_cut empty rule bytes ns left limit total is_found within is short =
 
 -- descriptions
 
-pub described_held : (bytes : List ℕ) (info : NoAllocSegmentTableInfo) → IsDescribed bytes info
+pub holds_from_described : (bytes : List ℕ) (info : NoAllocSegmentTableInfo) → IsDescribed bytes info
     → HoldsMessage bytes info.segments_count
-described_held bytes info d =
-    subst (HoldsMessage bytes) (sym d.count) (held_from_begins Any bytes d.segments d.rest None d.begins d.within).holds
+holds_from_described bytes info d =
+    subst (HoldsMessage bytes) (sym d.count) (holds_from_begins Any bytes d.segments d.rest None d.begins d.within).holds
 
-pub held_described : (bytes : List ℕ) (info : NoAllocSegmentTableInfo) → HoldsMessage bytes info.segments_count
+pub described_from_holds : (bytes : List ℕ) (info : NoAllocSegmentTableInfo) → HoldsMessage bytes info.segments_count
     → info.total_segments_length_bytes ≡ 8 * sum (declared_lengths info.segments_count bytes)
     → info.segment_table_length_bytes ≡ table_size info.segments_count → IsDescribed bytes info
-held_described bytes info holds total table =
+described_from_holds bytes info holds total table =
     let count = info.segments_count in
-    let found = found_from_held Any bytes count holds tt in
+    let found = found_from_holds Any bytes count holds tt in
     let many : count ≡ length (declared_segments count bytes) = sym (length-declared_segments count bytes) in
     record {
       segments = declared_segments count bytes;
@@ -108,8 +108,8 @@ held_described bytes info holds total table =
 -- one description fits a front
 pub described_once : (bytes : List ℕ) (found info : NoAllocSegmentTableInfo) → IsDescribed bytes found → IsDescribed bytes info → HaveSameNumbers found info
 described_once bytes found info d e =
-    let one = held_from_begins Any bytes d.segments d.rest None d.begins d.within in
-    let other = held_from_begins Any bytes e.segments e.rest None e.begins e.within in
+    let one = holds_from_begins Any bytes d.segments d.rest None d.begins d.within in
+    let other = holds_from_begins Any bytes e.segments e.rest None e.begins e.within in
     let many : length d.segments ≡ length e.segments = sym one.count ∙ other.count in
     let same : d.segments ≡ e.segments = sym one.segments_are ∙ ap (λ k. declared_segments k bytes) many ∙ other.segments_are in
     record {
@@ -136,7 +136,7 @@ pub describes_found : (bytes : List ℕ) (found info : NoAllocSegmentTableInfo) 
     → found.total_segments_length_bytes ≡ 8 * sum (declared_lengths found.segments_count bytes)
     → IsTrue b ↔ IsDescribed bytes info
 describes_found bytes found info b means holds table total =
-    let described = held_described bytes found holds total table in
+    let described = described_from_holds bytes found holds total table in
     (λ yes. same_described bytes found info (means.0 yes) described, λ d. means.1 (described_once bytes found info described d))
 
 pub describes_none : (kind : ErrorKind) (bytes : List ℕ) (info : NoAllocSegmentTableInfo) → FlatError by_fields Any None kind bytes → IsTrue false ↔ IsDescribed bytes info

@@ -1,4 +1,4 @@
--- Characters and texts, as they are shown (src/text.rt, src/markup.rt, src/listing.rt).
+-- Characters and strings, as they are shown (src/escapes.rt, src/markup.rt, src/listing.rt).
 use Rattle.std.specs.Prelude.{◌≡◌, ◌≢◌, ◌⊎◌, ℕ, ◌-◌, ◌/◌, ◌%◌, ◌^◌, ◌≤◌, false, List, [], ◌∷◌, ◌++◌, Option, Some, None, codes, decimal}
 use Rattle.std.specs.Char.{encode_utf8}
 use Rattle.std.specs.Str.{chars}
@@ -14,8 +14,8 @@ use Rattle.capnp_show.specs.declared.owners.Lead.TheVariants.{Nowhere, Null, Obj
 use Rattle.capnp_show.specs.declared.owners.Word.{Word}
 use Rattle.capnp_show.specs.declared.listing.Listed.{Listed}
 use Rattle.capnp_layout.specs.declared.place.Place.{Place}
-use Rattle.capnp_show.specs.declared.text.Escape.{Escape}
-use Rattle.capnp_show.specs.declared.text.Escape.TheVariants.{Plain, Letter, Number}
+use Rattle.capnp_show.specs.declared.escapes.Escape.{Escape}
+use Rattle.capnp_show.specs.declared.escapes.Escape.TheVariants.{Plain, Letter, Number}
 use Rattle.capnp_show.specs.declared.markup.Mark.{Mark}
 use Rattle.capnp_show.specs.declared.markup.Mark.TheVariants.{Plain as PlainMark, Named, Control}
 use Rattle.capnp_layout.specs.declared.element_size.ElementSize.{ElementSize}
@@ -82,7 +82,7 @@ pub data AreEscaped : List ℕ → List ℕ → Type 0 where
   one_shown : (characters bytes : List ℕ) (character : ℕ) (escape : Escape) → AreEscaped characters bytes → IsEscapeOf character escape
       → AreEscaped (characters ++ character ∷ []) (bytes ++ escaped character escape)
 
--- a text is added, escaped, between two others
+-- a string is added, escaped, between two others
 abbrev pub AddsEscaped : List ℕ → List ℕ → List ℕ → List ℕ → List ℕ → Type 0
 AddsEscaped front shown end old new = (bytes : List ℕ) × (new ≡ old ++ (front ++ (bytes ++ end))) × AreEscaped (chars shown) bytes
 
@@ -98,7 +98,7 @@ pub data AreMarked : List ℕ → List ℕ → Type 0 where
   one_marked : (characters bytes added : List ℕ) (character : ℕ) (mark : Mark) → AreMarked characters bytes → IsMarkOf character mark
       → IsMarked character mark added → AreMarked (characters ++ character ∷ []) (bytes ++ added)
 
--- a text is added to a page, between two others
+-- a string is added to a page, between two others
 abbrev pub AddsMarked : List ℕ → List ℕ → List ℕ → List ℕ → List ℕ → Type 0
 AddsMarked front shown end old new = (bytes : List ℕ) × (new ≡ old ++ (front ++ (bytes ++ end))) × AreMarked (chars shown) bytes
 
