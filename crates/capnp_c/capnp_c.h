@@ -53,7 +53,7 @@ enum linsjoar_error {
     LINSJOAR_ALLOCATION_TOO_LARGE = 15,
     /* The only segment is handed out already. */
     LINSJOAR_SEGMENT_TAKEN = 16,
-    /* A pointer, or what it leads to, lies outside of its segment. */
+    /* A pointer, or what it points_to to, lies outside of its segment. */
     LINSJOAR_POINTER_OUT_OF_BOUNDS = 17,
     /* A message has no segment of this number. */
     LINSJOAR_INVALID_SEGMENT_ID = 18,
@@ -63,7 +63,7 @@ enum linsjoar_error {
     LINSJOAR_READ_LIMIT_EXCEEDED = 20,
     /* A message has a pointer to a capability. */
     LINSJOAR_CAPABILITY_REFUSED = 21,
-    /* A pointer leads to another kind of object. */
+    /* A pointer points_to to another kind of object. */
     LINSJOAR_WRONG_POINTER_KIND = 22,
     /* A text has no zero byte at its end. */
     LINSJOAR_TEXT_NOT_TERMINATED = 23,

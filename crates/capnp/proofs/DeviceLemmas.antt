@@ -3,7 +3,7 @@ use Rattle.std.proofs.Common.{◌≡◌, ◌↔◌, ℕ, ◌+◌, ◌-◌, ◌<�
 use Rattle.std.proofs.lemmas.List.{append-nil, take-append-drop, length-drop, length-take, length-take-le}
 use Rattle.std.specs.Io.KnownBytes.{Keeps, Appends, Consumes, IsAtEnd}
 use Rattle.capnp_frame.specs.Prelude.{same_front, IsTail}
-use Rattle.capnp_frame.proofs.sources.SourceLemmas.{IfKnown-weaker}
+use Rattle.capnp_frame.proofs.sources.RequestSequenceLemmas.{IfKnown-weaker}
 use Rattle.capnp.specs.Prelude.{IfKnown, Adds, LeavesFront, Splits, RunsShort, ReturnsPart, if_known}
 
 -- a front of the chunk

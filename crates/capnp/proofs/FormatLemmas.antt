@@ -7,12 +7,12 @@ use Rattle.capnp_frame.specs.declared.error.ErrorKind.{ErrorKind}
 use Rattle.capnp_frame.specs.declared.error.ErrorKind.TheVariants.{DeviceFailed, OutOfMemory}
 use Rattle.capnp_frame.specs.declared.io.Read.{Ghosts}
 use Rattle.capnp_frame.specs.Prelude.{IsWithin, Giving, Refusing, Splits, RunsShort, IfKnown, Advances, Fails, CountFound, StreamError, Outgrows, TakesMemory, TakesForLengths, IsReaderKind, MessageFound, SkipsMessage, StreamRules, framed_rules, reusing_rules, skipping_rules, ReadsStream}
-use Rattle.capnp_frame.proofs.sources.SourceLemmas.{IfKnown-weaker}
-use Rattle.capnp_frame.proofs.errors.StreamErrorLemmas.{StreamError-map}
+use Rattle.capnp_frame.proofs.sources.RequestSequenceLemmas.{IfKnown-weaker}
+use Rattle.capnp_frame.proofs.errors.ErrorTableLemmas.{StreamError-map}
 use Rattle.capnp.specs.declared.streams.Format.{Format}
 use Rattle.capnp.specs.declared.streams.Format.TheVariants.{Framed}
 use Rattle.capnp.specs.Prelude.{OrFailsAtEnd, IsPlainSource, rules_of, skipping_rules_of, FoundNext, ReadingError}
-use Rattle.capnp.proofs.ReaderLemmas.{frames_requested}
+use Rattle.capnp.proofs.SourceEncodingLemmas.{frames_requested}
 
 CountFound-map : {gives others : Giving} (given : (raw : List ℕ) (n : ℕ) (bytes rest : List ℕ) → gives raw n bytes rest → others raw n bytes rest)
     (raw left : List ℕ) → CountFound gives raw left → CountFound others raw left

@@ -5,9 +5,9 @@ use Rattle.std.specs.List.{AllByRecursion}
 use Rattle.capnp_frame.specs.declared.serialize.segment_table.Padding.{Padding}
 use Rattle.capnp_frame.specs.declared.error.ErrorKind.{ErrorKind}
 use Rattle.capnp_frame.specs.Prelude.{IsWithin, IsWholeWords, IsSource, IfKnown, IsTail, Adds, splitting}
-use Rattle.capnp_frame.proofs.sources.SourceLemmas.{IfKnown-join, IfKnown-refl, IfKnown-weaker}
-use Rattle.capnp_frame.proofs.encodings.FrameLemmas.{plain_requests}
-use Rattle.capnp_frame.proofs.encodings.EncodingLemmas.{AreRequested, PartsStreams, parts_streams, AreEncodings-push}
+use Rattle.capnp_frame.proofs.sources.RequestSequenceLemmas.{IfKnown-join, IfKnown-refl, IfKnown-weaker}
+use Rattle.capnp_frame.proofs.encodings.FrameRequestLemmas.{plain_requests}
+use Rattle.capnp_frame.proofs.encodings.UniqueEncodingLemmas.{AreRequested, PartsStreams, parts_streams, AreEncodings-push}
 use Rattle.capnp_pack.specs.Prelude.{unpacking}
 use Rattle.capnp_pack.proofs.encodings.PackedFrameLemmas.{packed_requests}
 use Rattle.capnp.specs.declared.streams.Format.{Format}
@@ -15,8 +15,8 @@ use Rattle.capnp.specs.declared.streams.Format.TheVariants.{Framed, Packed}
 use Rattle.capnp.specs.declared.streams.FailedAt.{FailedAt}
 use Rattle.capnp.specs.Prelude.{grammar_of, gives_of, refuses_of, rules_of, Writing, WritingErrors, WritesFrom, WritesAll, HasWrittenNext, HasWritten, ReadingError, WritingError, FailsWithinOr, RunError, most_messages, HasRun, by_format}
 use Rattle.capnp.proofs.FormatLemmas.{found_next}
-use Rattle.capnp.proofs.ReaderLemmas.{AreRead, are_read}
-use Rattle.capnp.proofs.WriterLemmas.{IsWritable-within}
+use Rattle.capnp.proofs.SourceEncodingLemmas.{AreRead, are_read}
+use Rattle.capnp.proofs.PlainSinkLemmas.{IsWritable-within}
 
 -- Both formats.
 

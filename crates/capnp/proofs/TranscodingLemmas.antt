@@ -6,13 +6,13 @@ use Rattle.capnp_frame.specs.declared.error.ErrorKind.{ErrorKind}
 use Rattle.capnp_frame.specs.declared.io.Read.{Ghosts}
 use Rattle.capnp_frame.specs.declared.io.Write.{Ghosts as SinkGhosts}
 use Rattle.capnp_frame.specs.Prelude.{Appending}
-use Rattle.capnp_frame.proofs.sources.SourceLemmas.{IfKnown-weaker}
+use Rattle.capnp_frame.proofs.sources.RequestSequenceLemmas.{IfKnown-weaker}
 use Rattle.capnp.specs.declared.streams.Format.{Format}
 use Rattle.capnp.specs.declared.streams.FailedAt.{FailedAt}
 use Rattle.capnp.specs.declared.transcoding.Way.{Way}
 use Rattle.capnp.specs.declared.transcoding.Way.TheVariants.{Pack, Unpack}
 use Rattle.capnp.specs.Prelude.{IsPlainSink, Writing, WritingErrors, WritesFrom, HasWritten, RanOut, HasFailed, HasRun, WritesEach, Transcodes, IsOtherEncoding}
-use Rattle.capnp.proofs.WriterLemmas.{frame_bytes_added, packed_encoding_added}
+use Rattle.capnp.proofs.PlainSinkLemmas.{frame_bytes_added, packed_encoding_added}
 
 -- what is written of each message is what is weaker
 abbrev IsWeaker : Writing → Writing → Type 0

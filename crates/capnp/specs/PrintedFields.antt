@@ -18,8 +18,8 @@ abbrev pub IsPointer : ℕ → Base → Type 0
 IsPointer lists base = (0 < lists) ⊎ IsPointerBase base
 
 -- A field that is a member of the union is set: the union's number is its own.
-abbrev pub IsSet : Struct → Option ℕ → Option ℕ → Type 0
-IsSet of discriminant member =
+abbrev pub IsMemberSet : Struct → Option ℕ → Option ℕ → Type 0
+IsMemberSet of discriminant member =
     (offset number : ℕ) → discriminant ≡ Some offset → member ≡ Some number → field of.words 16 offset ≡ number
 
 -- it is a member of the union, and not the first one
@@ -30,5 +30,5 @@ IsLaterMember discriminant member =
 -- A field is shown: a member where it is set, and a pointer where it is not null, or a later member.
 abbrev pub IsShown : Struct → Option ℕ → Option ℕ → Type 0 → ℕ → Type 0
 IsShown of discriminant member IsPointerField index =
-    IsSet of discriminant member
+    IsMemberSet of discriminant member
     × (IsLaterMember discriminant member ⊎ (IsPointerField → Denotes (pointer_in of index) nothing → ⊥))

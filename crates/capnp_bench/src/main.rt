@@ -1,8 +1,8 @@
-//! Runs a job that users of the library wait for, on messages that are made of a seed, and prints a
+//! Runs a benchmark that users of the library wait for, on messages that are made of a seed, and prints a
 //! digest of all that it returned.
 //!
-//! Its words are the job, the seed and how many messages or elements are made:
-//! `capnp_bench log 1 1000`. `all` runs each job in turn. Of `roots` and `trickle` one word more
+//! Its words are the benchmark, the seed and how many messages or elements are made:
+//! `capnp_bench log 1 1000`. `all` runs each benchmark in turn. Of `roots` and `trickle` one word more
 //! picks a part, and a second one a part of it: `capnp_bench roots 1 1000 text set_root`.
 //!
 //! `orphans` runs `records`, `table`, `tree` and `texts`. One word more says how many times each is
@@ -26,18 +26,18 @@ mod trickle;
 mod walk;
 
 use anyhow::Result;
-use orphans::{Job, Output};
+use orphans::{Benchmark, Output};
 use std::alloc::Global;
 use std::env;
 use std::io::Write;
 
 fn main(rt: HostRuntime) -> Result<()> {
-    let job = env::args(&rt)?.nth(1);
+    let benchmark = env::args(&rt)?.nth(1);
     let seed = number(env::args(&rt)?.nth(2).as_deref());
     let count = number(env::args(&rt)?.nth(3).as_deref());
-    let job = job.as_deref().unwrap_or("all");
+    let benchmark = benchmark.as_deref().unwrap_or("all");
     for name in ["log", "convert", "walk", "canon", "far"] {
-        if job == name || job == "all" {
+        if benchmark == name || benchmark == "all" {
             let digest = digest_of(rt.alloc(), name, seed, count)?;
             println!(rt; "{name} {digest}")?;
         }
@@ -45,17 +45,17 @@ fn main(rt: HostRuntime) -> Result<()> {
     let part = env::args(&rt)?.nth(4);
     let detail = env::args(&rt)?.nth(5);
     for name in ["roots", "trickle"] {
-        if job == name || job == "all" {
+        if benchmark == name || benchmark == "all" {
             let parts = (part.as_deref(), detail.as_deref());
             let digest = digest_of_parts(rt.alloc(), name, seed, count, parts)?;
             println!(rt; "{name} {digest}")?;
         }
     }
     for name in ["records", "table", "tree", "texts"] {
-        if job == name || job == "orphans" || job == "all" {
+        if benchmark == name || benchmark == "orphans" || benchmark == "all" {
             let times = number(part.as_deref());
-            let job = Job { seed, count, times };
-            match orphans::output_of(rt.alloc(), name, job, detail.is_some())? {
+            let benchmark = Benchmark { seed, count, times };
+            match orphans::output_of(rt.alloc(), name, benchmark, detail.is_some())? {
                 Output::Digest(digest) => {
                     let value = digest.value();
                     println!(rt; "{name} {value}")?;
@@ -76,8 +76,8 @@ fn number(word: Option<&str>) -> u32 {
     }
 }
 
-fn digest_of(alloc: Global, job: &str, seed: u32, count: u32) -> capnp::Result<u64> {
-    match job {
+fn digest_of(alloc: Global, benchmark: &str, seed: u32, count: u32) -> capnp::Result<u64> {
+    match benchmark {
         "log" => log::digest_of(alloc, seed, count),
         "convert" => convert::digest_of(alloc, seed, count),
         "walk" => walk::digest_of(alloc, seed, count),
@@ -88,12 +88,12 @@ fn digest_of(alloc: Global, job: &str, seed: u32, count: u32) -> capnp::Result<u
 
 fn digest_of_parts(
     alloc: Global,
-    job: &str,
+    benchmark: &str,
     seed: u32,
     count: u32,
     parts: (Option<&str>, Option<&str>),
 ) -> capnp::Result<u64> {
-    match job {
+    match benchmark {
         "roots" => roots::digest_of(alloc, seed, count, parts.0, parts.1),
         _ => trickle::digest_of(alloc, seed, count, parts.0, parts.1),
     }

@@ -9,9 +9,9 @@ use capnp::Result;
 pub use output::Output;
 use std::alloc::Global;
 
-/// The numbers of a job.
+/// The numbers of a benchmark.
 #[derive(Clone, Copy)]
-pub struct Job {
+pub struct Benchmark {
     /// What all numbers in the messages are made of.
     pub seed: u32,
     /// How many records, elements, nodes or texts there are.
@@ -20,14 +20,14 @@ pub struct Job {
     pub times: u32,
 }
 
-/// What a job builds the last time.
-pub fn output_of(alloc: Global, name: &str, job: Job, writes: bool) -> Result<Output> {
+/// What a benchmark builds the last time.
+pub fn output_of(alloc: Global, name: &str, benchmark: Benchmark, writes: bool) -> Result<Output> {
     let mut output = Output::new(alloc, writes);
     match name {
-        "records" => records::build(alloc, job, &mut output)?,
-        "table" => table::build(alloc, job, &mut output)?,
-        "tree" => tree::build(alloc, job, &mut output)?,
-        _ => texts::build(alloc, job, &mut output)?,
+        "records" => records::build(alloc, benchmark, &mut output)?,
+        "table" => table::build(alloc, benchmark, &mut output)?,
+        "tree" => tree::build(alloc, benchmark, &mut output)?,
+        _ => texts::build(alloc, benchmark, &mut output)?,
     }
     Ok(output)
 }

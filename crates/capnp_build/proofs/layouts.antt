@@ -1,6 +1,6 @@
 -- Layouts: trees in a block, and the root's pointer to it.
-pub mod LaidLemmas
-pub mod PointLemmas
-pub mod ReadyLemmas
-pub mod PlaceLemmas
+pub mod TreeLayoutLemmas
+pub mod BodyPointerLemmas
+pub mod ValueAfterPointerLemmas
+pub mod BlockPlaceLemmas
 pub mod NewObjectLemmas

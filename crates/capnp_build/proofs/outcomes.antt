@@ -1,5 +1,5 @@
 -- What the calls on the root keep, from what their steps keep.
-pub mod FirstLemmas
-pub mod OutcomeLemmas
-pub mod CanonicalLemmas
-pub mod InitLemmas
+pub mod FirstActionLemmas
+pub mod RootOutcomeLemmas
+pub mod CanonicalRootLemmas
+pub mod InitRootLemmas

@@ -1,6 +1,6 @@
 -- What is at the root, and what a type makes of it.
-pub mod AcceptLemmas
-pub mod NullLemmas
+pub mod RootTypeLemmas
+pub mod NullRootLemmas
 pub mod ZeroRootLemmas
-pub mod ReadLemmas
+pub mod RootReadBackLemmas
 pub mod RootBytesLemmas

@@ -1,5 +1,5 @@
 -- Segments in order, and what stays where one of them is written.
-pub mod BuilderStateLemmas
-pub mod SpaceLemmas
-pub mod KeptLemmas
-pub mod OutputLemmas
+pub mod SegmentOrderLemmas
+pub mod ChangedSegmentLemmas
+pub mod StayingBytesLemmas
+pub mod WholeWordSegmentLemmas

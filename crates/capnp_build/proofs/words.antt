@@ -1,5 +1,5 @@
 -- Used bytes and words of a segment, and those that are written.
-pub mod UsedLemmas
-pub mod WordLemmas
-pub mod ByteLemmas
-pub mod BlockLemmas
+pub mod UsedByteLemmas
+pub mod SegmentWordLemmas
+pub mod SegmentByteLemmas
+pub mod BlockValueLemmas

@@ -1,4 +1,4 @@
 -- Writes into the object at the root.
-pub mod FieldLemmas
-pub mod RewriteLemmas
-pub mod WriteLemmas
+pub mod RootFieldLemmas
+pub mod RootBodyLemmas
+pub mod RootObjectWriteLemmas

@@ -11,5 +11,5 @@ pub use Rattle.capnp_build.specs.Outcomes.{ClearsRoot, EnsuresRoot, GivesBack, H
 pub use Rattle.capnp_build.specs.Output.{CanBeWritten, UsesWords}
 pub use Rattle.capnp_build.specs.Placed.{RootFormError, FindsNoRoom, FoundNoRoom, HasNoRoom, HasRootAlone, InitWords, IsAdded, IsAtEnd, IsCleared, IsFirst, IsGranted, IsLookedAt, IsPlaced, IsPut, IsZeroAt, KeepsRooms, SegmentError, NewWords, BlockIsAt, most_words}
 pub use Rattle.capnp_build.specs.RootKind.{HoldsForm, ShowsRoot}
-pub use Rattle.capnp_build.specs.RootViews.{GetsView, HoldsTree, InitsView, LeavesNull, LeavesRoot}
+pub use Rattle.capnp_build.specs.RootViews.{GetsView, HoldsTree, InitsView, FailsWithNull, LeavesRoot}
 pub use Rattle.capnp_build.specs.Written.{HasBytes, HasField, HasNumber, IsBytesSet, IsFieldSet, IsNumberSet, IsWritten}

@@ -42,7 +42,7 @@ pub record InitsView {A S K M V : Type 0} (alloc : allocator.Ghosts A S) (schema
   pub others : IfOk result (λ view. KeepsOthers alloc.out (state_of (built old.now)) (state_of (built (message view).now)))
 
 -- What a call leaves that fails to make the root a new object of length `n`: a null root.
-pub record LeavesNull {A S K V : Type 0} (alloc : allocator.Ghosts A S) (schema : owned_builder.Ghosts K) (n : ℕ) (old last : Built A)
+pub record FailsWithNull {A S K V : Type 0} (alloc : allocator.Ghosts A S) (schema : owned_builder.Ghosts K) (n : ℕ) (old last : Built A)
     (result : Result V Error) : Type 0 where
   pub cleared : IsCleared alloc old last
   pub kind : IfErr result (λ error. schema.fails n error.kind ⊎ FailsFirstSegment alloc old last.spaces error.kind

@@ -1,6 +1,6 @@
 -- The lemmas.
-pub mod FrontLemmas
-pub mod MessageLemmas
-pub mod PackedLemmas
-pub mod ChunksLemmas
-pub mod UnpackedLemmas
+pub mod OneFrontMessageLemmas
+pub mod WholeBufferLemmas
+pub mod PackedBufferLemmas
+pub mod PackedChunkLemmas
+pub mod UnpackedMessageLemmas

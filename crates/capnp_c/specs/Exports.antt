@@ -94,7 +94,7 @@ pub record MeasuresForm (options : ReaderOptions) (bytes : List ℕ) (words resu
   pub stays : 0 < result → words ≡ 0
 
 -- It is written to the front of a block.
-pub record WritesForm (options : ReaderOptions) (bytes block : List ℕ) (words result : ℕ) : Type 0 where
+pub record WritesCanonicalForm (options : ReaderOptions) (bytes block : List ℕ) (words result : ℕ) : Type 0 where
   -- what is written where 0 is returned
   pub form : (segments : List (List ℕ)) (rest : List ℕ) → IsAtFront options bytes segments rest → result ≡ 0
       → (8 * words ≤ length block) × IsCanonicalForm (root_by options segments) (words_of (take (8 * words) block))

@@ -6,7 +6,7 @@ use Rattle.capnp_frame.specs.declared.message.options.ReaderOptions.{ReaderOptio
 use Rattle.capnp_frame.specs.declared.serialize.segment_table.Padding.TheVariants.{Zero}
 use Rattle.capnp_frame.specs.Prelude.{by_fields, FlatError, IsFrame, kind_number, BeginsWith}
 use Rattle.capnp_layout.specs.Prelude.{message_of}
-use Rattle.capnp_wire.specs.Prelude.{root, nesting_of, HasWords, WordsError, LeadsToTree, WalkErrorFrom, Pointer}
+use Rattle.capnp_wire.specs.Prelude.{root, nesting_of, HasWords, WordsError, PointsToTree, WalkErrorFrom, Pointer}
 
 -- a framed encoding of the message is at the front, and the message is within the limit of words
 abbrev pub IsAtFront : ReaderOptions → List ℕ → List (List ℕ) → List ℕ → Type 0
@@ -26,11 +26,11 @@ root_by options segments = root_within options.nesting_limit options.traversal_l
 
 -- there is a canonical form of this many words, with its root pointer
 abbrev pub RootHasForm : Pointer → ℕ → Type 0
-RootHasForm pointer words = (following : ℕ) × HasWords (LeadsToTree pointer) true following × (words ≡ following + 1)
+RootHasForm pointer words = (following : ℕ) × HasWords (PointsToTree pointer) true following × (words ≡ following + 1)
 
 -- It has none: a walk over the root's tree stops with this error, or the form has too many words.
 abbrev pub RootCanonicalFormError : Pointer → ErrorKind → Type 0
-RootCanonicalFormError pointer kind = WordsError (LeadsToTree pointer) (WalkErrorFrom pointer) true kind
+RootCanonicalFormError pointer kind = WordsError (PointsToTree pointer) (WalkErrorFrom pointer) true kind
 
 -- it has one, and a block of this many bytes has no room for it
 abbrev pub IsShort : Pointer → ℕ → ErrorKind → Type 0

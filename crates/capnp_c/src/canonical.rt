@@ -5,7 +5,7 @@ ghost use Rattle.capnp_frame.specs.declared.error.ErrorKind.{ErrorKind};
 ghost use Rattle.capnp_frame.specs.declared.message.options.TheConstants.{DEFAULT_READER_OPTIONS};
 ghost use Rattle.capnp_layout.specs.Prelude.{words_of};
 ghost use Rattle.capnp_wire.specs.Prelude.{pointer_of, IsCanonicalForm};
-ghost use Rattle.capnp_c.specs.Exports.{MeasuresForm, WritesForm};
+ghost use Rattle.capnp_c.specs.Exports.{MeasuresForm, WritesCanonicalForm};
 ghost use Rattle.capnp_c.specs.Fronts.{IsAtFront, MessageError, root_within, root_by, RootHasForm, RootCanonicalFormError, IsShort};
 ghost use Rattle.capnp_c.specs.Options.{options_of};
 
@@ -56,7 +56,7 @@ fn measure_form(bytes: &[u8], options: ReaderOptions, words: &mut usize) -> u8
 /// `linsjoar_canonical_size` returns. What follows the form in the block may have changed.
 #[unsafe(no_mangle)]
 pub extern "C" fn linsjoar_canonical(bytes: &[u8], block: &mut [u8], words: &mut usize) -> u8
-    ensures { WritesForm DEFAULT_READER_OPTIONS bytes.now block.new words.new result }
+    ensures { WritesCanonicalForm DEFAULT_READER_OPTIONS bytes.now block.new words.new result }
 {
     put_form(bytes, DEFAULT_READER_OPTIONS, block, words)
 }
@@ -69,13 +69,13 @@ pub extern "C" fn linsjoar_canonical_with_options(
     block: &mut [u8],
     words: &mut usize,
 ) -> u8
-    ensures { WritesForm (options_of options.now) bytes.now block.new words.new result }
+    ensures { WritesCanonicalForm (options_of options.now) bytes.now block.new words.new result }
 {
     put_form(bytes, options.reader_options(), block, words)
 }
 
 fn put_form(bytes: &[u8], options: ReaderOptions, block: &mut [u8], words: &mut usize) -> u8
-    ensures { WritesForm options bytes.now block.new words.new result }
+    ensures { WritesCanonicalForm options bytes.now block.new words.new result }
 {
     *words = 0;
     match written(bytes, options, block) {

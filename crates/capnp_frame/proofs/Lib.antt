@@ -5,4 +5,4 @@ pub mod errors
 pub mod sources
 pub mod slices
 pub mod sinks
-pub mod WorkedExamples
+pub mod WorkedCases

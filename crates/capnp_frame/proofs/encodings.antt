@@ -1,6 +1,6 @@
 -- Framed encodings: the requests of a message, and the messages of a stream.
-pub mod RequestLemmas
-pub mod FrameLemmas
-pub mod EncodingLemmas
-pub mod SizeLemmas
-pub mod FrontMessages
+pub mod MessageRequestLemmas
+pub mod FrameRequestLemmas
+pub mod UniqueEncodingLemmas
+pub mod FramedSizeLemmas
+pub mod FrontMessageLemmas

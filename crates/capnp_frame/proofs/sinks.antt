@@ -1,5 +1,5 @@
 -- Sinks, and what is written to them.
-pub mod WritableLemmas
-pub mod WritingLemmas
-pub mod GrantLemmas
-pub mod SinkLemmas
+pub mod WritableSegmentLemmas
+pub mod TableChunkLemmas
+pub mod SinkGrantLemmas
+pub mod SinkCallLemmas

@@ -1,7 +1,7 @@
 -- Readers of slices and buffers.
-pub mod FlatLemmas
-pub mod BufferLemmas
+pub mod FlatErrorLemmas
+pub mod FrontFrameLemmas
 pub mod FlatReaderLemmas
-pub mod ProvidedLemmas
-pub mod FramedIntoLemmas
-pub mod AgreementLemmas
+pub mod ProvidedBufferLemmas
+pub mod FramedIntoBufferLemmas
+pub mod SliceAgreementLemmas

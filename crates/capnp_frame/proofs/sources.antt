@@ -1,7 +1,7 @@
 -- Sources, and what readers of streams return, step by step.
-pub mod SourceLemmas
-pub mod AskLemmas
-pub mod StepLemmas
+pub mod RequestSequenceLemmas
+pub mod SourceCallLemmas
+pub mod ReaderStepLemmas
 pub mod KeptMemoryLemmas
-pub mod ResultLemmas
-pub mod SkippingLemmas
+pub mod AllocatingReaderLemmas
+pub mod SkippedByteLemmas

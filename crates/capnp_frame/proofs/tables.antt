@@ -1,8 +1,8 @@
 -- Segment tables: their fields, what they cut, and the padding after them.
-pub mod Ranges
-pub mod TableLemmas
-pub mod PaddingLemmas
-pub mod LimitLemmas
+pub mod RunningSumLemmas
+pub mod TableFieldLemmas
+pub mod TablePaddingLemmas
+pub mod WordLimitLemmas
 pub mod DeclaredTables
-pub mod TableReading
-pub mod PartLemmas
+pub mod TableFirstWordLemmas
+pub mod SegmentRangeLemmas

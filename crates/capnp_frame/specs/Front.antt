@@ -3,7 +3,7 @@ use Rattle.std.specs.Prelude.{◌≡◌, ℕ, ◌+◌, ◌*◌, ◌-◌, ◌<◌
 use Rattle.std.specs.List.{flat_map, AllByRecursion}
 use Rattle.std.specs.Int.{w32, from_le_bytes}
 use Rattle.capnp_frame.specs.Message.{size_in_words}
-use Rattle.capnp_frame.specs.SegmentTable.{field, FitsField, table_size}
+use Rattle.capnp_frame.specs.SegmentTable.{table_field, FitsField, table_size}
 use Rattle.capnp_frame.specs.SegmentLengths.{cut}
 use Rattle.capnp_frame.specs.declared.serialize.segment_table.Padding.{Padding}
 use Rattle.capnp_frame.specs.declared.serialize.segment_table.Padding.TheVariants.{Any}
@@ -58,13 +58,13 @@ declared_segments count bytes = cut (declared_lengths count bytes) (drop (table_
 -- bytes again.
 pub record SpellsLengths (bytes : List ℕ) (count : ℕ) : Type 0 where
   pub each : AllByRecursion FitsField (declared_lengths count bytes)
-  pub spelled : flat_map field (declared_lengths count bytes) ≡ take (4 * count) (drop 4 bytes)
+  pub spelled : flat_map table_field (declared_lengths count bytes) ≡ take (4 * count) (drop 4 bytes)
 
 -- a table of a given number of segments is at the front
 pub record DeclaresTable (bytes : List ℕ) (count : ℕ) : Type 0 where
   pub some : 0 < count
   pub few : count < SEGMENTS_COUNT_LIMIT
-  pub counted : field (count - 1) ≡ take 4 bytes
+  pub counted : table_field (count - 1) ≡ take 4 bytes
   pub lengths : SpellsLengths bytes count
   pub room : table_size count ≤ length bytes
 

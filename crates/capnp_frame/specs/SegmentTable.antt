@@ -7,8 +7,8 @@ use Rattle.capnp_frame.specs.declared.serialize.segment_table.Padding.{Padding}
 use Rattle.capnp_frame.specs.declared.serialize.segment_table.Padding.TheVariants.{Any, Zero}
 
 -- a number in four bytes, least significant first
-abbrev pub field : ℕ → List ℕ
-field n = to_le_bytes w32 n
+abbrev pub table_field : ℕ → List ℕ
+table_field n = to_le_bytes w32 n
 
 -- a number that fits the four bytes of a field
 abbrev pub FitsField : ℕ → Type 0
@@ -25,7 +25,7 @@ KeepsPadding Zero padding = padding ≡ replicate (length padding) 0
 
 -- the number of segments less one, the length of each, and padding
 abbrev pub table_bytes : List ℕ → List ℕ → List ℕ
-table_bytes lengths padding = field (length lengths - 1) ++ flat_map field lengths ++ padding
+table_bytes lengths padding = table_field (length lengths - 1) ++ flat_map table_field lengths ++ padding
 
 -- the table whose padding is zero
 abbrev pub zero_padded_table : List ℕ → List ℕ

@@ -51,7 +51,7 @@ pub record FindsTable (rule : Padding) (gives : Giving) (limit : Option ℕ) (bu
   pub within : KeepsLimit (declared_lengths count buffer) limit
 
 -- what a step finds of a message: how many segments it has, and how many bytes after its table.
-pub record FindsMessage (rule : Padding) (gives : Giving) (limit : Option ℕ) (buffer : List ℕ) (count bytes : ℕ) (old new : Option (List ℕ)) : Type 0 where
+pub record FindsMessageSize (rule : Padding) (gives : Giving) (limit : Option ℕ) (buffer : List ℕ) (count bytes : ℕ) (old new : Option (List ℕ)) : Type 0 where
   pub found : IfKnown old new (MessageFound rule gives (declared_segments count buffer))
   pub holds : HoldsMessage buffer count
   pub total_is : bytes ≡ 8 * sum (declared_lengths count buffer)

@@ -4,7 +4,7 @@ use Rattle.capnp_frame.specs.declared.error.ErrorKind.{ErrorKind}
 use Rattle.capnp_frame.specs.declared.error.ErrorKind.TheVariants.{DeviceFailed, OutOfMemory, BufferNotLargeEnough, InvalidNumberOfSegments, MessageTooLarge, NonZeroPadding}
 use Rattle.capnp_frame.specs.declared.serialize.segment_table.Padding.{Padding}
 use Rattle.capnp_frame.specs.declared.serialize.segment_table.Padding.TheVariants.{Any, Zero}
-use Rattle.capnp_frame.specs.SegmentTable.{field, FitsField, IsTable, table_size}
+use Rattle.capnp_frame.specs.SegmentTable.{table_field, FitsField, IsTable, table_size}
 use Rattle.capnp_frame.specs.Source.{Giving, Refusing}
 use Rattle.capnp_frame.specs.Limits.{AreWithin}
 use Rattle.capnp_frame.specs.Requests.{TableFound}
@@ -19,8 +19,8 @@ abbrev pub Asks : Giving → Refusing → ErrorKind → List ℕ → ℕ → (Li
 Asks gives refuses kind raw n after = refuses raw n kind ⊎ ((bytes rest : List ℕ) × gives raw n bytes rest × after bytes rest)
 
 -- the number of segments that the first word of a table declares, in four bytes, modulo 2 ^ 32
-abbrev pub Tells : List ℕ → ℕ → Type 0
-Tells word count = (last : ℕ) × FitsField last × (field last ≡ take 4 word) × (count ≡ (last + 1) % 2 ^ 32)
+abbrev pub DeclaresCount : List ℕ → ℕ → Type 0
+DeclaresCount word count = (last : ℕ) × FitsField last × (table_field last ≡ take 4 word) × (count ≡ (last + 1) % 2 ^ 32)
 
 -- no reader accepts this number of segments
 abbrev pub IsOutOfRange : ℕ → Type 0
@@ -30,7 +30,7 @@ IsOutOfRange count = (count ≡ 0) ⊎ (SEGMENTS_COUNT_LIMIT ≤ count)
 pub record DeclaresAccepted (word : List ℕ) (count : ℕ) : Type 0 where
   pub some : 0 < count
   pub few : count < SEGMENTS_COUNT_LIMIT
-  pub declared : field (count - 1) ≡ take 4 word
+  pub declared : table_field (count - 1) ≡ take 4 word
 
 -- more words than the limit, where there is one
 abbrev pub IsTooLarge : List ℕ → Option ℕ → Type 0
@@ -64,7 +64,7 @@ RestError rule gives refuses limit kind after left word count between =
 
 -- the lines once the table's first word is read: the number of segments, the room, the table's other words
 abbrev pub CountError : Padding → Giving → Refusing → Option ℕ → Option ℕ → ErrorKind → (List ℕ → List ℕ → Type 0) → List ℕ → List ℕ → List ℕ → Type 0
-CountError rule gives refuses limit room kind after left word between = (count : ℕ) × Tells word count
+CountError rule gives refuses limit room kind after left word between = (count : ℕ) × DeclaresCount word count
     × Unless (IsOutOfRange count) (FailsLeaving (InvalidNumberOfSegments count) kind between left) (
     Unless (IsTooShort room (table_size count)) (FailsLeaving BufferNotLargeEnough kind between left) (
     RestError rule gives refuses limit kind after left word count between))
@@ -92,7 +92,7 @@ pub record CountFound (gives : Giving) (raw rest : List ℕ) : Type 0 where
   pub word : List ℕ
   pub count : ℕ
   pub given : gives raw 8 word rest
-  pub declared : Tells word count
+  pub declared : DeclaresCount word count
   pub accepted : IsOutOfRange count → ⊥
 
 -- Where memory is taken for the lengths: their number is accepted, and is more than `kept`, the number of lengths that take none.

@@ -1,7 +1,7 @@
 -- Layouts: trees that are copied into a block, and read back.
-pub mod SizeLemmas
-pub mod WrittenLemmas
-pub mod LayoutLemmas
+pub mod LayoutSizeLemmas
+pub mod FormReadBackLemmas
+pub mod LayoutReadBackLemmas
 pub mod BlockLemmas
-pub mod OpenedLemmas
-pub mod CopiedLemmas
+pub mod ObjectCopyLemmas
+pub mod CopiedTargetLemmas

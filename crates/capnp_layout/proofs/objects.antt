@@ -1,14 +1,14 @@
 -- Objects, and what is in them.
-pub mod ObjectLemmas
+pub mod OneObjectLemmas
 pub mod CycleLemmas
-pub mod ElementLemmas
-pub mod FieldLemmas
+pub mod ListWordLemmas
+pub mod StructFieldLemmas
 pub mod StructElementLemmas
-pub mod NumberLemmas
-pub mod OwnLemmas
-pub mod PaddingLemmas
-pub mod OwnWordLemmas
-pub mod PaddedLemmas
+pub mod NumberElementLemmas
+pub mod CopiedDataLemmas
+pub mod ListPaddingLemmas
+pub mod ObjectWordLemmas
+pub mod LastWordLemmas
 pub mod ReadLocalLemmas
-pub mod StructLemmas
-pub mod PartLemmas
+pub mod ReadStructLemmas
+pub mod NumberStructLemmas

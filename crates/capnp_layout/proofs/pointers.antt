@@ -1,12 +1,12 @@
 -- Pointers, where they lead, and when they are invalid.
-pub mod PointerErrorLemmas
-pub mod OneErrorLemmas
-pub mod LandingLemmas
+pub mod InvalidPointerLemmas
+pub mod OnePointerErrorLemmas
+pub mod ReadObjectLemmas
 pub mod LandingPadLemmas
-pub mod LocalLemmas
+pub mod LocalObjectLemmas
 pub mod NullRunLemmas
 pub mod EmptyStructLemmas
-pub mod PointerSlotLemmas
-pub mod TagLemmas
-pub mod SlotLemmas
-pub mod NextLemmas
+pub mod PointersInOrderLemmas
+pub mod PointerFieldLemmas
+pub mod SlotRunLemmas
+pub mod NextFreeWordLemmas

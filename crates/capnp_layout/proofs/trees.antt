@@ -1,10 +1,10 @@
 -- Trees of objects, trimmed and narrowed.
 pub mod TreeCountLemmas
-pub mod ChunkLemmas
-pub mod NarrowLemmas
-pub mod TrimLemmas
-pub mod RoomLemmas
-pub mod FrontLemmas
-pub mod KeptLemmas
+pub mod TreePartLemmas
+pub mod NarrowedPointerLemmas
+pub mod TrimmedTreeLemmas
+pub mod FieldRoomLemmas
+pub mod TrimmedFrontLemmas
+pub mod TrimmedPlaceLemmas
 pub mod TreeSizeLemmas
-pub mod PlacedLemmas
+pub mod TreeReadBackLemmas

@@ -1,11 +1,11 @@
 -- Words, bytes and numbers.
-pub mod WordLemmas
-pub mod MessageLemmas
+pub mod WordByteLemmas
+pub mod MessageWordLemmas
 pub mod DigitLemmas
 pub mod BitLemmas
 pub mod SubsliceLemmas
-pub mod CutLemmas
-pub mod PutLemmas
-pub mod UsedLemmas
-pub mod BytesLemmas
-pub mod WholeLemmas
+pub mod ZeroCutLemmas
+pub mod PutBytesLemmas
+pub mod TrailingZeroLemmas
+pub mod ByteListLemmas
+pub mod WholeFrontLemmas

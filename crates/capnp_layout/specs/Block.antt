@@ -8,8 +8,8 @@ use Rattle.capnp_frame.specs.declared.words.Word.{Word}
 use Rattle.capnp_layout.specs.Pointer.{number_of, words_from}
 
 -- words as numbers, little endian
-abbrev pub numbers_of : List Word → List ℕ
-numbers_of words = map (λ word. number_of 256 (bytes_of word)) words
+abbrev pub word_numbers : List Word → List ℕ
+word_numbers words = map (λ word. number_of 256 (bytes_of word)) words
 
 -- words of the block from this one on are replaced
 abbrev pub put : ℕ → List ℕ → List ℕ → List ℕ

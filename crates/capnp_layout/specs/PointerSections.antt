@@ -63,7 +63,7 @@ abbrev pub end_of : PointerSlots → ℕ
 end_of slots = slots.next.word + slots.here + slots.more * (slots.gap + slots.pointers)
 
 -- the first of the pointers that are left is taken
-pub record Takes (old new : PointerSlots) (place : Place) : Type 0 where
+pub record TakesSlot (old new : PointerSlots) (place : Place) : Type 0 where
   pub places_are : places_in old ≡ place ∷ places_in new
   pub slots_are : slots_in old ≡ place.word ∷ slots_in new
   pub same_end : end_of new ≡ end_of old

@@ -7,7 +7,7 @@ ghost use Rattle.capnp_layout.specs.Tree.{numbers};
 ghost use Rattle.capnp_layout.specs.Object.{elements};
 ghost use Rattle.capnp_layout.specs.Layout.{own};
 ghost use Rattle.capnp_layout.specs.Trim.{cut_zeros};
-ghost use Rattle.capnp_layout.specs.Block.{put, numbers_of, most_used};
+ghost use Rattle.capnp_layout.specs.Block.{put, word_numbers, most_used};
 
 use crate::number_list::NumberList;
 use crate::object::words_fit;
@@ -78,7 +78,7 @@ fn copy_long(to: &mut [u8], bytes: &[u8])
 }
 
 impl BlockItem for Word {
-    ghost as_words = { numbers_of };
+    ghost as_words = { word_numbers };
 
     #[inline(always)]
     fn put_bytes(block: &mut [Word], at: usize, bytes: &[u8]) {

@@ -69,9 +69,9 @@ pub fn resolve_local(
     ensures number { result.number ≡ place.segment }
     ensures shape { result.shape ≡ local.shape }
     ensures landing_pads { result.landing_pads ≡ landing_pads }
-    ensures start { let leads_to = λ (start : ℕ).
+    ensures start { let points_to = λ (start : ℕ).
         start + 2 ^ 30 * (local.offset.0 / 2 ^ 29) ≡ place.word + 1 + local.offset.0 in
-        MatchOption result.start ((start : ℕ) → leads_to start → ⊥) leads_to }
+        MatchOption result.start ((start : ℕ) → points_to start → ⊥) points_to }
 {
     Landing {
         segment,

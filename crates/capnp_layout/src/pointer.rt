@@ -119,9 +119,9 @@ impl Offset {
     pub fn target(self, word: usize) -> Option<usize>
         requires bits { self.0 < 2 ^ 30 }
         requires place { word < 2 ^ 61 }
-        ensures { let leads_to = λ (start : ℕ).
+        ensures { let points_to = λ (start : ℕ).
             start + 2 ^ 30 * (self.0 / 2 ^ 29) ≡ word + 1 + self.0 in
-            MatchOption result ((start : ℕ) → leads_to start → ⊥) leads_to }
+            MatchOption result ((start : ℕ) → points_to start → ⊥) points_to }
     {
         let ahead = word + 1 + self.0 as usize;
         if self.0 < 1 << 29 {

@@ -101,7 +101,7 @@ impl PointerSlots {
     ghost use Rattle.capnp_layout.specs.Body.{words_in};
     ghost use Rattle.capnp_layout.specs.Object.{places};
     ghost use Rattle.capnp_layout.specs.Layout.{run};
-    ghost use Rattle.capnp_layout.specs.PointerSections.{segment_of, section_sizes, kept_places, section_slots, kept_in, slots_of, places_in, slots_in, end_of, Takes};
+    ghost use Rattle.capnp_layout.specs.PointerSections.{segment_of, section_sizes, kept_places, section_slots, kept_in, slots_of, places_in, slots_in, end_of, TakesSlot};
 
     /// The first `kept` pointers in each pointer section of an object that begins at a place.
     #[inline(always)]
@@ -185,7 +185,7 @@ impl PointerSlots {
     #[inline(always)]
     pub fn take(&mut self) -> Place
         requires { places_in self.old ≢ [] }
-        ensures taken { Takes self.old self.new result }
+        ensures taken { TakesSlot self.old self.new result }
         ensures within { result.word < end_of self.old }
         ensures segment { result.segment ≡ segment_of self.old }
         ensures same_segment { segment_of self.new ≡ segment_of self.old }
@@ -215,7 +215,7 @@ impl PointerSlots {
     #[inline(always)]
     fn take_here(&mut self) -> Place
         requires { 0 < self.old.here }
-        ensures taken { Takes self.old self.new result }
+        ensures taken { TakesSlot self.old self.new result }
         ensures within { result.word < end_of self.old }
         ensures segment { result.segment ≡ segment_of self.old }
         ensures same_segment { segment_of self.new ≡ segment_of self.old }

@@ -1,4 +1,4 @@
 pub mod CommandLemmas
-pub mod DigitLemmas
+pub mod DecimalDigitLemmas
 pub mod LineLemmas
-pub mod MessageLemmas
+pub mod MessageLineLemmas

@@ -82,7 +82,7 @@ line_left IsLine leaves line (Err error) (Some before) None is left = left
 line_left IsLine leaves line (Err error) (Some before) (Some after) is (part, here, added) = (part, inr (line, is, here), added)
 
 -- and nothing where nothing is written
-pub none_left : {X : Type 0} (P : List ℕ → Type 0) (r : Result X Error) (written : Option (List ℕ)) → OnErr r (IfKnown written written (Adds (λ part. (part ≡ []) ⊎ P part)))
-none_left P (Ok done) written = tt
-none_left P (Err error) None = tt
-none_left P (Err error) (Some before) = ([], inl refl, sym (append-nil before))
+pub no_line_left : {X : Type 0} (P : List ℕ → Type 0) (r : Result X Error) (written : Option (List ℕ)) → OnErr r (IfKnown written written (Adds (λ part. (part ≡ []) ⊎ P part)))
+no_line_left P (Ok done) written = tt
+no_line_left P (Err error) None = tt
+no_line_left P (Err error) (Some before) = ([], inl refl, sym (append-nil before))

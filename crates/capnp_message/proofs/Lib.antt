@@ -1,5 +1,5 @@
 -- The lemmas, by subject.
-pub mod RootLemmas
-pub mod CanonicalLemmas
-pub mod StableLemmas
+pub mod RootWordLemmas
+pub mod OneCanonicalFormLemmas
+pub mod FormOfFormLemmas
 pub mod RegionLemmas

@@ -22,8 +22,8 @@ comes_back None pair provided list left out removed = removed_one pair provided 
 comes_back (Some x) pair provided list left out removed = absurd (removed_none pair list left out removed)
 
 -- a front that is filled with zeros, before a part that is zero
-pub all_zero : (n k : ℕ) (front bytes : List ℕ) → front ≡ replicate k 0 → ZeroFrom n bytes → All (λ b. b ≡ 0) (front ++ drop n bytes)
-all_zero n k front bytes e zero =
+pub front_is_zero : (n k : ℕ) (front bytes : List ℕ) → front ≡ replicate k 0 → ZeroFrom n bytes → All (λ b. b ≡ 0) (front ++ drop n bytes)
+front_is_zero n k front bytes e zero =
     let P : ℕ → Type 0 = λ b. b ≡ 0 in
     All-append P front (drop n bytes) (subst (All P) (sym e) (All-replicate P k 0 refl)) zero
 

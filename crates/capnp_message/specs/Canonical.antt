@@ -5,18 +5,18 @@ use Rattle.capnp_frame.specs.declared.error.Error.{Error}
 use Rattle.capnp_frame.specs.declared.error.ErrorKind.{ErrorKind}
 use Rattle.capnp_frame.specs.declared.error.ErrorKind.TheVariants.{OutOfMemory}
 use Rattle.capnp_layout.specs.Prelude.{Trees, total_words, trim}
-use Rattle.capnp_wire.specs.Prelude.{Pointer, WordsError, LeadsToTree, WalkErrorFrom, IsCanonicalForm}
+use Rattle.capnp_wire.specs.Prelude.{Pointer, WordsError, PointsToTree, WalkErrorFrom, IsCanonicalForm}
 
 -- A message has a canonical form: there is a tree at its root, within the nesting depth left and
 -- the limit, and the form has at most 2 ^ 29 words with its root pointer.
 pub record HasForm (pointer : Pointer) : Type 0 where
   pub trees : Trees
-  pub tree_is : LeadsToTree pointer trees
+  pub tree_is : PointsToTree pointer trees
   pub few : 1 + total_words (trim trees) ≤ 2 ^ 29
 
 -- It has none: a walk over its root tree stops with this error, or the form has more words.
 abbrev pub CanonicalFormError : Pointer → ErrorKind → Type 0
-CanonicalFormError pointer kind = WordsError (LeadsToTree pointer) (WalkErrorFrom pointer) true kind
+CanonicalFormError pointer kind = WordsError (PointsToTree pointer) (WalkErrorFrom pointer) true kind
 
 -- What each call keeps that returns the canonical form; `words` is how its words are seen. The form
 -- is returned, or the call fails because there is none, with the one error, or because memory is

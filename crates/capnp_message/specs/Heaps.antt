@@ -35,7 +35,7 @@ ReturnsTo false old new = (new.region ≡ old.region) × StartsAnew old.heap new
 
 -- the heap after it handed out a segment for a request of this many words: the caller-provided
 -- region leaves the heap as it was, a segment of the heap is counted
-abbrev pub CountsSegment : Bool → ℕ → HeapAllocator → HeapAllocator → Type 0
-CountsSegment true asked old new = KeepsHeap old new
-CountsSegment false asked old new =
+abbrev pub CountsHeapSegment : Bool → ℕ → HeapAllocator → HeapAllocator → Type 0
+CountsHeapSegment true asked old new = KeepsHeap old new
+CountsHeapSegment false asked old new =
     IsHeapOf (next_after old.allocation_strategy old.next_size old.max_segment_words (size_of old.next_size asked)) old.allocation_strategy old.max_segment_words new

@@ -1,7 +1,7 @@
 //! Facts about the canonical forms of messages, and about regions that come back.
 ghost use Rattle.std.specs.Prelude.{◌≡◌, ◌≤◌, ◌⊎◌, ℕ, List, [], ◌∷◌, Some, None, true, IfOk, IfErr};
 ghost use Rattle.capnp_frame.specs.declared.error.ErrorKind.TheVariants.{OutOfMemory};
-ghost use Rattle.capnp_layout.specs.Prelude.{words_of, root, numbers_of};
+ghost use Rattle.capnp_layout.specs.Prelude.{words_of, root, word_numbers};
 ghost use Rattle.capnp_wire.specs.Prelude.{nesting_of, Pointer, IsCanonicalForm};
 ghost use Rattle.capnp_message.specs.Seen.{root_of};
 ghost use Rattle.capnp_message.specs.Canonical.{CanonicalFormError};
@@ -41,9 +41,9 @@ pub fn canonicalize_twice<S: ReaderSegments + Drop>(
     options: ReaderOptions,
 ) -> Result<Canonicalized>
     ensures form { let pointer = root_of S.segments (record { segments = segments; options = options }) in
-        IfOk result (λ returned. IsCanonicalForm pointer (numbers_of returned.words.items)) }
+        IfOk result (λ returned. IsCanonicalForm pointer (word_numbers returned.words.items)) }
     ensures canonical { IfOk result (λ returned. returned.is_canonical ≡ true) }
-    ensures same { IfOk result (λ returned. numbers_of returned.again.items ≡ numbers_of returned.words.items) }
+    ensures same { IfOk result (λ returned. word_numbers returned.again.items ≡ word_numbers returned.words.items) }
     ensures kinds { let pointer = root_of S.segments (record { segments = segments; options = options }) in
         IfErr result (λ error. CanonicalFormError pointer error.kind ⊎ (error.kind ≡ OutOfMemory)) }
 {
@@ -70,7 +70,7 @@ fn canonicalize_form(
         × (pointer.nesting ≤ nesting_of options.nesting_limit) }
     requires unlimited { options.traversal_limit_in_words ≡ None }
     ensures canonical { IfOk result (λ returned. returned.0 ≡ true) }
-    ensures same { IfOk result (λ returned. numbers_of returned.1.items ≡ words_of form.now) }
+    ensures same { IfOk result (λ returned. word_numbers returned.1.items ≡ words_of form.now) }
     ensures kind { IfErr result (λ error. error.kind ≡ OutOfMemory) }
 {
     let segments = [form];

@@ -4,8 +4,8 @@ ghost use Rattle.std.specs.Result.{IsErrAnd};
 ghost use Rattle.capnp_frame.specs.Prelude.{IsWholeWords, size_in_words};
 ghost use Rattle.capnp_frame.specs.declared.error.ErrorKind.{ErrorKind};
 ghost use Rattle.capnp_frame.specs.declared.error.ErrorKind.TheVariants.{ReadLimitExceeded, OutOfMemory};
-ghost use Rattle.capnp_layout.specs.Prelude.{root, words_of, Trees, numbers_of};
-ghost use Rattle.capnp_wire.specs.Prelude.{IsCanonical, CanonicityError, LeadsToTree, WalkErrorFrom, IsCanonicalForm};
+ghost use Rattle.capnp_layout.specs.Prelude.{root, words_of, Trees, word_numbers};
+ghost use Rattle.capnp_wire.specs.Prelude.{IsCanonical, CanonicityError, PointsToTree, WalkErrorFrom, IsCanonicalForm};
 ghost use Rattle.capnp_message.specs.Seen.{root_of};
 ghost use Rattle.capnp_message.specs.Canonical.{HasForm, CanonicalFormError, ReturnsForm};
 ghost use Rattle.capnp_message.specs.Roots.{ReadsRoot};
@@ -79,7 +79,7 @@ impl<S: ReaderSegments> Reader<S> {
         ensures exact { let pointer = root_of S.segments self.now in
             (kind : ErrorKind) → CanonicityError pointer.message pointer.nesting pointer.limit kind →
             IsErrAnd result (λ error. error.kind ≡ kind) }
-        ensures found { (trees : Trees) → LeadsToTree (root_of S.segments self.now) trees → IsOk result }
+        ensures found { (trees : Trees) → PointsToTree (root_of S.segments self.now) trees → IsOk result }
         ensures walk_error { IfErr result (λ error.
             WalkErrorFrom (root_of S.segments self.now) error.kind) }
     {
@@ -119,7 +119,7 @@ impl<S: ReaderSegments> Reader<S> {
     /// ```
     pub fn canonicalize(&self, alloc: Global) -> Result<Vec<Word>>
         ensures { ReturnsForm (root_of S.segments self.now)
-            (λ words. numbers_of words.items) result }
+            (λ words. word_numbers words.items) result }
     {
         let root = self.arena.get_root()?;
         canonical_words(alloc, &root)

@@ -1,7 +1,7 @@
 //! The object at the root of a message that is built, as a view that writes it.
 ghost use Rattle.std.specs.Prelude.{length};
 ghost use Rattle.std.specs.Borrow.{RestsIfErr, sem};
-ghost use Rattle.capnp_build.specs.Prelude.{message, InitsView, GetsView, LeavesNull, LeavesRoot};
+ghost use Rattle.capnp_build.specs.Prelude.{message, InitsView, GetsView, FailsWithNull, LeavesRoot};
 
 use crate::builder::Builder;
 use capnp_build::allocator::Allocator;
@@ -68,7 +68,7 @@ impl<A: Allocator> Builder<A> {
         ensures* rests { sem 𝓛 (RestsIfErr
             (the_row A.row A.Segment.row A.Allocator A.Segment.SegmentSpace)
             self.entry (λ view. view.message.ghost_name) result
-            (λ last. LeavesNull A.Allocator K.OwnedBuilder n self.old last result)) }
+            (λ last. FailsWithNull A.Allocator K.OwnedBuilder n self.old last result)) }
         ensures inits { InitsView A.Allocator K.OwnedBuilder n (λ message. message)
             (λ view. view.message) self.entry result }
     {
@@ -82,7 +82,7 @@ impl<A: Allocator> Builder<A> {
         ensures* rests { sem 𝓛 (RestsIfErr
             (the_row A.row A.Segment.row A.Allocator A.Segment.SegmentSpace)
             self.entry (λ view. view.message.ghost_name) result
-            (λ last. LeavesNull A.Allocator K.OwnedBuilder 0 self.old last result)) }
+            (λ last. FailsWithNull A.Allocator K.OwnedBuilder 0 self.old last result)) }
         ensures inits { InitsView A.Allocator K.OwnedBuilder 0 (λ message. message)
             (λ view. view.message) self.entry result }
     {

@@ -130,7 +130,7 @@ impl<'a> Allocator for ScratchSpaceHeapAllocator<'a> {
     ghost use Rattle.std.specs.Prelude.{refl};
     ghost use Rattle.std.proofs.Common.{◌∙◌};
     ghost use Rattle.capnp_message.specs.Region.{some_provided};
-    ghost use Rattle.capnp_message.specs.Heaps.{KeepsHeap, CountsSegment, ReturnsTo};
+    ghost use Rattle.capnp_message.specs.Heaps.{KeepsHeap, CountsHeapSegment, ReturnsTo};
 
     ghost out = { λ allocator list. IsProvidedAlone allocator.region allocator.size list };
 
@@ -160,7 +160,7 @@ impl<'a> Allocator for ScratchSpaceHeapAllocator<'a> {
             × (length (scratch_bytes s) ≡ 8 * size_of self.old.heap.next_size minimum_size)) }
         ensures kind { IfErr result (λ error. error.kind ≡ OutOfMemory) }
         ensures counts { IfOk result (λ s.
-            CountsSegment (scratch_provided s) minimum_size self.old.heap self.new.heap) }
+            CountsHeapSegment (scratch_provided s) minimum_size self.old.heap self.new.heap) }
         ensures unchanged { OnErr result (KeepsHeap self.old.heap self.new.heap) }
     {
         if minimum_size as usize <= self.size / 8 {

@@ -2,7 +2,7 @@
 ghost use Rattle.std.specs.Prelude.{◌≡◌, ◌+◌, ◌^◌, ◌-◌, length, map};
 ghost use Rattle.std.specs.Borrow.{RestsIfErr, sem};
 ghost use Rattle.capnp_wire.specs.Prelude.{unlimited_root, IsViewOf};
-ghost use Rattle.capnp_build.specs.Prelude.{used_of, Built, message, SetsRoot, IsNewMessage, InitsView, GetsView, LeavesNull, LeavesRoot};
+ghost use Rattle.capnp_build.specs.Prelude.{used_of, Built, message, SetsRoot, IsNewMessage, InitsView, GetsView, FailsWithNull, LeavesRoot};
 ghost use Rattle.capnp_message.specs.Roots.{IsReadUnlimited};
 ghost use Rattle.capnp_message.specs.Heaps.{IsHeapOf};
 ghost use Rattle.capnp_message.specs.declared.heap_allocator.AllocationStrategy.TheVariants.{GrowHeuristically};
@@ -170,7 +170,7 @@ impl<T: OwnedBuilder, A: Allocator> TypedBuilder<T, A> {
         ensures* rests { sem 𝓛 (RestsIfErr
             (typed_row T.row A.row A.Segment.row A.Allocator A.Segment.SegmentSpace)
             self.entry (λ view. view.message.ghost_name) result
-            (λ last. LeavesNull A.Allocator T.OwnedBuilder n self.old last result)) }
+            (λ last. FailsWithNull A.Allocator T.OwnedBuilder n self.old last result)) }
         ensures inits { InitsView A.Allocator T.OwnedBuilder n (λ typed. typed)
             (λ view. view.message) self.entry result }
     {
@@ -183,7 +183,7 @@ impl<T: OwnedBuilder, A: Allocator> TypedBuilder<T, A> {
         ensures* rests { sem 𝓛 (RestsIfErr
             (typed_row T.row A.row A.Segment.row A.Allocator A.Segment.SegmentSpace)
             self.entry (λ view. view.message.ghost_name) result
-            (λ last. LeavesNull A.Allocator T.OwnedBuilder 0 self.old last result)) }
+            (λ last. FailsWithNull A.Allocator T.OwnedBuilder 0 self.old last result)) }
         ensures inits { InitsView A.Allocator T.OwnedBuilder 0 (λ typed. typed)
             (λ view. view.message) self.entry result }
     {

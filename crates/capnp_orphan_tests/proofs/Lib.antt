@@ -1,2 +1,2 @@
 -- The lemmas.
-pub mod TreeLemmas
+pub mod BinaryTreeLemmas

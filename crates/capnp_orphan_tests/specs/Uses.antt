@@ -18,9 +18,9 @@ binary (suc depth) number rest = tree (struct (node_words number)) (binary depth
 abbrev pub IsBinary : ℕ → ℕ → Trees → Type 0
 IsBinary depth number trees = trees ≡ binary depth number none
 
-abbrev pub IsText : Bor (List ℕ) → Trees → Type 0
-IsText text trees = IsTextTree text.now trees
+abbrev pub IsShownText : Bor (List ℕ) → Trees → Type 0
+IsShownText text trees = IsTextTree text.now trees
 
 -- the tree of a list of texts
 abbrev pub IsTextList : List (Bor (List ℕ)) → Trees → Type 0
-IsTextList texts trees = (children : Trees) × AreTrees IsText texts children × (trees ≡ tree pointers children none)
+IsTextList texts trees = (children : Trees) × AreTrees IsShownText texts children × (trees ≡ tree pointers children none)

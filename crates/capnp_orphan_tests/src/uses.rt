@@ -1,7 +1,7 @@
 //! A caller that builds a tree whose depth is known at run time.
 ghost use Rattle.std.specs.Prelude.{◌≡◌, ◌∷◌, [], ℕ, IfOk};
-ghost use Rattle.capnp_layout.specs.Prelude.{none, message_of, At, root, numbers_of, canon};
-ghost use Rattle.capnp_orphans.specs.Adding.{Adds};
+ghost use Rattle.capnp_layout.specs.Prelude.{none, message_of, At, root, word_numbers, canon};
+ghost use Rattle.capnp_orphans.specs.Adding.{AddsOrphan};
 ghost use Rattle.capnp_orphans.specs.Holds.{HoldsStruct, HoldsValue, word_of};
 ghost use Rattle.capnp_orphans.specs.Segments.{body_of};
 ghost use Rattle.capnp_orphan_tests.specs.Uses.{binary, IsBinary, IsTextList, node_words};
@@ -20,7 +20,7 @@ pub fn node(
     left: Orphan<any_struct::Owned>,
     right: Orphan<any_struct::Owned>,
 ) -> Result<Orphan<any_struct::Owned>>
-    ensures { Adds (HoldsStruct (body_of objects.old) (node_words number)
+    ensures { AddsOrphan (HoldsStruct (body_of objects.old) (node_words number)
         (left.word ∷ right.word ∷ [])) objects.old objects.new word_of result }
 {
     let mut draft = StructDraft::<any_struct::Owned, 1, 2>::new();
@@ -32,7 +32,7 @@ pub fn node(
 
 /// A binary tree of a depth, each of whose nodes has the same number.
 pub fn tree(objects: &mut Orphanage, depth: u32, number: u64) -> Result<Orphan<any_struct::Owned>>
-    ensures { Adds (HoldsValue (IsBinary depth number)) objects.old objects.new
+    ensures { AddsOrphan (HoldsValue (IsBinary depth number)) objects.old objects.new
         word_of result }
 {
     if depth == 0 {
@@ -57,7 +57,7 @@ pub fn tree_message(alloc: Global, depth: u32, number: u64) -> Result<Orphanage>
 
 /// The canonical form of such a tree.
 pub fn canonical_tree(alloc: Global, depth: u32, number: u64) -> Result<Vec<Word>>
-    ensures { IfOk result (λ words. numbers_of words.items ≡ canon (binary depth number none)) }
+    ensures { IfOk result (λ words. word_numbers words.items ≡ canon (binary depth number none)) }
 {
     let objects = tree_message(alloc, depth, number)?;
     let options = ReaderOptions {
@@ -74,7 +74,7 @@ pub fn list_of_texts(
     objects: &mut Orphanage,
     texts: &[&str],
 ) -> Result<Orphan<list_list::Owned<text::Owned>>>
-    ensures { Adds (HoldsValue (IsTextList texts.now)) objects.old objects.new word_of result }
+    ensures { AddsOrphan (HoldsValue (IsTextList texts.now)) objects.old objects.new word_of result }
 {
     let mut items = Vec::new(alloc);
     'items: for index in 0..texts.len() {

@@ -1,10 +1,10 @@
 -- The lemmas, by subject.
-pub mod LinkLemmas
+pub mod OrphanPointerLemmas
 pub mod OrphanLemmas
-pub mod StructListLemmas
-pub mod TextLemmas
-pub mod WrittenLemmas
-pub mod AddingLemmas
-pub mod CopyLemmas
-pub mod CopyingLemmas
-pub mod CutLemmas
+pub mod OrphanStructListLemmas
+pub mod TextBlockLemmas
+pub mod ObjectBlockLemmas
+pub mod AddedObjectLemmas
+pub mod OnePointerCopyLemmas
+pub mod PointersCopyLemmas
+pub mod ResizedDataLemmas

@@ -5,16 +5,16 @@ use Rattle.std.proofs.lemmas.Option.{slice_get_within}
 use Rattle.capnp_layout.specs.Prelude.{Form, null, struct, pointers, Trees, none, tree, count, total_words, object_size, PointsTo, is_null, places, At, nowhere, at, pointer, own, body as body_of, placed, run, slots, HasRoom, AllHaveRoom}
 use Rattle.capnp_layout.specs.declared.place.Place.{Place}
 use Rattle.capnp_layout.proofs.words.SubsliceLemmas.{Holds, holds_left, holds_right, holds_first}
-use Rattle.capnp_layout.proofs.pointers.SlotLemmas.{Linked, placed-run}
-use Rattle.capnp_layout.proofs.layouts.LayoutLemmas.{trees_are_at, few_reach}
-use Rattle.capnp_layout.proofs.layouts.SizeLemmas.{slots_before, length-slots, length-own_of, links_of, length-links}
+use Rattle.capnp_layout.proofs.pointers.SlotRunLemmas.{Linked, placed-run}
+use Rattle.capnp_layout.proofs.layouts.LayoutReadBackLemmas.{trees_are_at, few_reach}
+use Rattle.capnp_layout.proofs.layouts.LayoutSizeLemmas.{slots_before, length-slots, length-own_of, links_of, length-links}
 use Rattle.capnp_layout.proofs.trees.TreeCountLemmas.{at_both}
 use Rattle.capnp_orphans.specs.Orphans.{link, links, IsOrphan, AreOrphans}
-use Rattle.capnp_orphans.proofs.LinkLemmas.{length-links_at, read_link}
+use Rattle.capnp_orphans.proofs.OrphanPointerLemmas.{length-orphan_links, read_link}
 
 -- null
 pub null_is_orphan : (body : List ℕ) → IsOrphan body 0 null none
-null_is_orphan body = record { leads = λ first more place low link_is_at. (0 + 0 + 0, at (is_null link_is_at) nowhere nowhere) }
+null_is_orphan body = record { points_to = λ first more place low link_is_at. (0 + 0 + 0, at (is_null link_is_at) nowhere nowhere) }
 
 -- the orphans stand for their trees where the pointers to them are
 pub orphans_are_at : (first : ℕ) (body more words : List ℕ) (trees : Trees) (place : ℕ) → AreOrphans body words trees → place + length words ≤ 2 ^ 29
@@ -25,7 +25,7 @@ orphans_are_at first body more (word ∷ words) (tree form children rest) place 
     let here : slice_get (first ∷ (body ++ more)) place ≡ Some (link word place) = holds_first (first ∷ (body ++ more)) place (link word place) (links words (place + 1)) h in
     let others : Holds (first ∷ (body ++ more)) (place + 1) (links words (place + 1)) =
     holds_right (first ∷ (body ++ more)) place 1 (link word place ∷ []) (links words (place + 1)) refl h in
-    let one = are.0.leads first more place (omega arith) here in
+    let one = are.0.points_to first more place (omega arith) here in
     let rest_too = orphans_are_at first body more words rest (place + 1) are.1 (omega arith) others in
     (one.0 + rest_too.0, at_both ((first ∷ (body ++ more)) ∷ []) (record { segment = 0; word = place } ∷ []) (places 0 (place + 1) (length words)) (tree form children none) rest one.0 rest_too.0 one.1 rest_too.1)
 
@@ -43,10 +43,10 @@ pub struct_is_orphan : (body words ps : List ℕ) (children : Trees) (start : �
     → start + length words + length ps < 2 ^ 29 → AreOrphans body ps children
     → IsOrphan (body ++ (words ++ links ps (start + length words))) (pointer (struct words) (length ps) start) (struct words) children
 struct_is_orphan body words ps children start is few_words few_pointers all room are = record {
-  leads = λ first more place low link_is_at.
+  points_to = λ first more place low link_is_at.
       let ls : List ℕ = links ps (start + length words) in
       let segment : List ℕ = first ∷ ((body ++ (words ++ links ps (start + length words))) ++ more) in
-      let long : length (links ps (start + length words)) ≡ length ps = length-links_at ps (start + length words) in
+      let long : length (links ps (start + length words)) ≡ length ps = length-orphan_links ps (start + length words) in
       let there : Holds segment start (words ++ ls) = words_appended first body (words ++ ls) more start is in
       let link_is_at' : slice_get segment place ≡ Some (link (pointer (struct words) (length ls) start) place) =
       subst (λ (n : ℕ). slice_get segment place ≡ Some (link (pointer (struct words) n start) place)) (sym long) link_is_at in
@@ -66,10 +66,10 @@ struct_is_orphan body words ps children start is few_words few_pointers all room
 pub pointers_are_orphan : (body words : List ℕ) (children : Trees) (start : ℕ) → start ≡ 1 + length body → start + length words < 2 ^ 29 → AreOrphans body words children
     → IsOrphan (body ++ links words start) (pointer pointers (length words) start) pointers children
 pointers_are_orphan body words children start is room are = record {
-  leads = λ first more place low link_is_at.
+  points_to = λ first more place low link_is_at.
       let ls : List ℕ = links words start in
       let segment : List ℕ = first ∷ ((body ++ links words start) ++ more) in
-      let long : length (links words start) ≡ length words = length-links_at words start in
+      let long : length (links words start) ≡ length words = length-orphan_links words start in
       let there : Holds segment start ls = words_appended first body ls more start is in
       let link_is_at' : slice_get segment place ≡ Some (link (pointer pointers (length ls) start) place) =
       subst (λ (n : ℕ). slice_get segment place ≡ Some (link (pointer pointers n start) place)) (sym long) link_is_at in
@@ -87,7 +87,7 @@ pointers_are_orphan body words children start is room are = record {
 pub value_is_orphan : (body : List ℕ) (form : Form) (children : Trees) (start : ℕ) → start ≡ 1 + length body → AllHaveRoom (tree form children none) → start + total_words (tree form children none) < 2 ^ 29
     → IsOrphan (body ++ body_of (tree form children none)) (pointer form (count children) start) form children
 value_is_orphan body form children start is rooms room = record {
-  leads = λ first more place low link_is_at.
+  points_to = λ first more place low link_is_at.
       let segment : List ℕ = first ∷ ((body ++ body_of (tree form children none)) ++ more) in
       let there : Holds segment start (body_of (tree form children none)) = words_appended first body (body_of (tree form children none)) more start is in
       let long : length (links_of form children) ≡ count children = length-links form children rooms.0 in

@@ -15,7 +15,7 @@ Keeps old new = (word : ℕ) (form : Form) (children : Trees) → IsOrphan (body
 
 -- What a call, or several, have added: an orphan, of which `holds` says by the body and its word
 -- what it is.
-pub record Adds {T : Type 0} (holds : List ℕ → ℕ → Type 0) (old new : Segment) (word : T → ℕ) (result : Result T Error) : Type 0 where
+pub record AddsOrphan {T : Type 0} (holds : List ℕ → ℕ → Type 0) (old new : Segment) (word : T → ℕ) (result : Result T Error) : Type 0 where
   -- all orphans keep their trees, also after a failure
   pub keeps : Keeps old new
   -- what the new orphan is
@@ -27,18 +27,18 @@ RoomError words segment kind = ((2 ^ 29 ≤ length segment.bytes / 8 + words) ×
     ⊎ ((length segment.bytes / 8 + words < 2 ^ 29) × AppendingError words segment kind)
 
 -- there is room for this many words for sure
-abbrev pub HasRoom : ℕ → Segment → Type 0
-HasRoom words segment = (length segment.bytes / 8 + words < 2 ^ 29) × GrantsWords words segment
+abbrev pub SegmentHasRoom : ℕ → Segment → Type 0
+SegmentHasRoom words segment = (length segment.bytes / 8 + words < 2 ^ 29) × GrantsWords words segment
 
 -- When a call fails that writes an object: `takes` says how many words it has, and `fails` with
 -- which kinds it fails.
-pub record Fails {T : Type 0} (takes : ℕ → Type 0) (fails : ErrorKind → Type 0) (old : Segment) (result : Result T Error) : Type 0 where
+pub record FailsToAdd {T : Type 0} (takes : ℕ → Type 0) (fails : ErrorKind → Type 0) (old : Segment) (result : Result T Error) : Type 0 where
   -- it fails with a kind of the object, or for want of room for its words
   pub kind : IfErr result (λ error. fails error.kind ⊎ ((words : ℕ) × takes words × RoomError words old error.kind))
   -- an object that fails is not written
   pub exact : (kind : ErrorKind) → fails kind → IsErrAnd result (λ error. error.kind ≡ kind)
   -- an object is written where there is room in the memory that is there
-  pub fits : (words : ℕ) → takes words → HasRoom words old → IsOk result
+  pub fits : (words : ℕ) → takes words → SegmentHasRoom words old → IsOk result
   -- it fails by its words where a segment would have 2 ^ 29, or a region more than it has room for
   pub long : (words : ℕ) → takes words → 2 ^ 29 ≤ length old.bytes / 8 + words → IsErrAnd result (λ error. error.kind ≡ AllocationTooLarge words)
   pub full : (words : ℕ) → takes words → IsPastMost words old → IsErrAnd result (λ error. error.kind ≡ AllocationTooLarge words)
@@ -49,14 +49,14 @@ pub record Writes {T : Type 0} (takes : ℕ → Type 0) (fails : ErrorKind → T
   pub appended : OnOk result ((words : ℕ) × takes words × Appends words old new)
   -- after a failure nothing has changed
   pub unchanged : OnErr result (new ≡ old)
-  pub failing : Fails takes fails old result
+  pub failing : FailsToAdd takes fails old result
   pub most : new.most ≡ old.most
   -- the memory stays, and the bytes are in it
   pub memory : old.capacity ≤ new.capacity
   pub within_memory : OnOk result (length new.bytes ≤ new.capacity)
 
 -- What setting the root to the orphan of this word keeps.
-pub record SetsRoot (word : ℕ) (old new : Segment) : Type 0 where
+pub record SetsRootOrphan (word : ℕ) (old new : Segment) : Type 0 where
   -- all words except the root's stay, so all orphans keep their trees
   pub body_is : body_of new ≡ body_of old
   -- the root's word is the pointer to the orphan, whatever that is

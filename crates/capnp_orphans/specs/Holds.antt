@@ -46,16 +46,16 @@ adopted_by [] = []
 adopted_by (draft ∷ drafts) = draft.pointers ++ adopted_by drafts
 
 -- the words of structs, one after the other from a place on
-abbrev pub elements : {T : Type 0} {D P : ℕ} → List (StructDraft T D P) → ℕ → List ℕ
-elements [] place = []
-elements {D = D} {P = P} (draft ∷ drafts) place = (draft.words ++ links draft.pointers (place + D)) ++ elements drafts (place + D + P)
+abbrev pub element_words : {T : Type 0} {D P : ℕ} → List (StructDraft T D P) → ℕ → List ℕ
+element_words [] place = []
+element_words {D = D} {P = P} (draft ∷ drafts) place = (draft.words ++ links draft.pointers (place + D)) ++ element_words drafts (place + D + P)
 
 -- It is the list of these structs, written right after the old body: their tag, and then their words.
 pub record HoldsStructs {T : Type 0} {D P : ℕ} (old : List ℕ) (drafts : List (StructDraft T D P)) (body : List ℕ) (word : ℕ) : Type 0 where
   -- its tree has the trees of the orphans that they have adopted
   pub tree_is : (children : Trees) → AreOrphans old (adopted_by drafts) children → IsOrphan body word (structs D P (words_of_each drafts)) children
   -- whatever the orphans are, its words are these
-  pub words_are : body ≡ old ++ (struct_pointer (length drafts) D P ∷ elements drafts (2 + length old))
+  pub words_are : body ≡ old ++ (struct_pointer (length drafts) D P ∷ element_words drafts (2 + length old))
   pub word_is : word ≡ list_pointer (1 + length old) 7 (length drafts * (D + P))
 
 -- the arrays of drafts are of their types
@@ -84,19 +84,19 @@ abbrev pub StructSizeError : ℕ → ℕ → ErrorKind → Type 0
 StructSizeError d p kind = (2 ^ 16 ≤ d ⊎ 2 ^ 16 ≤ p) × (kind ≡ AllocationTooLarge (2 ^ 16))
 
 -- how many words a struct has, and why it can't be written
-abbrev pub TakesStruct : ℕ → ℕ → ℕ → Type 0
-TakesStruct d p words = FitsPointer d p × (words ≡ d + p)
+abbrev pub TakesStructWords : ℕ → ℕ → ℕ → Type 0
+TakesStructWords d p words = FitsPointer d p × (words ≡ d + p)
 
 -- how many words a list of this many pointers has, and why it can't be written
-abbrev pub TakesPointers : ℕ → ℕ → Type 0
-TakesPointers n words = (n < 2 ^ 29) × (words ≡ n)
+abbrev pub TakesPointersWords : ℕ → ℕ → Type 0
+TakesPointersWords n words = (n < 2 ^ 29) × (words ≡ n)
 
 abbrev pub ManyPointers : ℕ → ErrorKind → Type 0
 ManyPointers n kind = (2 ^ 29 ≤ n) × (kind ≡ AllocationTooLarge (min n (2 ^ 32 - 1)))
 
 -- how many words a list of this many structs has, with its tag, and why it can't be written
-abbrev pub TakesStructs : ℕ → ℕ → ℕ → ℕ → Type 0
-TakesStructs d p n words = FitsPointer d p × (n < 2 ^ 29) × (words ≡ 1 + n * (d + p)) × (words < 2 ^ 29)
+abbrev pub TakesStructsWords : ℕ → ℕ → ℕ → ℕ → Type 0
+TakesStructsWords d p n words = FitsPointer d p × (n < 2 ^ 29) × (words ≡ 1 + n * (d + p)) × (words < 2 ^ 29)
 
 abbrev pub ManyStructs : ℕ → ℕ → ℕ → ErrorKind → Type 0
 ManyStructs d p n kind = StructSizeError d p kind

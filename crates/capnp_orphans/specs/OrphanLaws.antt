@@ -8,16 +8,16 @@ use Rattle.capnp_orphans.specs.declared.draft.StructDraft.{StructDraft}
 use Rattle.capnp_orphans.specs.Orphans.{link, TreeIsAt, IsOrphan, AreOrphans}
 use Rattle.capnp_orphans.specs.Segments.{Segment, body_of}
 use Rattle.capnp_orphans.specs.Holds.{HoldsValue, HoldsStruct, HoldsPointers, HoldsStructs, words_of_each, adopted_by, AreValues, AreTrees}
-use Rattle.capnp_orphans.specs.Adding.{Keeps, SetsRoot}
+use Rattle.capnp_orphans.specs.Adding.{Keeps, SetsRootOrphan}
 
 -- an orphan is still one of the same tree when words are appended
 pub still_orphan : (body more : List ℕ) (word : ℕ) (form : Form) (children : Trees) → IsOrphan body word form children → IsOrphan (body ++ more) word form children
 still_orphan body more word form children h = record {
-  leads = λ first others place low link_is_at.
+  points_to = λ first others place low link_is_at.
       let same : first ∷ ((body ++ more) ++ others) ≡ first ∷ (body ++ (more ++ others)) = ap (λ (l : List ℕ). first ∷ l) (append_assoc body more others) in
       let there : slice_get (first ∷ (body ++ (more ++ others))) place ≡ Some (link word place) =
       subst (λ (l : List ℕ). slice_get l place ≡ Some (link word place)) same link_is_at in
-      subst (λ (l : List ℕ). TreeIsAt l place form children) (sym same) (h.leads first (more ++ others) place low there);
+      subst (λ (l : List ℕ). TreeIsAt l place form children) (sym same) (h.points_to first (more ++ others) place low there);
 }
 
 -- two steps, one after the other
@@ -94,6 +94,6 @@ structs_value {D = D} {P = P} old new drafts children has_tree word (Ok object) 
 structs_value old new drafts children has_tree word (Err error) are is h = tt
 
 -- the root is the value that it is set to
-pub root_of_value : (has_tree : Trees → Type 0) (word : ℕ) (old new : Segment) → HoldsValue has_tree (body_of old) word → SetsRoot word old new
+pub root_of_value : (has_tree : Trees → Type 0) (word : ℕ) (old new : Segment) → HoldsValue has_tree (body_of old) word → SetsRootOrphan word old new
     → (trees : Trees) × has_tree trees × ((traversed : ℕ) × At (message_of (new.bytes ∷ [])) (root ∷ []) trees traversed)
 root_of_value has_tree word old new is sets = (tree is.0 is.1 none, is.2, sets.root_is is.0 is.1 is.3)

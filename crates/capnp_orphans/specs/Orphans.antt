@@ -20,7 +20,7 @@ TreeIsAt segment place form children =
 -- Wherever in the segment the pointer to the orphan is put, whatever the root's word is, and
 -- whatever is written after the words that are there, the pointer stands for this tree.
 pub record IsOrphan (body : List ℕ) (word : ℕ) (form : Form) (children : Trees) : Type 0 where
-  pub leads : (first : ℕ) (more : List ℕ) (place : ℕ) → place < 2 ^ 29 → slice_get (first ∷ (body ++ more)) place ≡ Some (link word place)
+  pub points_to : (first : ℕ) (more : List ℕ) (place : ℕ) → place < 2 ^ 29 → slice_get (first ∷ (body ++ more)) place ≡ Some (link word place)
       → TreeIsAt (first ∷ (body ++ more)) place form children
 
 -- orphans in order are those of these trees

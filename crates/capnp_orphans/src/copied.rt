@@ -1,7 +1,7 @@
 //! Structs that are read, as drafts: to be changed, and written again.
 ghost use Rattle.std.specs.Prelude.{◌≡◌, length, replicate, slice_index, IfOk};
 ghost use Rattle.capnp_wire.specs.Prelude.{struct_of, pointer_of, pointer_in};
-ghost use Rattle.capnp_orphans.specs.Copied.{words_in, Copies};
+ghost use Rattle.capnp_orphans.specs.Copied.{data_up_to, CopiesPointers};
 
 use crate::draft::StructDraft;
 use crate::orphanage::Orphanage;
@@ -18,7 +18,7 @@ impl<T, const D: usize, const P: usize> StructDraft<T, D, P> {
     pub fn from_data_section<R: ReaderSegments>(
         fields: &StructReader<'_, R>,
     ) -> StructDraft<T, D, P>
-        ensures words { result.words ≡ words_in (struct_of R.segments fields.now) D }
+        ensures words { result.words ≡ data_up_to (struct_of R.segments fields.now) D }
         ensures pointers { result.pointers ≡ replicate P 0 }
     {
         let mut words = [0; D];
@@ -37,8 +37,8 @@ impl<T, const D: usize, const P: usize> StructDraft<T, D, P> {
         objects: &mut Orphanage<S>,
     ) -> Result<StructDraft<T, D, P>>
         ensures words { IfOk result (λ draft.
-            draft.words ≡ words_in (struct_of R.segments fields.now) D) }
-        ensures copies { Copies (struct_of R.segments fields.now) P objects.old objects.new
+            draft.words ≡ data_up_to (struct_of R.segments fields.now) D) }
+        ensures copies { CopiesPointers (struct_of R.segments fields.now) P objects.old objects.new
             (λ draft. draft.pointers) result }
     {
         let mut pointers = [0; P];
@@ -51,7 +51,7 @@ impl<T, const D: usize, const P: usize> StructDraft<T, D, P> {
 
 // Copies data words.
 fn copy_words<R: ReaderSegments>(fields: &StructReader<'_, R>, words: &mut [u64])
-    ensures { words.new ≡ words_in (struct_of R.segments fields.now) (length words.old) }
+    ensures { words.new ≡ data_up_to (struct_of R.segments fields.now) (length words.old) }
 {
     for index in 0..words.len() {
         words[index] = word_at(fields, index);
@@ -75,7 +75,7 @@ fn copy_pointers<R: ReaderSegments, S: GrowingSegment>(
     objects: &mut Orphanage<S>,
     pointers: &mut [u64],
 ) -> Result<()>
-    ensures { Copies (struct_of R.segments fields.now) (length pointers.old)
+    ensures { CopiesPointers (struct_of R.segments fields.now) (length pointers.old)
         objects.old objects.new (λ unit. pointers.new) result }
 {
     for index in 0..pointers.len() {

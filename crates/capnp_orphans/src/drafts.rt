@@ -51,8 +51,8 @@ impl<'a, T, const D: usize, const P: usize, B: Draft<T, D, P>> DraftSource<T, D,
 }
 
 impl<S: GrowingSegment> Orphanage<S> {
-    ghost use Rattle.capnp_orphans.specs.Adding.{Adds, Writes};
-    ghost use Rattle.capnp_orphans.specs.Holds.{word_of, HoldsStructs, TakesStructs, ManyStructs};
+    ghost use Rattle.capnp_orphans.specs.Adding.{AddsOrphan, Writes};
+    ghost use Rattle.capnp_orphans.specs.Holds.{word_of, HoldsStructs, TakesStructsWords, ManyStructs};
     ghost use Rattle.capnp_orphans.specs.Segments.{body_of};
 
     /// Writes a list of structs of a schema's own type, by their builders, as an orphan of the type
@@ -61,9 +61,9 @@ impl<S: GrowingSegment> Orphanage<S> {
         &mut self,
         builders: &[B],
     ) -> Result<Orphan<U>>
-        ensures adds { Adds (HoldsStructs (body_of self.old) (map B.draft builders.now)) self.old
+        ensures adds { AddsOrphan (HoldsStructs (body_of self.old) (map B.draft builders.now)) self.old
             self.new word_of result }
-        ensures writes { Writes (TakesStructs D P (length builders.now))
+        ensures writes { Writes (TakesStructsWords D P (length builders.now))
             (ManyStructs D P (length builders.now)) self.old self.new result }
     {
         self.write(&StructList::<T, D, P, Drafts<'_, B>>::new(&Drafts::new(builders)))

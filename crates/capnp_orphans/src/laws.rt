@@ -6,7 +6,7 @@ ghost use Rattle.capnp_orphans.specs.Orphans.{AreOrphans, IsOrphan};
 ghost use Rattle.capnp_orphans.specs.Segments.{Segment, body_of};
 ghost use Rattle.capnp_orphans.specs.Holds.{AreTrees, AreValues, HoldsValue};
 ghost use Rattle.capnp_orphans.specs.Adding.{Keeps};
-ghost use Rattle.capnp_orphans.specs.Copied.{words_in};
+ghost use Rattle.capnp_orphans.specs.Copied.{data_up_to};
 ghost use Rattle.capnp_wire.specs.Prelude.{field, Struct};
 
 use capnp_wire::traits::SetterInput;
@@ -60,5 +60,5 @@ pub fn values_are_trees<T, V: SetterInput<T>>()
 /// filled up with zeros.
 pub fn fields_stay()
     ensures { (fields : Struct) (count width offset : ℕ) → width * (offset + 1) ≤ 64 * count →
-        field (words_in fields count) width offset ≡ field fields.words width offset }
+        field (data_up_to fields count) width offset ≡ field fields.words width offset }
 {}

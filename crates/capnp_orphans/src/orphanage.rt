@@ -4,8 +4,8 @@ ghost use Rattle.capnp_frame.specs.declared.error.ErrorKind.TheVariants.{OutOfMe
 ghost use Rattle.capnp_wire.specs.Prelude.{HasWords, WordsError, IsTextTree, LongText, IsBytes, ManyBytes};
 ghost use Rattle.capnp_values.specs.NumberLists.{IsNumberList, ManyNumbers};
 ghost use Rattle.capnp_orphans.specs.Segments.{body_of, with_root_alone};
-ghost use Rattle.capnp_orphans.specs.Holds.{word_of, HoldsValue, HoldsStruct, HoldsPointers, HoldsStructs, TakesStruct, StructSizeError, TakesPointers, ManyPointers, TakesStructs, ManyStructs};
-ghost use Rattle.capnp_orphans.specs.Adding.{Adds, Writes, Fails, SetsRoot, AddsRoot};
+ghost use Rattle.capnp_orphans.specs.Holds.{word_of, HoldsValue, HoldsStruct, HoldsPointers, HoldsStructs, TakesStructWords, StructSizeError, TakesPointersWords, ManyPointers, TakesStructsWords, ManyStructs};
+ghost use Rattle.capnp_orphans.specs.Adding.{AddsOrphan, Writes, FailsToAdd, SetsRootOrphan, AddsRoot};
 
 mod built;
 
@@ -127,7 +127,7 @@ impl<S: GrowingSegment> Orphanage<S> {
     // (`tools/time-building built`, `table`).
     #[inline(always)]
     pub(crate) fn write<T, O: Object>(&mut self, object: &O) -> Result<Orphan<T>>
-        ensures adds { Adds (O.holds object.now (body_of self.old)) self.old self.new
+        ensures adds { AddsOrphan (O.holds object.now (body_of self.old)) self.old self.new
             word_of result }
         ensures writes { Writes (O.takes object.now) (O.fails object.now) self.old self.new
             result }
@@ -143,7 +143,7 @@ impl<S: GrowingSegment> Orphanage<S> {
     #[cold]
     #[inline(never)]
     fn write_anew<T, O: Object>(&mut self, object: &O) -> Result<Orphan<T>>
-        ensures adds { Adds (O.holds object.now (body_of self.old)) self.old self.new
+        ensures adds { AddsOrphan (O.holds object.now (body_of self.old)) self.old self.new
             word_of result }
         ensures writes { Writes (O.takes object.now) (O.fails object.now) self.old self.new
             result }
@@ -168,7 +168,7 @@ impl<S: GrowingSegment> Orphanage<S> {
     /// 2^32 - 1; as its view does for what can't be read; and for want of room as `Orphanage` says.
     #[inline(always)]
     pub fn set<T, V: SetterInput<T>>(&mut self, value: &V) -> Result<Orphan<T>>
-        ensures adds { Adds (HoldsValue (V.has_tree value.now)) self.old self.new word_of result }
+        ensures adds { AddsOrphan (HoldsValue (V.has_tree value.now)) self.old self.new word_of result }
         ensures writes { Writes (HasWords (V.has_tree value.now) false)
             (WordsError (V.has_tree value.now) (V.fails value.now) false) self.old self.new
             result }
@@ -182,7 +182,7 @@ impl<S: GrowingSegment> Orphanage<S> {
     /// and for want of room as `Orphanage` says.
     #[inline(always)]
     pub fn text(&mut self, text: &str) -> Result<Orphan<text::Owned>>
-        ensures adds { Adds (HoldsValue (IsTextTree text.now)) self.old self.new word_of result }
+        ensures adds { AddsOrphan (HoldsValue (IsTextTree text.now)) self.old self.new word_of result }
         ensures writes { Writes (HasWords (IsTextTree text.now) false)
             (WordsError (IsTextTree text.now) (LongText text.now) false) self.old self.new result }
     {
@@ -194,7 +194,7 @@ impl<S: GrowingSegment> Orphanage<S> {
     /// Fails for 2^29 bytes and more with `AllocationTooLarge` of their words, at most 2^32 - 1,
     /// and for want of room as `Orphanage` says.
     pub fn data(&mut self, bytes: &[u8]) -> Result<Orphan<data::Owned>>
-        ensures adds { Adds (HoldsValue (IsBytes bytes.now)) self.old self.new word_of result }
+        ensures adds { AddsOrphan (HoldsValue (IsBytes bytes.now)) self.old self.new word_of result }
         ensures writes { Writes (HasWords (IsBytes bytes.now) false)
             (WordsError (IsBytes bytes.now) (ManyBytes bytes.now) false) self.old self.new result }
     {
@@ -209,7 +209,7 @@ impl<S: GrowingSegment> Orphanage<S> {
         &mut self,
         items: &[N],
     ) -> Result<Orphan<primitive_list::Owned<N>>>
-        ensures adds { Adds (HoldsValue (IsNumberList N.code (map N.bits_of items.now)))
+        ensures adds { AddsOrphan (HoldsValue (IsNumberList N.code (map N.bits_of items.now)))
             self.old self.new word_of result }
         ensures writes { Writes (HasWords (IsNumberList N.code (map N.bits_of items.now)) false)
             (WordsError (IsNumberList N.code (map N.bits_of items.now))
@@ -228,9 +228,9 @@ impl<S: GrowingSegment> Orphanage<S> {
         &mut self,
         draft: &StructDraft<T, D, P>,
     ) -> Result<Orphan<T>>
-        ensures adds { Adds (HoldsStruct (body_of self.old) draft.now.words draft.now.pointers)
+        ensures adds { AddsOrphan (HoldsStruct (body_of self.old) draft.now.words draft.now.pointers)
             self.old self.new word_of result }
-        ensures writes { Writes (TakesStruct D P) (StructSizeError D P) self.old self.new result }
+        ensures writes { Writes (TakesStructWords D P) (StructSizeError D P) self.old self.new result }
     {
         // Speed: as `write`. For all else the draft is copied, so that it need not be in memory itself
         // (`tools/time-building built`, `tree`).
@@ -247,9 +247,9 @@ impl<S: GrowingSegment> Orphanage<S> {
     /// Fails for 2^29 orphans and more with `AllocationTooLarge` of their number, at most 2^32 - 1,
     /// and for want of room as `Orphanage` says.
     pub fn pointer_list<T>(&mut self, items: &[Orphan<T>]) -> Result<Orphan<list_list::Owned<T>>>
-        ensures adds { Adds (HoldsPointers (body_of self.old) (map word_of items.now))
+        ensures adds { AddsOrphan (HoldsPointers (body_of self.old) (map word_of items.now))
             self.old self.new word_of result }
-        ensures writes { Writes (TakesPointers (length items.now)) (ManyPointers (length items.now))
+        ensures writes { Writes (TakesPointersWords (length items.now)) (ManyPointers (length items.now))
             self.old self.new result }
     {
         self.write(&PointerList::new(items))
@@ -264,9 +264,9 @@ impl<S: GrowingSegment> Orphanage<S> {
         &mut self,
         items: &[StructDraft<T, D, P>],
     ) -> Result<Orphan<struct_list::Owned>>
-        ensures adds { Adds (HoldsStructs (body_of self.old) items.now) self.old self.new
+        ensures adds { AddsOrphan (HoldsStructs (body_of self.old) items.now) self.old self.new
             word_of result }
-        ensures writes { Writes (TakesStructs D P (length items.now))
+        ensures writes { Writes (TakesStructsWords D P (length items.now))
             (ManyStructs D P (length items.now)) self.old self.new result }
     {
         self.lazy_struct_list::<T, D, P, &[StructDraft<T, D, P>]>(&items)
@@ -277,9 +277,9 @@ impl<S: GrowingSegment> Orphanage<S> {
         &mut self,
         source: &M,
     ) -> Result<Orphan<struct_list::Owned>>
-        ensures adds { Adds (HoldsStructs (body_of self.old) (M.drafts source.now))
+        ensures adds { AddsOrphan (HoldsStructs (body_of self.old) (M.drafts source.now))
             self.old self.new word_of result }
-        ensures writes { Writes (TakesStructs D P (length (M.drafts source.now)))
+        ensures writes { Writes (TakesStructsWords D P (length (M.drafts source.now)))
             (ManyStructs D P (length (M.drafts source.now))) self.old self.new result }
     {
         self.write(&StructList::<T, D, P, M>::new(source))
@@ -287,7 +287,7 @@ impl<S: GrowingSegment> Orphanage<S> {
 
     /// Makes the root lead to an orphan, or null.
     pub fn set_root<T>(&mut self, root: Orphan<T>)
-        ensures { SetsRoot root.word self.old self.new }
+        ensures { SetsRootOrphan root.word self.old self.new }
     {
         self.segment.set_root_word(link(root.word, 0));
     }
@@ -298,10 +298,10 @@ impl<S: GrowingSegment> Orphanage<S> {
         &mut self,
         draft: &StructDraft<T, D, P>,
     ) -> Result<()>
-        ensures adds { AddsRoot (TakesStruct D P)
+        ensures adds { AddsRoot (TakesStructWords D P)
             (HoldsStruct (body_of self.old) draft.now.words draft.now.pointers) self.old self.new
             result }
-        ensures fails { Fails (TakesStruct D P) (StructSizeError D P) self.old result }
+        ensures fails { FailsToAdd (TakesStructWords D P) (StructSizeError D P) self.old result }
     {
         let root = self.add(draft)?;
         self.set_root(root);

@@ -26,11 +26,11 @@ impl<'a, T> PointerList<'a, T> {
 // 2^29 pointers and more fail with `AllocationTooLarge` of their number.
 impl<'a, T> Object for PointerList<'a, T> {
     ghost use Rattle.std.specs.Prelude.{false, length, map};
-    ghost use Rattle.capnp_orphans.specs.Holds.{HoldsPointers, TakesPointers, ManyPointers, word_of};
+    ghost use Rattle.capnp_orphans.specs.Holds.{HoldsPointers, TakesPointersWords, ManyPointers, word_of};
 
     ghost holds = { λ list old new word. HoldsPointers old (map word_of list.items.now) new word };
 
-    ghost takes = { λ list words. TakesPointers (length list.items.now) words };
+    ghost takes = { λ list words. TakesPointersWords (length list.items.now) words };
 
     ghost fails = { λ list kind. ManyPointers (length list.items.now) kind };
 

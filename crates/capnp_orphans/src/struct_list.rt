@@ -1,7 +1,7 @@
 //! Lists of structs as objects.
 ghost use Rattle.std.specs.Prelude.{◌≡◌, ◌+◌, ◌*◌, ◌<◌, ◌^◌, length};
 ghost use Rattle.capnp_layout.specs.Prelude.{words_of};
-ghost use Rattle.capnp_orphans.specs.Holds.{AreSized, elements};
+ghost use Rattle.capnp_orphans.specs.Holds.{AreSized, element_words};
 
 use crate::draft::writing::draft_fits;
 use crate::draft_source::DraftSource;
@@ -37,11 +37,11 @@ impl<'a, T, const D: usize, const P: usize, S: DraftSource<T, D, P>> StructList<
 impl<'a, T, const D: usize, const P: usize, S: DraftSource<T, D, P>> Object
     for StructList<'a, T, D, P, S> {
     ghost use Rattle.std.specs.Prelude.{false, length};
-    ghost use Rattle.capnp_orphans.specs.Holds.{HoldsStructs, TakesStructs, ManyStructs};
+    ghost use Rattle.capnp_orphans.specs.Holds.{HoldsStructs, TakesStructsWords, ManyStructs};
 
     ghost holds = { λ list old new word. HoldsStructs old (S.drafts list.source.now) new word };
 
-    ghost takes = { λ list words. TakesStructs D P (length (S.drafts list.source.now)) words };
+    ghost takes = { λ list words. TakesStructsWords D P (length (S.drafts list.source.now)) words };
 
     ghost fails = { λ list kind. ManyStructs D P (length (S.drafts list.source.now)) kind };
 
@@ -88,7 +88,7 @@ fn put_elements<T, const D: usize, const P: usize, S: DraftSource<T, D, P>>(
     requires room { length block.old ≡ 8 * (length (S.drafts source.now) * (D + P)) }
     requires few { place + length (S.drafts source.now) * (D + P) < 2 ^ 29 }
     ensures sized { AreSized (S.drafts source.now) }
-    ensures words { words_of block.new ≡ elements (S.drafts source.now) place }
+    ensures words { words_of block.new ≡ element_words (S.drafts source.now) place }
     ensures len { length block.new ≡ length block.old }
 {
     let size = D + P;

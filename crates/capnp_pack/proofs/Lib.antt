@@ -5,4 +5,4 @@ pub mod unpacking
 pub mod errors
 pub mod packing
 pub mod encodings
-pub mod WorkedExamples
+pub mod WorkedCases

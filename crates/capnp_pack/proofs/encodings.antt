@@ -1,5 +1,5 @@
 -- Packed encodings of messages and streams.
 pub mod PackedFrameLemmas
-pub mod PackedEncodingLemmas
-pub mod MessageLemmas
+pub mod PackedSinkLemmas
+pub mod PackedRequestLemmas
 pub mod PackedStreamLemmas

@@ -1,7 +1,7 @@
 -- Tables with an entry for each tag: the places and the order of a word's bytes.
 pub mod TagTableLemmas
-pub mod PlaceLemmas
+pub mod BytePlaceLemmas
 pub mod SingleWordLemmas
-pub mod MarkLemmas
-pub mod FrontLemmas
-pub mod SizeLemmas
+pub mod MarkedByteLemmas
+pub mod FrontLaneLemmas
+pub mod GroupSizeLemmas

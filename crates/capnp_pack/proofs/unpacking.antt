@@ -1,9 +1,9 @@
 -- Groups that are taken from the front of the bytes, and what is unpacked or skipped.
-pub mod GroupLemmas
-pub mod WordGroups
-pub mod UnpackedLemmas
-pub mod StoredLemmas
-pub mod ProgressLemmas
-pub mod PassingLemmas
-pub mod SkippedLemmas
-pub mod Shown
+pub mod FrontGroupLemmas
+pub mod WordGroupLemmas
+pub mod ShownByteLemmas
+pub mod StoredByteLemmas
+pub mod TakenGroupLemmas
+pub mod PassedGroupLemmas
+pub mod SkippedChunkLemmas
+pub mod ShownSliceLemmas

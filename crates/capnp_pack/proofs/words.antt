@@ -1,8 +1,8 @@
 -- Words, the bytes that a tag marks, and how far runs go.
-pub mod AllLemmas
-pub mod WordLemmas
-pub mod Chunks
-pub mod LaneLemmas
+pub mod EachElementLemmas
+pub mod TaggedWordLemmas
+pub mod WholeWordLemmas
+pub mod ZeroMaskLemmas
 pub mod TagLemmas
-pub mod EightLemmas
-pub mod RunLemmas
+pub mod EightWordLemmas
+pub mod RunLengthLemmas

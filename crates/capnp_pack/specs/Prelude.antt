@@ -9,5 +9,5 @@ pub use Rattle.capnp_pack.specs.PackedSource.{GroupError, IsHeadAt, LeavesOverru
 pub use Rattle.capnp_pack.specs.PackedStreams.{packed_reusing_rules, packed_rules, packed_skipping_rules, packed_source}
 pub use Rattle.capnp_pack.specs.PackedWords.{GrantsTo, HandsTo, PacksFront, PacksTo, PacksWords, RestAfter}
 pub use Rattle.capnp_pack.specs.PackedErrorLaws.{error_after, error_later, packed_apart, unpacking}
-pub use Rattle.capnp_pack.specs.Steps.{CountOver, EndsGroup, ErrorAfter, FirstGroupError, GroupAfter, GroupAt, GroupFollowing, Hands, HasFewZeros, HasProgress, HeadOver, IsGroupOf, IsRun, IsZero, CutError, LeavesParts, LiteralAfter, MarkedAt, Passes, PassesGroups, CountedRunError, RunAt, TakesGroups, Unpacked, marked_count, nonzero, tag_of}
+pub use Rattle.capnp_pack.specs.Steps.{CountOver, EndsGroup, ErrorAfter, FirstGroupError, GroupAfter, GroupAt, GroupFollowing, Hands, HasFewZeros, HasProgress, HeadOver, IsGroupOf, IsRun, IsZero, CutError, LeavesParts, LiteralAfter, MarkedAt, BeginsWithGroups, PassesGroups, CountedRunError, RunAt, TakesGroups, Unpacked, marked_count, nonzero, tag_of}
 pub use Rattle.capnp_pack.specs.UnpackingLaws.{bit_cases, group_len, length-words, none_unpacked, not_plain, same_group, takes_no_group, true_false, unpack_nothing, unpack_once, words_len, zero_words}

@@ -88,7 +88,7 @@ TakesGroups old new buffer count = (0 < count) × (count ≤ length buffer) × (
     × IfKnown old new (ReturnsPart Unpacks PackedError (length buffer) (take count buffer))
 
 -- The first `used` bytes are groups, whose words have `filled` bytes, at most a given number.
-pub record Passes (encoding : List ℕ) (most used filled : ℕ) : Type 0 where
+pub record BeginsWithGroups (encoding : List ℕ) (most used filled : ℕ) : Type 0 where
   pub used_within : used ≤ length encoding
   pub some : 0 < filled → 0 < used
   pub filled_within : filled ≤ most

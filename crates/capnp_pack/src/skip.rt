@@ -6,7 +6,7 @@ ghost use Rattle.std.specs.Prelude.{◌≡◌, ℕ, List, ◌-◌, ◌%◌, ◌<
 ghost use Rattle.capnp_frame.specs.Prelude.{IfKnown, RequestError, Asked, FailsOr};
 ghost use Rattle.capnp_pack.specs.Calls.{TakesNext};
 ghost use Rattle.capnp_pack.specs.PackedSource.{Unpacks, ChunkError, LeavesOverrun, Overran};
-ghost use Rattle.capnp_pack.specs.Steps.{FirstGroupError, Passes, PassesGroups};
+ghost use Rattle.capnp_pack.specs.Steps.{FirstGroupError, BeginsWithGroups, PassesGroups};
 
 use crate::group::read_group;
 use crate::sizes::group_bytes;
@@ -76,7 +76,7 @@ fn skip_group<R: BufRead>(source: &mut R, most: usize) -> Result<Option<usize>>
 
 // Passes over the whole groups at the front of what is shown whose words have at most `most` bytes.
 fn pass_shown(shown: &[u8], most: usize) -> Progress
-    ensures { Passes shown.now most result.used result.filled }
+    ensures { BeginsWithGroups shown.now most result.used result.filled }
 {
     let mut used = 0;
     let mut filled = 0;
@@ -93,7 +93,7 @@ fn pass_shown(shown: &[u8], most: usize) -> Progress
 #[inline(always)]
 fn pass_group(shown: &[u8], most: usize) -> Option<Progress>
     ensures some { IfSome result (λ group. 0 < group.filled) }
-    ensures group { IfSome result (λ group. Passes shown.now most group.used group.filled) }
+    ensures group { IfSome result (λ group. BeginsWithGroups shown.now most group.used group.filled) }
 {
     if shown.is_empty() {
         return None;

@@ -1,6 +1,6 @@
 -- The lemmas.
-pub mod ElementLemmas
-pub mod ObjectLemmas
-pub mod EscapeLemmas
-pub mod FrontLemmas
-pub mod RunLemmas
+pub mod ElementOfWordLemmas
+pub mod ObjectLandingPadLemmas
+pub mod AddedCharacterLemmas
+pub mod InputFrontLemmas
+pub mod UnescapedRunLemmas

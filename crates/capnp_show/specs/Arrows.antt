@@ -8,7 +8,7 @@ use Rattle.capnp_show.specs.declared.owners.Owners.{Owners}
 use Rattle.capnp_show.specs.declared.owners.Word.{Word}
 use Rattle.capnp_show.specs.declared.owners.Lead.TheVariants.{Object}
 use Rattle.capnp_show.specs.Words.{IsDrawnAsPointer, word_in}
-use Rattle.capnp_show.specs.Output.{counted}
+use Rattle.capnp_show.specs.Output.{with_number}
 
 -- the sum of two sizes, at most the largest number
 abbrev pub plus : ℕ → ℕ → ℕ
@@ -34,18 +34,18 @@ pub record IsCorner (grid : Grid) (place : Place) (corner : Corner) : Type 0 whe
 
 -- the words of the arrow from a cell, up to where it turns
 abbrev pub arrow_front : ℕ → Corner → List ℕ
-arrow_front number from = counted (codes "<path class=\"c") (number % 9)
-    ++ (counted (codes "\" d=\"M") (plus from.left 132) ++ counted (codes " ") (plus from.top 13))
+arrow_front number from = with_number (codes "<path class=\"c") (number % 9)
+    ++ (with_number (codes "\" d=\"M") (plus from.left 132) ++ with_number (codes " ") (plus from.top 13))
 
 -- its turns in the gaps: arrows side by side in a gap lie three pixels apart, by the row where they begin in the gap after a
 -- column, of which there are eight lanes, and by the column where they end in the gap above a row
 abbrev pub turns_of : Corner → Corner → List ℕ
-turns_of from to = counted (codes "H") (plus (plus from.left 132) (4 + from.top / 40 % 8 * 3))
-    ++ (counted (codes "V") (to.top - (3 + to.left / 172 % 4 * 3)) ++ (counted (codes "H") (to.left - 9) ++ counted (codes "V") (plus to.top 13)))
+turns_of from to = with_number (codes "H") (plus (plus from.left 132) (4 + from.top / 40 % 8 * 3))
+    ++ (with_number (codes "V") (to.top - (3 + to.left / 172 % 4 * 3)) ++ (with_number (codes "H") (to.left - 9) ++ with_number (codes "V") (plus to.top 13)))
 
 -- and its head
 abbrev pub arrow_head : Corner → List ℕ
-arrow_head to = counted (codes "H") (to.left - 2) ++ codes "m-5 -3l5 3l-5 3\"/>"
+arrow_head to = with_number (codes "H") (to.left - 2) ++ codes "m-5 -3l5 3l-5 3\"/>"
 
 -- the turns of an arrow, of which one to the next cell of its row has none
 abbrev pub turns_between : Corner → Corner → List ℕ
@@ -74,7 +74,7 @@ HasNoArrow grid owners place word = (number : ℕ) (start : Place) → IsDrawnAs
 
 -- the sizes, as the style names them
 abbrev pub sizes_rule : List ℕ
-sizes_rule = counted (codes ":root { --number-width: ") 44 ++ (counted (codes "px; --cell-width: ") 132
-    ++ (counted (codes "px; --cell-height: ") 26 ++ (counted (codes "px; --column-gap: ") 40
-    ++ (counted (codes "px; --row-gap: ") 14 ++ (counted (codes "px; --heading-height: ") 34
-    ++ (counted (codes "px; --drawing-width: ") 772 ++ codes "px; }\n"))))))
+sizes_rule = with_number (codes ":root { --number-width: ") 44 ++ (with_number (codes "px; --cell-width: ") 132
+    ++ (with_number (codes "px; --cell-height: ") 26 ++ (with_number (codes "px; --column-gap: ") 40
+    ++ (with_number (codes "px; --row-gap: ") 14 ++ (with_number (codes "px; --heading-height: ") 34
+    ++ (with_number (codes "px; --drawing-width: ") 772 ++ codes "px; }\n"))))))

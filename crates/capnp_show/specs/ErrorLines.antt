@@ -39,5 +39,5 @@ unwritten_of DeviceFailed = codes "standard output can't be written"
 unwritten_of kind = sentence_of kind
 
 -- the line gives a reason why the input of this name failed; the wording of the reason is left open
-abbrev pub IsDeviceErrorLine : List ℕ → List ℕ → Type 0
-IsDeviceErrorLine name line = (reason : List ℕ) × AddsEscaped (codes "capnp_show: ") name (codes ": " ++ (reason ++ codes "\n")) [] line
+abbrev pub IsInputErrorLine : List ℕ → List ℕ → Type 0
+IsInputErrorLine name line = (reason : List ℕ) × AddsEscaped (codes "capnp_show: ") name (codes ": " ++ (reason ++ codes "\n")) [] line

@@ -10,8 +10,8 @@ use Rattle.capnp_show.specs.declared.detected.Look.{Look}
 use Rattle.capnp_show.specs.declared.detected.Look.TheVariants.{Is, More}
 
 -- the kinds of the errors for the bytes of a framed message that end too early
-abbrev pub IsCut : ErrorKind → Type 0
-IsCut kind = (kind ≡ EmptyBuffer) ⊎ ((wanted : ℕ) × (there : ℕ) × (kind ≡ MessageEndsPrematurely wanted there))
+abbrev pub IsPrematureEnd : ErrorKind → Type 0
+IsPrematureEnd kind = (kind ≡ EmptyBuffer) ⊎ ((wanted : ℕ) × (there : ℕ) × (kind ≡ MessageEndsPrematurely wanted there))
 
 -- how the messages are read that are looked for: framed, within the limit of words
 abbrev pub framed_within : Option ℕ → FlatRules
@@ -24,27 +24,27 @@ pub record HasMessage (limit : Option ℕ) (front : List ℕ) : Type 0 where
   pub is_found : FoundBy (framed_within limit) message front rest
 
 -- the bytes end within what may be a framed message
-pub record Ends (limit : Option ℕ) (front : List ℕ) : Type 0 where
+pub record EndsWithin (limit : Option ℕ) (front : List ℕ) : Type 0 where
   pub kind : ErrorKind
   pub errors : RulesError (framed_within limit) kind front
-  pub cut : IsCut kind
+  pub cut : IsPrematureEnd kind
 
 -- no framed message begins so
 pub record Differs (limit : Option ℕ) (front : List ℕ) : Type 0 where
   pub kind : ErrorKind
   pub errors : RulesError (framed_within limit) kind front
-  pub whole : IsCut kind → ⊥
+  pub whole : IsPrematureEnd kind → ⊥
 
 -- the bytes begin a framed message: one is at their front, or they end within one
 abbrev pub Begins : Option ℕ → List ℕ → Type 0
-Begins limit front = HasMessage limit front ⊎ Ends limit front
+Begins limit front = HasMessage limit front ⊎ EndsWithin limit front
 
 -- What some bytes say, of which `enough` are enough to tell: they are framed where a message is there or may follow, packed where
 -- none begins so, and they say nothing yet where they are few and end within what may be one.
 abbrev pub Says : ℕ → Option ℕ → List ℕ → Look → Type 0
-Says enough limit front (Is Framed) = HasMessage limit front ⊎ (Ends limit front × (enough ≤ length front))
+Says enough limit front (Is Framed) = HasMessage limit front ⊎ (EndsWithin limit front × (enough ≤ length front))
 Says enough limit front (Is Packed) = Differs limit front
-Says enough limit front More = Ends limit front × (length front < enough)
+Says enough limit front More = EndsWithin limit front × (length front < enough)
 
 -- The bytes that are added to a front, from `old` to `new`, are the next ones of an input, where it is known what that has.
 pub record Takes (old new : List ℕ) (before after : Option (List ℕ)) : Type 0 where
@@ -54,5 +54,5 @@ pub record Takes (old new : List ℕ) (before after : Option (List ℕ)) : Type 
 
 -- The format in which an input is read that has these bytes at its front, and `after` follows them: what they say, or framed where
 -- they end, with the input, within what may be a framed message.
-abbrev pub Tells : ℕ → Option ℕ → List ℕ → Option (List ℕ) → Format → Type 0
-Tells enough limit front after format = Says enough limit front (Is format) ⊎ ((format ≡ Framed) × Ends limit front × IsAtEnd after)
+abbrev pub TellsFormat : ℕ → Option ℕ → List ℕ → Option (List ℕ) → Format → Type 0
+TellsFormat enough limit front after format = Says enough limit front (Is format) ⊎ ((format ≡ Framed) × EndsWithin limit front × IsAtEnd after)

@@ -15,13 +15,13 @@ use Rattle.capnp_show.specs.declared.tree.Found.TheVariants.{Null, Object as AnO
 use Rattle.capnp_show.specs.declared.tree.NodeRun.{NodeRun}
 use Rattle.capnp_show.specs.declared.tree.NodeRunKind.{NodeRunKind}
 use Rattle.capnp_show.specs.declared.tree.NodeRunKind.TheVariants.{Root, Pointers, Elements}
-use Rattle.capnp_show.specs.Objects.{counted, further, size_of, IsObject, PlaceError}
+use Rattle.capnp_show.specs.Objects.{object_traversed, further, words_of_struct, IsFoundObject, PlaceError}
 
 -- how many words the next node of a run comes after this one
 abbrev pub step_of : NodeRunKind → ℕ
 step_of Root = 1
 step_of Pointers = 1
-step_of (Elements size) = size_of size
+step_of (Elements size) = words_of_struct size
 
 -- a node's label, by its run and its number there
 abbrev pub label_of : NodeRunKind → ℕ → Label
@@ -49,10 +49,10 @@ abbrev pub IsSpent : NodeRun → Type 0
 IsSpent run = run.count ≤ run.index
 
 -- the places of the pointers that some nodes of a run have from its next one on: the nodes themselves, or those in elements
-abbrev pub pointers_in : NodeRunKind → Place → ℕ → List Place
-pointers_in Root next count = places next.segment next.word count
-pointers_in Pointers next count = places next.segment next.word count
-pointers_in (Elements size) next count = pointer_places next.segment next.word size.data_words size.pointers count
+abbrev pub places_of_pointers : NodeRunKind → Place → ℕ → List Place
+places_of_pointers Root next count = places next.segment next.word count
+places_of_pointers Pointers next count = places next.segment next.word count
+places_of_pointers (Elements size) next count = pointer_places next.segment next.word size.data_words size.pointers count
 
 -- the pointers of an object whose words are within 2^61
 abbrev pub children_by : Object → List Place → Type 0
@@ -65,7 +65,7 @@ pub record IsRunBelow (run : NodeRun) (object : Object) (below : NodeRun) : Type
   pub first : below.index ≡ 0
   pub depth : below.depth ≡ min (run.depth + 1) (2 ^ 64 - 1)
   pub nesting : below.nesting ≡ run.nesting - 1
-  pub children : children_by object (pointers_in below.kind below.next below.count)
+  pub children : children_by object (places_of_pointers below.kind below.next below.count)
 
 abbrev pub IsBelow : NodeRun → Object → Option NodeRun → Type 0
 IsBelow run object None = children_by object []
@@ -75,13 +75,13 @@ IsBelow run object (Some below) = IsRunBelow run object below
 -- to, or why there is none to show.
 abbrev pub Finds : List (List ℕ) → Place → ℕ → Option ℕ → Found → Type 0
 Finds segments place nesting left Null = word_at (message_of segments) place ≡ Some 0
-Finds segments place nesting left (AnObject object) = IsObject segments place object × (0 < nesting)
-    × IfSome left (λ most. counted object ≤ most)
+Finds segments place nesting left (AnObject object) = IsFoundObject segments place object × (0 < nesting)
+    × IfSome left (λ most. object_traversed object ≤ most)
 Finds segments place nesting left (Element start size) = ⊥
 Finds segments place nesting left (Unread kind) = PlaceError segments place kind
-    ⊎ ((object : Object) × IsObject segments place object × (nesting ≡ 0) × (kind ≡ NestingLimitExceeded))
-    ⊎ ((object : Object) × (most : ℕ) × IsObject segments place object × (left ≡ Some most) × (0 < nesting)
-    × (most < counted object) × (kind ≡ ReadLimitExceeded))
+    ⊎ ((object : Object) × IsFoundObject segments place object × (nesting ≡ 0) × (kind ≡ NestingLimitExceeded))
+    ⊎ ((object : Object) × (most : ℕ) × IsFoundObject segments place object × (left ≡ Some most) × (0 < nesting)
+    × (most < object_traversed object) × (kind ≡ ReadLimitExceeded))
 
 -- The next node of a run: where it is and how deep, and what is found there.
 pub record IsNodeOf (segments : List (List ℕ)) (run : NodeRun) (left : Option ℕ) (node : Node) : Type 0 where
@@ -102,7 +102,7 @@ LeavesRuns run (Unread kind) runs left = (kind ≡ ReadLimitExceeded → left �
 -- and the words that are left: an object's are taken off
 abbrev pub LeavesWords : Found → Option ℕ → Option ℕ → Type 0
 LeavesWords Null words left = left ≡ words
-LeavesWords (AnObject object) words left = left ≡ option_map (λ most. most - counted object) words
+LeavesWords (AnObject object) words left = left ≡ option_map (λ most. most - object_traversed object) words
 LeavesWords (Element start size) words left = left ≡ words
 LeavesWords (Unread kind) words left = kind ≢ ReadLimitExceeded → left ≡ words
 

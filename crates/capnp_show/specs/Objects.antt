@@ -8,8 +8,8 @@ use Rattle.capnp_layout.specs.declared.pointer.StructSize.{StructSize}
 use Rattle.capnp_show.specs.declared.objects.Object.{Object}
 
 -- the words of a struct
-abbrev pub size_of : StructSize → ℕ
-size_of size = size.data_words + size.pointers
+abbrev pub words_of_struct : StructSize → ℕ
+words_of_struct size = size.data_words + size.pointers
 
 -- the words of a landing pad, by the far pointer to it
 abbrev pub landing_pad_words : Option FarPointer → ℕ
@@ -21,15 +21,15 @@ abbrev pub IsFarIn : List ℕ → ℕ → FarPointer → Type 0
 IsFarIn words index far = (pointer : ℕ) × (slice_get words index ≡ Some pointer) × IsFarPointer pointer far
 
 -- the words that an object counts against the limit
-abbrev pub counted : Object → ℕ
-counted object = landing_pad_words object.far + traversed_of object.body
+abbrev pub object_traversed : Object → ℕ
+object_traversed object = landing_pad_words object.far + traversed_of object.body
 
 -- the place a given number of words further; the last one where there is none
 abbrev pub further : Place → ℕ → Place
 further place words = record { segment = place.segment; word = min (place.word + words) (2 ^ 64 - 1) }
 
 -- The object to which the pointer at a place leads: as a reader finds it.
-pub record IsObject (segments : List (List ℕ)) (place : Place) (object : Object) : Type 0 where
+pub record IsFoundObject (segments : List (List ℕ)) (place : Place) (object : Object) : Type 0 where
   pub landing : Target
   pub lands : Lands (message_of segments) place landing
   pub segment : landing.segment ≡ object.start.segment

@@ -29,17 +29,17 @@ IsControl character = (character ≤ 31) ⊎ ((127 ≤ character) × (character 
 
 -- The characters that JSON has a letter for (RFC 8259, section 7), and that letter: the quotation mark and the backslash are
 -- for themselves, a line feed is n, a carriage return r, a tab t.
-abbrev pub HasLetter : ℕ → ℕ → Type 0
-HasLetter character letter =
+abbrev pub HasJsonLetter : ℕ → ℕ → Type 0
+HasJsonLetter character letter =
     ((character ≡ 34) × (letter ≡ 34)) ⊎ ((character ≡ 92) × (letter ≡ 92)) ⊎ ((character ≡ 10) × (letter ≡ 110))
     ⊎ ((character ≡ 13) × (letter ≡ 114)) ⊎ ((character ≡ 9) × (letter ≡ 116))
 
 -- How a character is shown within quotation marks: one way for each. A control character that has no letter is shown by its
 -- number, and what is neither is shown as it is.
-abbrev pub IsEscapeOf : ℕ → Escape → Type 0
-IsEscapeOf character Plain = (IsControl character → ⊥) × (character ≢ 34) × (character ≢ 92)
-IsEscapeOf character (Letter letter) = HasLetter character letter
-IsEscapeOf character Number = IsControl character × (character ≢ 10) × (character ≢ 13) × (character ≢ 9)
+abbrev pub IsJsonEscapeOf : ℕ → Escape → Type 0
+IsJsonEscapeOf character Plain = (IsControl character → ⊥) × (character ≢ 34) × (character ≢ 92)
+IsJsonEscapeOf character (Letter letter) = HasJsonLetter character letter
+IsJsonEscapeOf character Number = IsControl character × (character ≢ 10) × (character ≢ 13) × (character ≢ 9)
 
 -- the characters that begin or end markup, within an attribute too, and the names that stand for them
 abbrev pub HasName : ℕ → List ℕ → Type 0
@@ -71,26 +71,26 @@ element_name (Pointers count) = codes "pointer"
 element_name (Structs elements following) = codes "struct"
 
 -- a character that is shown in this way: its number in four hexadecimal digits
-abbrev pub escaped : ℕ → Escape → List ℕ
-escaped character Plain = encode_utf8 character
-escaped character (Letter letter) = 92 ∷ encode_utf8 letter
-escaped character Number = codes "\\u" ++ padded_integral (format_spec 32 0 4 4 (2 ^ 64 - 1)) false [] (digits 16 false character)
+abbrev pub json_escaped : ℕ → Escape → List ℕ
+json_escaped character Plain = encode_utf8 character
+json_escaped character (Letter letter) = 92 ∷ encode_utf8 letter
+json_escaped character Number = codes "\\u" ++ padded_integral (format_spec 32 0 4 4 (2 ^ 64 - 1)) false [] (digits 16 false character)
 
 -- these characters are shown in these bytes: one after the other, each in the way that is its own
-pub data AreEscaped : List ℕ → List ℕ → Type 0 where
-  none_shown : AreEscaped [] []
-  one_shown : (characters bytes : List ℕ) (character : ℕ) (escape : Escape) → AreEscaped characters bytes → IsEscapeOf character escape
-      → AreEscaped (characters ++ character ∷ []) (bytes ++ escaped character escape)
+pub data AreJsonEscaped : List ℕ → List ℕ → Type 0 where
+  none_shown : AreJsonEscaped [] []
+  one_shown : (characters bytes : List ℕ) (character : ℕ) (escape : Escape) → AreJsonEscaped characters bytes → IsJsonEscapeOf character escape
+      → AreJsonEscaped (characters ++ character ∷ []) (bytes ++ json_escaped character escape)
 
 -- a string is added, escaped, between two others
 abbrev pub AddsEscaped : List ℕ → List ℕ → List ℕ → List ℕ → List ℕ → Type 0
-AddsEscaped front shown end old new = (bytes : List ℕ) × (new ≡ old ++ (front ++ (bytes ++ end))) × AreEscaped (chars shown) bytes
+AddsEscaped front shown end old new = (bytes : List ℕ) × (new ≡ old ++ (front ++ (bytes ++ end))) × AreJsonEscaped (chars shown) bytes
 
 -- the bytes of a character in a page, by how it is written there
 abbrev pub IsMarked : ℕ → Mark → List ℕ → Type 0
 IsMarked character PlainMark bytes = bytes ≡ encode_utf8 character
 IsMarked character (Named name) bytes = bytes ≡ name.now
-IsMarked character Control bytes = (escape : Escape) × IsEscapeOf character escape × (bytes ≡ escaped character escape)
+IsMarked character Control bytes = (escape : Escape) × IsJsonEscapeOf character escape × (bytes ≡ json_escaped character escape)
 
 -- these characters are written in a page as these bytes
 pub data AreMarked : List ℕ → List ℕ → Type 0 where
@@ -103,17 +103,17 @@ abbrev pub AddsMarked : List ℕ → List ℕ → List ℕ → List ℕ → List
 AddsMarked front shown end old new = (bytes : List ℕ) × (new ≡ old ++ (front ++ (bytes ++ end))) × AreMarked (chars shown) bytes
 
 -- a number after some words
-abbrev pub counted : List ℕ → ℕ → List ℕ
-counted words number = words ++ decimal number
+abbrev pub with_number : List ℕ → ℕ → List ℕ
+with_number words number = words ++ decimal number
 
 -- what is listed of a message
 abbrev pub listed_line : Listed → List ℕ
-listed_line listed = counted (codes "message ") listed.index ++ (counted (codes ": offset ") listed.offset
-    ++ (counted (codes ", bytes ") listed.bytes ++ (counted (codes ", segments ") listed.segments ++ counted (codes ", words ") listed.words)))
+listed_line listed = with_number (codes "message ") listed.index ++ (with_number (codes ": offset ") listed.offset
+    ++ (with_number (codes ", bytes ") listed.bytes ++ (with_number (codes ", segments ") listed.segments ++ with_number (codes ", words ") listed.words)))
 
 -- a member of a JSON object that is a number, after the members before it
 abbrev pub member : List ℕ → ℕ → List ℕ
-member name number = codes ",\"" ++ (name ++ counted (codes "\":") number)
+member name number = codes ",\"" ++ (name ++ with_number (codes "\":") number)
 
 -- the members of what is listed of a message
 abbrev pub listed_members : Listed → List ℕ
@@ -122,14 +122,14 @@ listed_members listed = member (codes "index") listed.index ++ (member (codes "o
 
 -- the name of a message in a page, and that of one of its words
 abbrev pub message_name : Anchor → List ℕ
-message_name anchor = counted (codes "m") anchor.input ++ counted (codes "-") anchor.message
+message_name anchor = with_number (codes "m") anchor.input ++ with_number (codes "-") anchor.message
 
 abbrev pub word_name : Anchor → Place → List ℕ
-word_name anchor place = message_name anchor ++ (counted (codes "-") place.segment ++ counted (codes "-") place.word)
+word_name anchor place = message_name anchor ++ (with_number (codes "-") place.segment ++ with_number (codes "-") place.word)
 
 -- the classes of an object
 abbrev pub object_classes : ℕ → List ℕ
-object_classes number = counted (codes "o") number ++ counted (codes " c") (number % 9)
+object_classes number = with_number (codes "o") number ++ with_number (codes " c") (number % 9)
 
 -- the classes of a word in a page, by whose it is
 abbrev pub role_class : Role → List ℕ
@@ -141,7 +141,7 @@ role_class Landing = codes "landing"
 abbrev pub owner_classes : Owner → List ℕ
 owner_classes Free = codes "free"
 owner_classes Root = codes "pointer root"
-owner_classes (Object number role) = role_class role ++ (counted (codes " o") number ++ counted (codes " c") (number % 9))
+owner_classes (Object number role) = role_class role ++ (with_number (codes " o") number ++ with_number (codes " c") (number % 9))
 
 -- and that of a null pointer, and of a pointer that is not followed
 abbrev pub null_class : Owner → Lead → List ℕ
@@ -166,12 +166,12 @@ role_name Landing = codes "landing pad"
 abbrev pub owner_name : Owner → List ℕ
 owner_name Free = codes "of no object that is reached"
 owner_name Root = codes "the root pointer"
-owner_name (Object number role) = role_name role ++ counted (codes " of object ") number
+owner_name (Object number role) = role_name role ++ with_number (codes " of object ") number
 
 abbrev pub lead_name : Lead → List ℕ
 lead_name Nowhere = []
 lead_name Null = codes ", null"
-lead_name (LeadObject number start) = counted (codes ", to object ") number
+lead_name (LeadObject number start) = with_number (codes ", to object ") number
 
 -- the lead of a word that is drawn as a pointer
 abbrev pub drawn_lead : Owner → Lead → List ℕ
@@ -180,7 +180,7 @@ drawn_lead (Object number PointerRole) lead = lead_name lead
 drawn_lead owner lead = []
 
 abbrev pub where_of : Place → List ℕ
-where_of place = counted (codes "word ") place.segment ++ (counted (codes ":") place.word ++ codes ", ")
+where_of place = with_number (codes "word ") place.segment ++ (with_number (codes ":") place.word ++ codes ", ")
 
 abbrev pub title_of : Place → Word → List ℕ
 title_of place word = where_of place ++ (owner_name word.owner ++ drawn_lead word.owner word.lead)
@@ -188,8 +188,8 @@ title_of place word = where_of place ++ (owner_name word.owner ++ drawn_lead wor
 -- how far the reading of an input is, in MB where its size is known
 abbrev pub of_total : Option ℕ → List ℕ
 of_total None = []
-of_total (Some bytes) = counted (codes " of ") (bytes / 1000000) ++ codes " MB"
+of_total (Some bytes) = with_number (codes " of ") (bytes / 1000000) ++ codes " MB"
 
 abbrev pub progress_of : Option ℕ → ℕ → ℕ → List ℕ
-progress_of total megabytes messages = counted (codes ": ") megabytes ++ (codes " MB" ++ (of_total total
-    ++ (counted (codes ", ") messages ++ codes " messages\n")))
+progress_of total megabytes messages = with_number (codes ": ") megabytes ++ (codes " MB" ++ (of_total total
+    ++ (with_number (codes ", ") messages ++ codes " messages\n")))

@@ -11,15 +11,15 @@ use Rattle.capnp_show.specs.declared.owners.Owner.TheVariants.{Free, Root, Objec
 use Rattle.capnp_show.specs.declared.owners.Lead.TheVariants.{Nowhere}
 use Rattle.capnp_show.specs.declared.owners.Word.{Word}
 use Rattle.capnp_show.specs.declared.owners.Owners.{Owners}
-use Rattle.capnp_show.specs.Objects.{size_of}
+use Rattle.capnp_show.specs.Objects.{words_of_struct}
 
 -- the word is a pointer of one of some structs, by how many words it comes after the first one's
 -- start
 pub record IsPointerOfElement (size : StructSize) (count index : ℕ) : Type 0 where
   pub element : ℕ
   pub among : element < count
-  pub after_data : element * size_of size + size.data_words ≤ index
-  pub within : index < element * size_of size + size_of size
+  pub after_data : element * words_of_struct size + size.data_words ≤ index
+  pub within : index < element * words_of_struct size + words_of_struct size
 
 -- what it is to the element
 abbrev pub IsRoleInElement : StructSize → ℕ → ℕ → Role → Type 0

@@ -7,7 +7,7 @@
 //! each row has a lane of its own, and in the gap above a row each column has one.
 ghost use Rattle.std.specs.Prelude.{◌≡◌, ◌⊎◌, ◌+◌, ◌*◌, ◌/◌, ◌^◌, ◌<◌, ℕ, None, length, slice_get, MatchOption, ◌++◌, IfOk, OnOk, codes, string_bytes};
 ghost use Rattle.capnp_show.specs.Arrows.{height_of, AreTops, IsCorner, AddsArrowOf, HasNoArrow, arrow_front, arrow_head, arrow_of, turns_between, sizes_rule};
-ghost use Rattle.capnp_show.specs.Output.{counted};
+ghost use Rattle.capnp_show.specs.Output.{with_number};
 
 use crate::drawn::{ROW_WORDS, colour_of};
 use crate::numbers::push_counted;

@@ -5,7 +5,7 @@ ghost use Rattle.std.specs.IoError.{error_kind};
 ghost use Rattle.std.specs.declared.io.Error.{Error};
 ghost use Rattle.std.specs.declared.io.ErrorKind.TheVariants.{Interrupted};
 ghost use Rattle.capnp_show.specs.declared.detected.Look.TheVariants.{More};
-ghost use Rattle.capnp_show.specs.Fronts.{Says, Takes, Tells};
+ghost use Rattle.capnp_show.specs.Fronts.{Says, Takes, TellsFormat};
 
 use capnp::ErrorKind;
 use capnp::message::ReaderOptions;
@@ -58,7 +58,7 @@ pub fn detect<D: Read>(
     ensures taken { IfOk result (λ _. Takes front.old.items front.new.items
         (D.remaining device.old) (D.remaining device.new)) }
     ensures told { IfOk result (λ found. MatchResult found
-        (Tells FRONT_BYTES limits.traversal_limit_in_words front.new.items
+        (TellsFormat FRONT_BYTES limits.traversal_limit_in_words front.new.items
         (D.remaining device.new))
         (λ _. Says FRONT_BYTES limits.traversal_limit_in_words front.new.items More)) }
     ensures retried { IfOk result (λ found. IfErr found (λ error. error_kind error ≢ Interrupted)) }

@@ -1,6 +1,6 @@
 //! The words of a segment, as rows of a table.
 ghost use Rattle.std.specs.Prelude.{◌≡◌, ◌%◌, ◌++◌, None, OnOk, codes, string_bytes};
-ghost use Rattle.capnp_show.specs.Output.{counted, message_name, word_name, null_class, owner_classes, error_class, word_classes, where_of, owner_name, drawn_lead, title_of};
+ghost use Rattle.capnp_show.specs.Output.{with_number, message_name, word_name, null_class, owner_classes, error_class, word_classes, where_of, owner_name, drawn_lead, title_of};
 
 use crate::arrows::Grid;
 use crate::numbers::{push_counted, push_hexadecimal};
@@ -53,7 +53,7 @@ pub struct Drawn<'a> {
 /// Adds the classes of an object.
 pub fn push_object_classes(markup: &mut String, number: u64) -> Result<(), AllocError>
     ensures { OnOk result (string_bytes markup.new ≡ string_bytes markup.old
-        ++ (counted (codes "o") number ++ counted (codes " c") (number % COLOURS))) }
+        ++ (with_number (codes "o") number ++ with_number (codes " c") (number % COLOURS))) }
 {
     let colour = colour_of(number);
     push_counted(markup, "o", number)?;

@@ -1,6 +1,6 @@
 //! What is said of errors.
 ghost use Rattle.std.specs.Prelude.{◌≡◌, ◌++◌, [], IfOk, codes, string_bytes};
-ghost use Rattle.capnp_show.specs.ErrorLines.{IsDeviceErrorLine, sentence_of, unwritten_of};
+ghost use Rattle.capnp_show.specs.ErrorLines.{IsInputErrorLine, sentence_of, unwritten_of};
 ghost use Rattle.capnp_show.specs.Output.{AddsEscaped};
 
 use crate::escapes::push_escaped;
@@ -89,7 +89,7 @@ pub fn unopened_line(alloc: Global, name: &str, error: &io::Error) -> Result<Str
 
 /// The line that gives the system's reason why the device of an input failed.
 pub fn device_error_line(alloc: Global, name: &str, error: &io::Error) -> Result<String, AllocError>
-    ensures { IfOk result (λ line. IsDeviceErrorLine name.now (string_bytes line)) }
+    ensures { IfOk result (λ line. IsInputErrorLine name.now (string_bytes line)) }
 {
     let reason = error.to_string(alloc)?;
     input_line(alloc, name, &reason)

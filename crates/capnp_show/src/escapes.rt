@@ -1,6 +1,6 @@
 //! Strings, as they are shown.
 ghost use Rattle.std.specs.Prelude.{◌≡◌, ◌++◌, ◌∷◌, ℕ, List, [], MatchOption, IsUtf8, OnOk, codes, string_bytes};
-ghost use Rattle.capnp_show.specs.Output.{IsEscapeOf, escaped, AddsEscaped};
+ghost use Rattle.capnp_show.specs.Output.{IsJsonEscapeOf, json_escaped, AddsEscaped};
 
 use crate::runs::{next_run, push_run};
 use std::alloc::AllocError;
@@ -21,7 +21,7 @@ pub enum Escape {
 /// How a character is shown: as in JSON, but the control characters from U+007F to U+009F are shown
 /// by their numbers, too, since terminals may act on them.
 pub fn escape_of(character: char) -> Escape
-    ensures { IsEscapeOf character result }
+    ensures { IsJsonEscapeOf character result }
 {
     match character {
         '"' => Escape::Letter('"'),
@@ -49,7 +49,7 @@ pub fn push_escaped(output: &mut String, shown: &str) -> Result<(), AllocError>
 
 /// Adds a character, escaped in this way.
 pub fn push_escape(output: &mut String, character: char, escape: Escape) -> Result<(), AllocError>
-    ensures { OnOk result (string_bytes output.new ≡ string_bytes output.old ++ escaped character escape) }
+    ensures { OnOk result (string_bytes output.new ≡ string_bytes output.old ++ json_escaped character escape) }
 {
     match escape {
         Escape::Plain => output.push(character),

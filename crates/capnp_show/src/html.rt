@@ -1,7 +1,7 @@
 //! The parts of a page that is complete in itself, except for the drawings.
 ghost use Rattle.std.specs.Prelude.{◌≡◌, ◌++◌, OnOk, codes, string_bytes};
 ghost use Rattle.capnp_show.specs.Arrows.{height_of};
-ghost use Rattle.capnp_show.specs.Output.{AddsMarked, counted, message_name, object_classes};
+ghost use Rattle.capnp_show.specs.Output.{AddsMarked, with_number, message_name, object_classes};
 
 use crate::arrows::{part_height, push_sizes};
 use crate::drawn::{Anchor, push_object_classes};
@@ -92,8 +92,8 @@ fn push_object_front(markup: &mut String, number: u64) -> Result<(), AllocError>
 /// Adds the front of a segment of this many words.
 pub fn push_part(markup: &mut String, segment: u32, words: usize) -> Result<(), AllocError>
     ensures { OnOk result (string_bytes markup.new
-        ≡ string_bytes markup.old ++ (counted (codes "<div style=\"height: ") (height_of words)
-        ++ (counted (codes "px\">\n<h3>segment ") segment ++ (counted (codes ", words ") words
+        ≡ string_bytes markup.old ++ (with_number (codes "<div style=\"height: ") (height_of words)
+        ++ (with_number (codes "px\">\n<h3>segment ") segment ++ (with_number (codes ", words ") words
         ++ codes "</h3>\n<table class=\"segment\">\n")))) }
 {
     let height = part_height(words);

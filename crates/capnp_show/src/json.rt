@@ -1,7 +1,7 @@
 //! Messages as JSON.
 ghost use Rattle.std.specs.Prelude.{◌≡◌, ◌++◌, OnOk, codes, string_bytes};
 ghost use Rattle.capnp_show.specs.Hashes.{IfHash};
-ghost use Rattle.capnp_show.specs.Output.{AddsEscaped, counted, member, listed_members};
+ghost use Rattle.capnp_show.specs.Output.{AddsEscaped, with_number, member, listed_members};
 
 use crate::hash::Hash;
 use crate::listing::{Listed, name_of};
@@ -136,7 +136,7 @@ fn push_object<S: ReaderSegments>(
 fn push_list(line: &mut String, name: &str, count: u32) -> Result<(), AllocError>
     ensures { OnOk result (string_bytes line.new ≡ string_bytes line.old
         ++ (codes ",\"kind\":\"list\",\"element\":\"" ++ (name.now
-        ++ counted (codes "\",\"count\":") count))) }
+        ++ with_number (codes "\",\"count\":") count))) }
 {
     line.push_str(",\"kind\":\"list\",\"element\":\"")?;
     line.push_str(name)?;

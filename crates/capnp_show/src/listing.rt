@@ -1,7 +1,7 @@
 //! Messages as lines.
 ghost use Rattle.std.specs.Prelude.{◌≡◌, ◌++◌, [], MatchOption, OnOk, codes, decimal, string_bytes};
 ghost use Rattle.capnp_show.specs.Hashes.{IfHash};
-ghost use Rattle.capnp_show.specs.Output.{AddsEscaped, element_name, number_name, counted, listed_line};
+ghost use Rattle.capnp_show.specs.Output.{AddsEscaped, element_name, number_name, with_number, listed_line};
 
 use crate::hash::Hash;
 use crate::numbers::{push_counted, push_decimal};
@@ -182,7 +182,7 @@ fn name_of_number(size: ElementSize) -> &'static str
 // Adds a list: what its elements are, and how many there are.
 fn push_list(line: &mut String, name: &str, count: u32) -> Result<(), AllocError>
     ensures { OnOk result (string_bytes line.new ≡ string_bytes line.old
-        ++ (codes "list, element " ++ (name.now ++ counted (codes ", count ") count))) }
+        ++ (codes "list, element " ++ (name.now ++ with_number (codes ", count ") count))) }
 {
     line.push_str("list, element ")?;
     line.push_str(name)?;
@@ -192,8 +192,8 @@ fn push_list(line: &mut String, name: &str, count: u32) -> Result<(), AllocError
 // Adds the words of a struct.
 fn push_size(line: &mut String, size: StructSize) -> Result<(), AllocError>
     ensures { OnOk result (string_bytes line.new ≡ string_bytes line.old
-        ++ (counted (codes ", data ") size.data_words
-        ++ counted (codes ", pointers ") size.pointers)) }
+        ++ (with_number (codes ", data ") size.data_words
+        ++ with_number (codes ", pointers ") size.pointers)) }
 {
     push_counted(line, ", data ", size.data_words as u64)?;
     push_counted(line, ", pointers ", size.pointers as u64)
@@ -202,7 +202,7 @@ fn push_size(line: &mut String, size: StructSize) -> Result<(), AllocError>
 // Adds a place, by its segment and its word.
 fn push_place(line: &mut String, place: Place) -> Result<(), AllocError>
     ensures { OnOk result (string_bytes line.new ≡ string_bytes line.old
-        ++ (counted (codes ", at ") place.segment ++ counted (codes ":") place.word)) }
+        ++ (with_number (codes ", at ") place.segment ++ with_number (codes ":") place.word)) }
 {
     push_counted(line, ", at ", u64::from(place.segment))?;
     push_counted(line, ":", place.word as u64)

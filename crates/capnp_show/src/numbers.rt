@@ -1,7 +1,7 @@
 //! Numbers, as they are added to output.
 ghost use Rattle.std.specs.Prelude.{◌≡◌, ◌++◌, OnOk, decimal, string_bytes};
 ghost use Rattle.hex.specs.Hex.{encode_lower};
-ghost use Rattle.capnp_show.specs.Output.{counted};
+ghost use Rattle.capnp_show.specs.Output.{with_number};
 
 use itoa::Buffer;
 use std::alloc::AllocError;
@@ -22,7 +22,7 @@ pub fn push_decimal(output: &mut String, number: u64) -> Result<(), AllocError>
 
 /// Adds words, and a number after them.
 pub fn push_counted(output: &mut String, words: &str, number: u64) -> Result<(), AllocError>
-    ensures { OnOk result (string_bytes output.new ≡ string_bytes output.old ++ counted words.now number) }
+    ensures { OnOk result (string_bytes output.new ≡ string_bytes output.old ++ with_number words.now number) }
 {
     output.push_str(words)?;
     push_decimal(output, number)

@@ -5,7 +5,7 @@
 ghost use Rattle.std.specs.Prelude.{◌≡◌, ◌<◌, ◌+◌, ◌*◌, ℕ, List, Some, length, slice_get, slice_range, IfOk, IfErr, MatchOption};
 ghost use Rattle.capnp_layout.specs.Prelude.{room_of, message_of, word_at, words_of};
 ghost use Rattle.capnp_layout.specs.declared.pointer.FarPointer.{FarPointer};
-ghost use Rattle.capnp_show.specs.Objects.{counted, further, landing_pad_words, IsFarIn, IsObject, PlaceError};
+ghost use Rattle.capnp_show.specs.Objects.{object_traversed, further, landing_pad_words, IsFarIn, IsFoundObject, PlaceError};
 
 use capnp::layout::{
     Body, ElementSize, FarPointer, Place, PointerWord, body_at, resolve, segment, word,
@@ -28,7 +28,7 @@ pub struct Object {
 pub fn object_at<S: ReaderSegments>(segments: &S, place: Place) -> Result<Option<Object>>
     ensures found { let there = S.segments segments.now in IfOk result (λ found.
         MatchOption found (word_at (message_of there) place ≡ Some 0)
-        (λ object. IsObject there place object)) }
+        (λ object. IsFoundObject there place object)) }
     ensures errors { IfErr result (λ error.
         PlaceError (S.segments segments.now) place error.kind) }
 {
@@ -82,7 +82,7 @@ impl Object {
 
     /// The number of words that count against the limit, with those of the landing pad.
     pub fn traversed(&self) -> u64
-        ensures { result ≡ counted self.now }
+        ensures { result ≡ object_traversed self.now }
     {
         let landing_pad = match self.far {
             Some(far) => words_of_landing_pad(far),

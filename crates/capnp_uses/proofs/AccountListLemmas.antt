@@ -11,8 +11,8 @@ use Rattle.capnp_wire.specs.Prelude.{structs, Trees, none, tree, total_words, Is
 use Rattle.capnp_values.specs.DataSections.{with_bits, with_field}
 use Rattle.capnp_orphans.specs.declared.draft.StructDraft.{StructDraft}
 use Rattle.capnp_orphans.specs.Segments.{Segment, body_of, Appends}
-use Rattle.capnp_orphans.specs.Holds.{HoldsValue, HoldsStructs, AreValues, TakesStructs, ManyStructs, words_of_each, adopted_by}
-use Rattle.capnp_orphans.specs.Adding.{Keeps, Adds, RoomError}
+use Rattle.capnp_orphans.specs.Holds.{HoldsValue, HoldsStructs, AreValues, TakesStructsWords, ManyStructs, words_of_each, adopted_by}
+use Rattle.capnp_orphans.specs.Adding.{Keeps, AddsOrphan, RoomError}
 use Rattle.capnp_orphans.specs.OrphanLaws.{keeps_on, one_value_more, their_trees, structs_value}
 use Rattle.capnp_uses.specs.declared.account.Owned.{Owned}
 use Rattle.capnp_uses.specs.declared.account_list.NewAccount.{NewAccount}
@@ -81,7 +81,7 @@ drafted_next accounts i d old new after drafts pushed draft word words within ar
 
 -- the list of them
 pub list_drafted : {T : Type 0} (accounts : List NewAccount) (old new after : Segment) (drafts : List Drafted) (word : T → ℕ) (result : Result T Error) → AreDrafted accounts old new drafts
-    → Adds (HoldsStructs (body_of new) drafts) new after word result → Adds (HoldsValue (IsAccountList accounts)) old after word result
+    → AddsOrphan (HoldsStructs (body_of new) drafts) new after word result → AddsOrphan (HoldsValue (IsAccountList accounts)) old after word result
 list_drafted accounts old new after drafts word result are adds =
     let t = their_trees IsName (body_of new) accounts (adopted_by drafts) are.names in
     record {
@@ -91,7 +91,7 @@ list_drafted accounts old new after drafts word result are adds =
     }
 
 pub list_len : {T : Type 0} (accounts : List NewAccount) (old new after : Segment) (drafts : List Drafted) (result : Result T Error) → AreDrafted accounts old new drafts
-    → OnOk result ((words : ℕ) × TakesStructs 1 1 (length drafts) words × Appends words new after) → OnOk result (length after.bytes ≡ length old.bytes + 8 * list_words accounts)
+    → OnOk result ((words : ℕ) × TakesStructsWords 1 1 (length drafts) words × Appends words new after) → OnOk result (length after.bytes ≡ length old.bytes + 8 * list_words accounts)
 list_len accounts old new after drafts (Ok x) are (words, takes, appends) =
     let one = appended_len words new after appends in
     omega (arith, one, are.bytes, are.count, takes.2)
@@ -141,21 +141,21 @@ name_error accounts i d old new drafts kind within are (inr (words, has, room_er
     list_room_error accounts old kind (full_for (list_words accounts) words (sum_by name_words (take i accounts)) old new kind are.bytes are.most (omega (arith, sum, one)) room_error)
 
 -- why the list is not
-pub list_error : (accounts : List NewAccount) (old new : Segment) (drafts : List Drafted) (kind : ErrorKind) → AreDrafted accounts old new drafts
-    → ManyStructs 1 1 (length drafts) kind ⊎ ((words : ℕ) × TakesStructs 1 1 (length drafts) words × RoomError words new kind) → AccountsError accounts old kind
-list_error accounts old new drafts kind are (inl (inl (inl large, is))) = absurd (omega (arith, large))
-list_error accounts old new drafts kind are (inl (inl (inr large, is))) = absurd (omega (arith, large))
-list_error accounts old new drafts kind are (inl (inr (inl (fits, many, is)))) = inr (inr (inl (omega (arith, many, are.count)), (_, is)))
-list_error accounts old new drafts kind are (inl (inr (inr (fits, few, many, is)))) = inr (inr (inl (omega (arith, many, are.count)), (_, is)))
-list_error accounts old new drafts kind are (inr (words, takes, room_error)) =
+pub account_list_error : (accounts : List NewAccount) (old new : Segment) (drafts : List Drafted) (kind : ErrorKind) → AreDrafted accounts old new drafts
+    → ManyStructs 1 1 (length drafts) kind ⊎ ((words : ℕ) × TakesStructsWords 1 1 (length drafts) words × RoomError words new kind) → AccountsError accounts old kind
+account_list_error accounts old new drafts kind are (inl (inl (inl large, is))) = absurd (omega (arith, large))
+account_list_error accounts old new drafts kind are (inl (inl (inr large, is))) = absurd (omega (arith, large))
+account_list_error accounts old new drafts kind are (inl (inr (inl (fits, many, is)))) = inr (inr (inl (omega (arith, many, are.count)), (_, is)))
+account_list_error accounts old new drafts kind are (inl (inr (inr (fits, few, many, is)))) = inr (inr (inl (omega (arith, many, are.count)), (_, is)))
+account_list_error accounts old new drafts kind are (inr (words, takes, room_error)) =
     list_room_error accounts old kind
     (full_for (list_words accounts) words (sum_by name_words accounts) old new kind are.bytes are.most (omega (arith, takes.2, are.count)) room_error)
 
 pub list_kind : {T : Type 0} (accounts : List NewAccount) (old new : Segment) (drafts : List Drafted) (result : Result T Error) → AreDrafted accounts old new drafts
-    → IfErr result (λ error. ManyStructs 1 1 (length drafts) error.kind ⊎ ((words : ℕ) × TakesStructs 1 1 (length drafts) words × RoomError words new error.kind))
+    → IfErr result (λ error. ManyStructs 1 1 (length drafts) error.kind ⊎ ((words : ℕ) × TakesStructsWords 1 1 (length drafts) words × RoomError words new error.kind))
     → IfErr result (λ error. AccountsError accounts old error.kind)
 list_kind accounts old new drafts (Ok x) are kind = tt
-list_kind accounts old new drafts (Err e) are kind = list_error accounts old new drafts e.kind are kind
+list_kind accounts old new drafts (Err e) are kind = account_list_error accounts old new drafts e.kind are kind
 
 -- all of them, once the loop ends
 pub all_drafted : (accounts : List NewAccount) (i : ℕ) (old new : Segment) (drafts shown : List Drafted) → length accounts ≤ i → shown ≡ drafts

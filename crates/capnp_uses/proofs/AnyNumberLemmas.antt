@@ -8,7 +8,7 @@ use Rattle.capnp_wire.specs.declared.any_object.numbers.Numbers.{Numbers as Numb
 use Rattle.capnp_wire.specs.declared.any_object.reader.Reader.{Reader}
 use Rattle.capnp_wire.specs.declared.any_object.reader.Reader.TheVariants.{Null, Struct, Structs, Pointers, Numbers}
 use Rattle.capnp_layout.proofs.trees.TreeCountLemmas.{within_none}
-use Rattle.capnp_wire.proofs.views.ViewLemmas.{Decides, wrong_kind_once, wrong_kind_unlimited}
+use Rattle.capnp_wire.proofs.views.ViewErrorLemmas.{Decides, wrong_kind_once, wrong_kind_unlimited}
 use Rattle.capnp_uses.specs.AnyNumbers.{IsAnyNumbers, TakesAnyNumbers, AnyNumbersFormError}
 
 pub any_numbers_decide : Decides TakesAnyNumbers AnyNumbersFormError

@@ -7,14 +7,14 @@ use Rattle.capnp_frame.specs.declared.error.ErrorKind.{ErrorKind}
 use Rattle.capnp_frame.specs.declared.error.ErrorKind.TheVariants.{DeviceFailed, OutOfMemory}
 use Rattle.capnp_frame.specs.declared.io.Read.{Ghosts}
 use Rattle.capnp_frame.specs.Prelude.{Adds, ByKind, KeepsLimit, lengths, Giving, Refusing, Fails, next_in, ReadsStream, Grammar, AreEncodings, IsWritable, IsWithinSegmentLimit}
-use Rattle.capnp_frame.proofs.sources.SourceLemmas.{IfKnown-weaker}
-use Rattle.capnp_frame.proofs.encodings.EncodingLemmas.{PartsStreams}
+use Rattle.capnp_frame.proofs.sources.RequestSequenceLemmas.{IfKnown-weaker}
+use Rattle.capnp_frame.proofs.encodings.UniqueEncodingLemmas.{PartsStreams}
 use Rattle.capnp.specs.declared.streams.Format.{Format}
 use Rattle.capnp.specs.Prelude.{grammar_of, rules_of, IsEncodingOf, ErrorsAs, AppendsEach, SegmentCountErrorIn, OneOfError}
-use Rattle.capnp.proofs.ChunkLemmas.{format_memory}
+use Rattle.capnp.proofs.MessageChunkLemmas.{format_memory}
 use Rattle.capnp.proofs.RunLemmas.{format_lawful, format_requested, format_parts}
-use Rattle.capnp.proofs.ReaderLemmas.{nothing_found}
-use Rattle.capnp.proofs.AppendedLemmas.{appended_encodings}
+use Rattle.capnp.proofs.SourceEncodingLemmas.{nothing_found}
+use Rattle.capnp.proofs.MessageSequenceLemmas.{appended_encodings}
 
 -- encodings of as many messages are those of the same messages
 encodings_same : {IsEncoding : Grammar} {rule : Padding} {gives : Giving} {refuses : Refusing} {limit : Option ℕ}
@@ -53,11 +53,11 @@ read_same rule format limit segments of xs ms raw left had encodings many =
     (length-map xs segments ∙ many ∙ sym (length-map ms of))
 
 -- after them none is
-pub none_left : {S X : Type 0} (rule : Padding) (format : Format) (limit : Option ℕ) (segments : X → List (List ℕ)) (end : Option X)
+pub no_message_left : {S X : Type 0} (rule : Padding) (format : Format) (limit : Option ℕ) (segments : X → List (List ℕ)) (end : Option X)
     (source : Ghosts S) (old new : S) → source.unread old ≡ Some []
     → ReadsStream source old new (rules_of rule format) limit (next_in segments (Ok end)) → end ≡ None
-none_left rule format limit segments None source old new none reads = refl
-none_left rule format limit segments (Some x) source old new none reads = absurd (nothing_found rule (format_lawful format) (segments x) (source.unread old) (source.unread new) none
+no_message_left rule format limit segments None source old new none reads = refl
+no_message_left rule format limit segments (Some x) source old new none reads = absurd (nothing_found rule (format_lawful format) (segments x) (source.unread old) (source.unread new) none
     (IfKnown-weaker (source.unread old) (source.unread new) (λ raw rest. (format_requested rule format (segments x) raw rest).1) reads.found))
 
 -- what is appended to a vector fails for too many segments, or for want of memory

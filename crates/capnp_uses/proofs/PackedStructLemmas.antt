@@ -7,8 +7,8 @@ use Rattle.capnp_frame.specs.declared.error.ErrorKind.{ErrorKind}
 use Rattle.capnp_frame.specs.declared.error.ErrorKind.TheVariants.{DeviceFailed, OutOfMemory}
 use Rattle.capnp_frame.specs.Prelude.{Fails, Adds, KeepsLimit, default_limit, lengths, IsWritable, IsWithinSegmentLimit, TakesMemory}
 use Rattle.capnp_frame.specs.declared.serialize.segment_table.Padding.TheVariants.{Zero}
-use Rattle.capnp_frame.proofs.encodings.SizeLemmas.{HasTable-writable}
-use Rattle.capnp_frame.proofs.encodings.EncodingLemmas.{encodings_part}
+use Rattle.capnp_frame.proofs.encodings.FramedSizeLemmas.{HasTable-writable}
+use Rattle.capnp_frame.proofs.encodings.UniqueEncodingLemmas.{encodings_part}
 use Rattle.capnp_pack.specs.Prelude.{unpacking}
 use Rattle.capnp_pack.proofs.encodings.PackedFrameLemmas.{packed_requests, packed_encoding_is}
 use Rattle.capnp_wire.specs.Prelude.{default_root, Form, root, NoWord, Pointer, Struct, HasData, IsStruct, Reads, ViewError, StructFormError}
@@ -16,8 +16,8 @@ use Rattle.capnp.specs.declared.streams.Format.TheVariants.{Packed}
 use Rattle.capnp.specs.Prelude.{gives_of, BeginsPacked, NextError, IsPackedEncodingOf}
 use Rattle.capnp_uses.specs.Reading.{ShowsPackedStruct}
 use Rattle.capnp_uses.specs.Roots.{HasPlainRoot, PackedStructError}
-use Rattle.capnp.proofs.StreamLemmas.{slice_error}
-use Rattle.capnp.proofs.WriterLemmas.{IsWithin-written}
+use Rattle.capnp.proofs.SliceStreamLemmas.{slice_reader_error}
+use Rattle.capnp.proofs.PlainSinkLemmas.{IsWithin-written}
 
 packed_read : (limit : Option ℕ) (read message : List (List ℕ)) (encoding left : List ℕ) → BeginsPacked Zero limit read encoding left → IsWritable message → IsPackedEncodingOf message encoding → read ≡ message
 packed_read limit read message encoding left begins writable packed =
@@ -41,7 +41,7 @@ shown_encoding message encoding shown same packed = subst (λ l. IsPackedEncodin
 pub packed_fails : (kind : ErrorKind) (old new : List ℕ) → (kind ≡ DeviceFailed → Fails 0 0)
     → (kind ≡ DeviceFailed) ⊎ ((kind ≡ OutOfMemory) × TakesMemory Zero (gives_of Packed) default_limit old new)
     ⊎ NextError Zero Packed default_limit kind old new → PackedStructError old kind
-packed_fails kind old new failed errors = elim (slice_error Zero Packed default_limit kind old new failed errors) [
+packed_fails kind old new failed errors = elim (slice_reader_error Zero Packed default_limit kind old new failed errors) [
   | inl memory ↦ inl memory
   | inr ends ↦ inr (inl ends)
 ]

@@ -7,12 +7,12 @@ use Rattle.capnp_wire.specs.declared.any_object.numbers.Numbers.{Numbers}
 use Rattle.capnp_uses.specs.declared.any_numbers.Reader.{Reader}
 
 -- the bits of each element; none where there is no list
-abbrev pub values_of : Option Numbers → List ℕ
-values_of None = []
-values_of (Some list) = sized_numbers_of list
+abbrev pub element_bits : Option Numbers → List ℕ
+element_bits None = []
+element_bits (Some list) = sized_numbers_of list
 
 abbrev pub any_numbers_of : Reader → List ℕ
-any_numbers_of list = values_of list.numbers
+any_numbers_of list = element_bits list.numbers
 
 -- none for null, those of a list of numbers of any width
 abbrev pub IsAnyNumbers : Form → List ℕ → Type 0

@@ -31,18 +31,18 @@ abbrev pub contact_tree : ℕ → List ℕ → List ℕ → List (List ℕ) → 
 contact_tree id name mail words numbers_of_phones = tree (struct (id ∷ [])) (text_tree name (text_tree mail (phones_tree words numbers_of_phones))) none
 
 -- a value of these texts is too large: one of them is too long for a text, or the tree has 2 ^ 29 words; the error carries a size
-abbrev pub IsTooLarge : List (List ℕ) → Trees → ErrorKind → Type 0
-IsTooLarge texts trees kind = Any (λ bytes. LongText bytes kind) texts
+abbrev pub TooLargeError : List (List ℕ) → Trees → ErrorKind → Type 0
+TooLargeError texts trees kind = Any (λ bytes. LongText bytes kind) texts
     ⊎ ((2 ^ 29 ≤ total_words trees) × ((size : ℕ) × (kind ≡ AllocationTooLarge size)))
 
 -- Why a message in which a value of these texts and this tree was to be the root is not read back, and what that leaves.
 -- The root is null: the value is too large, the first segment is not handed out, or no segment has room. Or the value is
 -- the root: the message has too many segments or words, or memory is lacking.
 abbrev pub ReadBackError : {A S : Type 0} → Ghosts A S → List (List ℕ) → Trees → Option ℕ → Built A → Built A → ErrorKind → Type 0
-ReadBackError alloc texts trees limit old new kind = StaysUnset alloc (λ found. found ≡ trees) (IsTooLarge texts trees) old new kind
+ReadBackError alloc texts trees limit old new kind = StaysUnset alloc (λ found. found ≡ trees) (TooLargeError texts trees) old new kind
     ⊎ StaysUnread alloc (λ found. found ≡ trees) limit old new kind
 
 -- why the canonical form of such a value does not become the one segment of a new message: the first segment is not handed
 -- out, or it is, and the value is too large, its form is, or the form has no room there
 abbrev pub AloneError : {A S : Type 0} → Ghosts A S → List (List ℕ) → Trees → Built A → Built A → ErrorKind → Type 0
-AloneError alloc texts trees = SetCanonicalError alloc (λ found. found ≡ trees) (IsTooLarge texts trees)
+AloneError alloc texts trees = SetCanonicalError alloc (λ found. found ≡ trees) (TooLargeError texts trees)

@@ -13,7 +13,7 @@ use Rattle.capnp.specs.Prelude.{ExternalError, IsMemoryError, IsLog, grammar_of,
 -- What a call returns that reads past the next message of a stream, of zero padding, and returns
 -- whether there was one. `source` is what is seen of the source (the members of the trait Read),
 -- which is `old` before the call and `new` after it.
-pub record SkipsMessage {S : Type 0} (source : Ghosts S) (old new : S) (format : Format) (limit : Option ℕ) (result : Result Bool Error)
+pub record SkipsNextMessage {S : Type 0} (source : Ghosts S) (old new : S) (format : Format) (limit : Option ℕ) (result : Result Bool Error)
     : Type 0 where
   -- true is returned for a message within the limit whose encoding was next, and only that encoding
   -- is consumed

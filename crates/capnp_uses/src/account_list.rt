@@ -1,6 +1,6 @@
 //! Accounts that are written from the bottom up, as a list, and read back.
 ghost use Rattle.std.specs.Prelude.{◌≡◌, ◌⊎◌, ◌+◌, ◌*◌, ◌∷◌, [], length, OnOk, IfOk, IfErr};
-ghost use Rattle.capnp_orphans.specs.Adding.{Adds};
+ghost use Rattle.capnp_orphans.specs.Adding.{AddsOrphan};
 ghost use Rattle.capnp_orphans.specs.Holds.{HoldsValue, word_of};
 ghost use Rattle.capnp_uses.specs.AccountLists.{AccountsLimitError, IsAccountList, AccountsError, list_words, new_segment};
 ghost use Rattle.capnp_uses.specs.Roots.{HasRootOf};
@@ -41,7 +41,7 @@ pub fn list_of_accounts<S: GrowingSegment>(
     objects: &mut Orphanage<S>,
     accounts: &[NewAccount<'_>],
 ) -> Result<Orphan<struct_list::Owned>>
-    ensures adds { Adds (HoldsValue (IsAccountList accounts.now)) objects.old objects.new
+    ensures adds { AddsOrphan (HoldsValue (IsAccountList accounts.now)) objects.old objects.new
         word_of result }
     ensures words { OnOk result (length objects.new.bytes
         ≡ length objects.old.bytes + 8 * list_words accounts.now) }

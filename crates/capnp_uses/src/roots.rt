@@ -1,7 +1,7 @@
 //! Roots that are copied from a message that is read, and values that are set and read back.
 ghost use Rattle.std.specs.Prelude.{◌≡◌, ◌⊎◌, false, true, IfOk, IfErr, OnOk, OnErr};
 ghost use Rattle.capnp_frame.specs.Prelude.{KeepsLimit, lengths, IsWritable, IsWithinSegmentLimit};
-ghost use Rattle.capnp_wire.specs.Prelude.{root, NoWord, HasWords, LeadsToTree, WalkErrorFrom, IsTextTree, LongText};
+ghost use Rattle.capnp_wire.specs.Prelude.{root, NoWord, HasWords, PointsToTree, WalkErrorFrom, IsTextTree, LongText};
 ghost use Rattle.capnp_build.specs.Prelude.{KeepsOthers, IsSet, state_of, IsCleared, IsPut};
 ghost use Rattle.capnp_message.specs.Seen.{root_of};
 ghost use Rattle.capnp.specs.Prelude.{output_of};
@@ -20,13 +20,13 @@ pub fn copy_root<S: ReaderSegments, A: Allocator>(
     reader: &Reader<S>,
 ) -> Result<()>
     ensures set { OnOk result
-        (IsSet (LeadsToTree (root_of S.segments reader.now)) false message.new.spaces) }
+        (IsSet (PointsToTree (root_of S.segments reader.now)) false message.new.spaces) }
     ensures placed { OnOk result (IsPut A.Allocator
-        (HasWords (LeadsToTree (root_of S.segments reader.now)) false) message.old message.new) }
+        (HasWords (PointsToTree (root_of S.segments reader.now)) false) message.old message.new) }
     // The message stays as it was where the root's word can't be read, and else its root is null.
     ensures errors { let pointer = root_of S.segments reader.now in IfErr result (λ error.
         NoWord pointer.message root error.kind × (message.new ≡ message.old)
-        ⊎ StaysUnset A.Allocator (LeadsToTree pointer) (WalkErrorFrom pointer)
+        ⊎ StaysUnset A.Allocator (PointsToTree pointer) (WalkErrorFrom pointer)
         message.old message.new error.kind) }
 {
     let root: any_pointer::Reader<'_, S> = reader.get_root()?;

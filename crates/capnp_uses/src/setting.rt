@@ -1,6 +1,6 @@
 //! Roots that are set to what another message holds, and messages that are written right after.
 ghost use Rattle.std.specs.Prelude.{◌≡◌, ◌⊎◌, ◌<◌, ◌∷◌, [], ℕ, List, length, slice_set, false, true, OnOk, IfOk, IfErr};
-ghost use Rattle.capnp_wire.specs.Prelude.{Form, Trees, none, tree, struct, Root, canon, pointer_of, StructFormError, HasWords, LeadsToTree, WalkErrorFrom};
+ghost use Rattle.capnp_wire.specs.Prelude.{Form, Trees, none, tree, struct, Root, canon, pointer_of, StructFormError, HasWords, PointsToTree, WalkErrorFrom};
 ghost use Rattle.capnp_build.specs.Prelude.{message, IsSet, SetsRoot, SetsRootCanonical, IsPut};
 ghost use Rattle.capnp.specs.Prelude.{IsFrameEncoding, output_of};
 ghost use Rattle.capnp_uses.specs.Roots.{IsSetWithWord, StaysUnset, StaysUnwritten, StaysWithoutForm};
@@ -17,10 +17,10 @@ pub fn set_tree<A: Allocator, S: ReaderSegments>(
     source: any_pointer::Reader<'_, S>,
 ) -> Result<()>
     ensures set { (form : Form) (children : Trees) →
-        LeadsToTree (pointer_of S.segments source.entry) (tree form children none) →
+        PointsToTree (pointer_of S.segments source.entry) (tree form children none) →
         OnOk result ((traversed : ℕ) × Root (message built.new.spaces) form children traversed) }
     ensures root { let pointer = pointer_of S.segments source.entry in
-        SetsRoot A.Allocator (LeadsToTree pointer) (WalkErrorFrom pointer)
+        SetsRoot A.Allocator (PointsToTree pointer) (WalkErrorFrom pointer)
         built.old built.new result }
 {
     built.set_root::<any_pointer::Owned, any_pointer::Reader<'_, S>>(source)
@@ -34,18 +34,18 @@ pub fn set_tree_and_word<A: Allocator, S: ReaderSegments>(
     word: u64,
 ) -> Result<()>
     ensures set { (words : List ℕ) (children : Trees) → 0 < length words →
-        LeadsToTree (pointer_of S.segments source.entry) (tree (struct words) children none) →
+        PointsToTree (pointer_of S.segments source.entry) (tree (struct words) children none) →
         OnOk result ((traversed : ℕ)
         × Root (message built.new.spaces) (struct (slice_set words 0 word)) children traversed) }
     // Where it succeeds, the pointer leads to a struct, or to null, and then the root is null.
-    ensures is_set { OnOk result (IsSetWithWord (LeadsToTree (pointer_of S.segments source.entry))
+    ensures is_set { OnOk result (IsSetWithWord (PointsToTree (pointer_of S.segments source.entry))
         word built.new.spaces) }
     // It fails as setting the root does, and then the root is null, or where what is set is no
     // struct.
     ensures errors { let pointer = pointer_of S.segments source.entry in IfErr result (λ error.
-        StaysUnset A.Allocator (LeadsToTree pointer) (WalkErrorFrom pointer)
+        StaysUnset A.Allocator (PointsToTree pointer) (WalkErrorFrom pointer)
         built.old built.new error.kind
-        ⊎ ((form : Form) × (children : Trees) × LeadsToTree pointer (tree form children none)
+        ⊎ ((form : Form) × (children : Trees) × PointsToTree pointer (tree form children none)
         × StructFormError form error.kind)) }
 {
     set_tree(built, source)?;
@@ -62,10 +62,10 @@ pub fn set_canonical<A: Allocator, S: ReaderSegments>(
     source: any_pointer::Reader<'_, S>,
 ) -> Result<()>
     requires { built.old.spaces ≡ [] }
-    ensures set { (trees : Trees) → LeadsToTree (pointer_of S.segments source.entry) trees →
+    ensures set { (trees : Trees) → PointsToTree (pointer_of S.segments source.entry) trees →
         OnOk result (message built.new.spaces ≡ canon trees ∷ []) }
     ensures root { let pointer = pointer_of S.segments source.entry in
-        SetsRootCanonical A.Allocator (LeadsToTree pointer) (WalkErrorFrom pointer)
+        SetsRootCanonical A.Allocator (PointsToTree pointer) (WalkErrorFrom pointer)
         built.old built.new result }
 {
     built.set_root_canonical::<any_pointer::Owned, any_pointer::Reader<'_, S>>(source)

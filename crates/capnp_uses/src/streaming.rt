@@ -3,7 +3,7 @@ ghost use Rattle.std.specs.Prelude.{◌≡◌, IfSome, IfOk};
 ghost use Rattle.capnp_frame.specs.declared.message.options.TheConstants.{DEFAULT_READER_OPTIONS};
 ghost use Rattle.capnp_frame.specs.declared.serialize.segment_table.Padding.TheVariants.{Zero};
 ghost use Rattle.capnp.specs.Prelude.{by_format, ReadsMessage};
-ghost use Rattle.capnp_uses.specs.Streaming.{SkipsMessage, ReadsTwo};
+ghost use Rattle.capnp_uses.specs.Streaming.{SkipsNextMessage, ReadsTwo};
 
 use capnp::Result;
 use capnp::io::BufRead;
@@ -35,7 +35,7 @@ pub fn skip_message<R: BufRead>(
     format: Format,
     options: ReaderOptions,
 ) -> Result<bool>
-    ensures { SkipsMessage R.Read source.old source.new format options.traversal_limit_in_words
+    ensures { SkipsNextMessage R.Read source.old source.new format options.traversal_limit_in_words
         result }
 {
     let message = next_message(alloc, source, format, options)?;

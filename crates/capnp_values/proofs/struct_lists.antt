@@ -1,7 +1,7 @@
 -- Lists of structs.
-pub mod StructListLemmas
+pub mod ElementTreeLemmas
 pub mod ElementWriteLemmas
-pub mod StructListValueLemmas
-pub mod StructListCopyLemmas
+pub mod StructListMeasureLemmas
+pub mod StructListWriteLemmas
 pub mod ElementMeasureLemmas
 pub mod ElementKeptLemmas

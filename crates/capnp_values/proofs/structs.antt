@@ -1,5 +1,5 @@
 -- Structs: their data words, and their pointer fields.
-pub mod KeptLemmas
+pub mod PointersKeptLemmas
 pub mod FieldWriteLemmas
-pub mod StructLemmas
-pub mod SectionLemmas
+pub mod StructTreeLemmas
+pub mod StructSectionLemmas

@@ -1,7 +1,7 @@
 -- Values as parts of others: their trees, and the words that are measured of these.
-pub mod PartLemmas
-pub mod ResultLemmas
-pub mod NullLemmas
-pub mod AsIsLemmas
-pub mod MeasuredLemmas
-pub mod SourceLemmas
+pub mod ValuePartLemmas
+pub mod MeasureResultLemmas
+pub mod NullValueLemmas
+pub mod UntrimmedValueLemmas
+pub mod ValueWordLemmas
+pub mod LazyValueLemmas

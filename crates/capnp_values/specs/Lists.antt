@@ -30,7 +30,7 @@ pub record AreItemsWritten (has_trees : Trees → Type 0) (canonical : Bool) (sl
   pub next_is : (trees : Trees) → has_trees trees → free ≡ slot + n + total_words (output canonical trees)
 
 -- the list of pointers to some values
-pub record IsPointerList {V : Type 0} (has_tree : V → Trees → Type 0) (values : List V) (trees : Trees) : Type 0 where
+pub record IsPointerListTree {V : Type 0} (has_tree : V → Trees → Type 0) (values : List V) (trees : Trees) : Type 0 where
   pub children : Trees
   pub children_is : AreItems has_tree values children
   pub few : length values < 2 ^ 29

@@ -8,14 +8,14 @@ use Rattle.capnp_wire.specs.declared.traits.TreeWords.{TreeWords}
 
 -- the words of some trees, as they are and in the form that is written
 abbrev pub tree_words : Bool → Trees → TreeWords
-tree_words canonical trees = record { as_is = total_words trees; output = total_words (output canonical trees) }
+tree_words canonical trees = record { untrimmed = total_words trees; output = total_words (output canonical trees) }
 
 -- and those of some trees and of others
 abbrev pub both_words : TreeWords → TreeWords → TreeWords
-both_words a b = record { as_is = a.as_is + b.as_is; output = a.output + b.output }
+both_words a b = record { untrimmed = a.untrimmed + b.untrimmed; output = a.output + b.output }
 
 -- what is measured of trees that have room, however many words they have, or why there are none
-pub record Measures (has_trees : Trees → Type 0) (fails : ErrorKind → Type 0) (canonical : Bool) (result : Result TreeWords Error) : Type 0 where
+pub record MeasuresValue (has_trees : Trees → Type 0) (fails : ErrorKind → Type 0) (canonical : Bool) (result : Result TreeWords Error) : Type 0 where
   pub returned : MatchResult result (λ words. (trees : Trees) × has_trees trees × AllHaveRoom trees × (words ≡ tree_words canonical trees)) (λ error. fails error.kind)
   pub found : (trees : Trees) → has_trees trees → result ≡ Ok (tree_words canonical trees)
   pub exact : (kind : ErrorKind) → fails kind → IsErrAnd result (λ error. error.kind ≡ kind)

@@ -6,7 +6,7 @@ use Rattle.capnp_frame.specs.declared.error.ErrorKind.{ErrorKind}
 use Rattle.capnp_frame.specs.declared.error.ErrorKind.TheVariants.{AllocationTooLarge}
 use Rattle.capnp_layout.specs.Prelude.{structs, Trees, none, tree, total_words, first, following, before, least_data, least_pointers, narrowed, trim, run, output, put, fill}
 use Rattle.capnp_wire.specs.declared.traits.TreeWords.{TreeWords}
-use Rattle.capnp_values.specs.Measured.{Measures}
+use Rattle.capnp_values.specs.Measured.{MeasuresValue}
 
 -- the trees of one struct's fields, in front of those of others
 pub record IsStructInFront (has_fields has_rest : Trees → Type 0) (trees : Trees) : Type 0 where
@@ -28,7 +28,7 @@ ElementsError has_trees fails (value ∷ values) kind =
     fails value kind ⊎ ((fields : Trees) × has_trees value fields × ElementsError has_trees fails values kind)
 
 -- the list of some structs, each of d data words and p pointers
-pub record IsStructList {V : Type 0} (words : V → List ℕ) (has_trees : V → Trees → Type 0) (d p : ℕ) (values : List V) (trees : Trees) : Type 0 where
+pub record IsStructListTree {V : Type 0} (words : V → List ℕ) (has_trees : V → Trees → Type 0) (d p : ℕ) (values : List V) (trees : Trees) : Type 0 where
   pub children : Trees
   pub children_is : AreElements has_trees values children
   pub few_words : d < 2 ^ 16
@@ -60,8 +60,8 @@ abbrev pub element_pointers : Bool → ℕ → List (List ℕ) → Trees → ℕ
 element_pointers true p elements children = least_pointers p elements (trim children)
 element_pointers false p elements children = p
 
-abbrev pub shown : Bool → ℕ → ℕ → List (List ℕ) → Trees → Trees
-shown canonical m p elements children = narrowed m p elements (output canonical children)
+abbrev pub output_children : Bool → ℕ → ℕ → List (List ℕ) → Trees → Trees
+output_children canonical m p elements children = narrowed m p elements (output canonical children)
 
 -- each element has d words of data
 abbrev pub AreEven : ℕ → List (List ℕ) → Type 0
@@ -70,7 +70,7 @@ AreEven d elements = All (λ element. (length element ≡ d) × All (λ w. w < 2
 -- what is measured of some structs of d data words each: the words of all that they lead to, or why
 -- one of them fails
 pub record MeasuresElements {V : Type 0} (words : V → List ℕ) (has_trees : V → Trees → Type 0) (fails : V → ErrorKind → Type 0) (canonical : Bool) (d : ℕ) (values : List V) (result : Result TreeWords Error) : Type 0 where
-  pub measured : Measures (λ t. AreElements has_trees values t) (λ k. ElementsError has_trees fails values k) canonical result
+  pub measured : MeasuresValue (λ t. AreElements has_trees values t) (λ k. ElementsError has_trees fails values k) canonical result
   pub even : IfOk result (λ _. AreEven d (map words values))
 
 -- elements from this word of a block on, each in front of its p pointers, and what these lead to from
@@ -89,11 +89,11 @@ pub record HasRoomForElements {V : Type 0} (words : V → List ℕ) (has_trees :
   pub few_pointers : p < 2 ^ 16
   pub data_fits : d ≤ most
   pub pointers_are : m ≡ element_pointers canonical p (map words values) children
-  pub fits : next + total_words (shown canonical m p (map words values) children) ≤ room
+  pub fits : next + total_words (output_children canonical m p (map words values) children) ≤ room
 
 -- the elements of a list are in a block from this word on, and what their pointers lead to from
 -- another one on, up to the first free word
 pub record AreElementsWritten {V : Type 0} (words : V → List ℕ) (has_trees : V → Trees → Type 0) (canonical : Bool) (d m p : ℕ) (values : List V) (at next : ℕ) (old new : List ℕ) (free : ℕ) : Type 0 where
   pub words_are : (children : Trees) → AreElements has_trees values children
-      → new ≡ fill_elements m at (map (take d) (map words values)) next (shown canonical m p (map words values) children) old
-  pub next_is : (children : Trees) → AreElements has_trees values children → free ≡ next + total_words (shown canonical m p (map words values) children)
+      → new ≡ fill_elements m at (map (take d) (map words values)) next (output_children canonical m p (map words values) children) old
+  pub next_is : (children : Trees) → AreElements has_trees values children → free ≡ next + total_words (output_children canonical m p (map words values) children)

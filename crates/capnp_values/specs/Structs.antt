@@ -6,7 +6,7 @@ use Rattle.capnp_frame.specs.declared.error.ErrorKind.TheVariants.{AllocationToo
 use Rattle.capnp_layout.specs.Prelude.{struct, Trees, none, tree, cut_zeros}
 
 -- data words, and this many pointers
-pub record IsStruct (words : List ℕ) (size : ℕ) (has_trees : Trees → Type 0) (trees : Trees) : Type 0 where
+pub record IsStructTree (words : List ℕ) (size : ℕ) (has_trees : Trees → Type 0) (trees : Trees) : Type 0 where
   pub children : Trees
   pub children_is : has_trees children
   pub few_words : length words < 2 ^ 16

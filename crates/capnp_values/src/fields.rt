@@ -4,7 +4,7 @@ ghost use Rattle.std.specs.Result.{IsErrAnd};
 ghost use Rattle.capnp_frame.specs.declared.error.ErrorKind.{ErrorKind};
 ghost use Rattle.capnp_layout.specs.Prelude.{words_of, Trees, count, total_words};
 ghost use Rattle.capnp_wire.specs.Prelude.{IsFreeFrom};
-ghost use Rattle.capnp_values.specs.Measured.{Measures};
+ghost use Rattle.capnp_values.specs.Measured.{MeasuresValue};
 ghost use Rattle.capnp_values.specs.Fields.{IsSettled, HasTotal, kept_fields, CanWriteFields, AreFieldsWritten};
 
 mod field;
@@ -36,12 +36,12 @@ pub trait Fields {
     /// Fails with a kind that `fails` names.
     fn measure(&self, canonical: bool) -> Result<TreeWords>
         requires { size < 2 ^ 16 }
-        ensures { Measures (has_trees self.now) (fails self.now) canonical result };
+        ensures { MeasuresValue (has_trees self.now) (fails self.now) canonical result };
 
     /// The number of words of all that the pointers lead to, with each value as it is.
     ///
     /// Fails with a kind that `fails` names.
-    fn as_is(&self) -> Result<u64>
+    fn untrimmed(&self) -> Result<u64>
         requires { size < 2 ^ 16 }
         ensures returned { MatchResult result (λ words. HasTotal (has_trees self.now) words)
             (λ error. fails self.now error.kind) }
@@ -51,7 +51,7 @@ pub trait Fields {
             IsErrAnd result (λ error. error.kind ≡ kind) }
     {
         let words = self.measure(false)?;
-        Ok(words.as_is)
+        Ok(words.untrimmed)
     }
 
     /// How many pointers are kept, as they are or in canonical form.

@@ -2,7 +2,7 @@
 ghost use Rattle.std.specs.Prelude.{◌≡◌, ◌+◌, ◌<◌, ◌≤◌, ◌^◌, false, length};
 ghost use Rattle.capnp_layout.specs.Prelude.{words_of};
 ghost use Rattle.capnp_wire.specs.Prelude.{IsFreeFrom};
-ghost use Rattle.capnp_values.specs.Measured.{Measures};
+ghost use Rattle.capnp_values.specs.Measured.{MeasuresValue};
 ghost use Rattle.capnp_values.specs.Lists.{AreItems, ValuesError, HasRoomForItems, AreItemsWritten};
 
 use crate::measured::both;
@@ -16,14 +16,14 @@ use capnp_wire::traits::{SetterInput, TreeWords};
 /// Fails as the first of them does that fails as it is.
 pub(crate) fn measure_items<T, S: ValueSource<T>>(items: &S, canonical: bool) -> Result<TreeWords>
     requires { length (S.items items.now) < 2 ^ 29 }
-    ensures { Measures (AreItems (S.has_tree items.now) (S.items items.now))
+    ensures { MeasuresValue (AreItems (S.has_tree items.now) (S.items items.now))
         (ValuesError (S.has_tree items.now) (S.fails items.now) (S.items items.now)) canonical result }
 {
     if !canonical {
-        return as_is_items::<T, S>(items);
+        return untrimmed_items::<T, S>(items);
     }
     let mut words = TreeWords {
-        as_is: 0,
+        untrimmed: 0,
         output: 0,
     };
     let count = items.len();
@@ -37,9 +37,9 @@ pub(crate) fn measure_items<T, S: ValueSource<T>>(items: &S, canonical: bool) ->
 
 // The number of words of all these values, of which no canonical form is written.
 // Speed: one sum serves for both numbers, and stays in a register (`tools/time-building`).
-fn as_is_items<T, S: ValueSource<T>>(items: &S) -> Result<TreeWords>
+fn untrimmed_items<T, S: ValueSource<T>>(items: &S) -> Result<TreeWords>
     requires { length (S.items items.now) < 2 ^ 29 }
-    ensures { Measures (AreItems (S.has_tree items.now) (S.items items.now))
+    ensures { MeasuresValue (AreItems (S.has_tree items.now) (S.items items.now))
         (ValuesError (S.has_tree items.now) (S.fails items.now) (S.items items.now)) false result }
 {
     let mut words = 0;
@@ -50,7 +50,7 @@ fn as_is_items<T, S: ValueSource<T>>(items: &S) -> Result<TreeWords>
         words += own as u64;
     }
     Ok(TreeWords {
-        as_is: words,
+        untrimmed: words,
         output: words,
     })
 }

@@ -38,11 +38,11 @@ impl<T, S> LazyPointerList<T, S> {
 // The trees of the source's values, in order. It fails as a list of these values in memory does.
 impl<T, S: ValueSource<T>> SetterInput<Owned<T>> for LazyPointerList<T, S> {
     ghost use Rattle.capnp_layout.specs.Tree.{count};
-    ghost use Rattle.capnp_values.specs.Lists.{IsPointerList, PointerListError};
+    ghost use Rattle.capnp_values.specs.Lists.{IsPointerListTree, PointerListError};
     ghost use Rattle.std.proofs.Common.{ap};
 
     ghost has_tree = { λ value trees.
-        IsPointerList (S.has_tree value.source) (S.items value.source) trees };
+        IsPointerListTree (S.has_tree value.source) (S.items value.source) trees };
 
     ghost fails = { λ value kind. PointerListError (S.has_tree value.source)
         (S.fails value.source) (S.items value.source) kind };

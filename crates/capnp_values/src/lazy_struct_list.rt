@@ -32,10 +32,10 @@ impl<S> LazyStructList<S> {
 // list of these structs in memory does.
 impl<S: StructSource> SetterInput<Owned> for LazyStructList<S> {
     ghost use Rattle.capnp_layout.specs.Tree.{count};
-    ghost use Rattle.capnp_values.specs.StructLists.{IsStructList, StructListError};
+    ghost use Rattle.capnp_values.specs.StructLists.{IsStructListTree, StructListError};
     ghost use Rattle.std.proofs.Common.{ap};
 
-    ghost has_tree = { λ value trees. IsStructList (S.words value.source)
+    ghost has_tree = { λ value trees. IsStructListTree (S.words value.source)
         (S.has_trees value.source) S.Value.data_words S.Value.size (S.items value.source) trees };
 
     ghost fails = { λ value kind. StructListError (S.has_trees value.source)

@@ -9,12 +9,12 @@ use capnp_wire::traits::TreeWords;
 
 /// The words of some trees and of others.
 pub(crate) fn both(words: TreeWords, others: TreeWords) -> TreeWords
-    requires as_is { words.as_is + others.as_is < 2 ^ 64 }
+    requires untrimmed { words.untrimmed + others.untrimmed < 2 ^ 64 }
     requires output { words.output + others.output < 2 ^ 64 }
     ensures { result ≡ both_words words others }
 {
     TreeWords {
-        as_is: words.as_is + others.as_is,
+        untrimmed: words.untrimmed + others.untrimmed,
         output: words.output + others.output,
     }
 }
@@ -22,9 +22,9 @@ pub(crate) fn both(words: TreeWords, others: TreeWords) -> TreeWords
 /// Returns the words of a part of a value. Fails with `AllocationTooLarge` where it has 2^29 words
 /// or more as it is.
 pub(crate) fn checked_part_words(words: TreeWords) -> Result<TreeWords>
-    ensures { MatchResult result (λ part. (part ≡ words) × (words.as_is < 2 ^ 29))
-        (λ error. (2 ^ 29 ≤ words.as_is) × (error.kind ≡ too_large false words.as_is)) }
+    ensures { MatchResult result (λ part. (part ≡ words) × (words.untrimmed < 2 ^ 29))
+        (λ error. (2 ^ 29 ≤ words.untrimmed) × (error.kind ≡ too_large false words.untrimmed)) }
 {
-    checked_word_count(words.as_is, false)?;
+    checked_word_count(words.untrimmed, false)?;
     Ok(words)
 }

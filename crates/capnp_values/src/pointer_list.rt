@@ -1,7 +1,7 @@
 //! Lists of pointers as values.
 ghost use Rattle.std.specs.Prelude.{◌≡◌};
-ghost use Rattle.capnp_values.specs.Measured.{Measures};
-ghost use Rattle.capnp_values.specs.Lists.{IsPointerList, PointerListError};
+ghost use Rattle.capnp_values.specs.Measured.{MeasuresValue};
+ghost use Rattle.capnp_values.specs.Lists.{IsPointerListTree, PointerListError};
 
 use crate::items::{measure_items, write_items};
 use crate::measured::checked_part_words;
@@ -40,10 +40,10 @@ impl<'a, T, V> PointerList<'a, T, V> {
 // that fails as it is fails here, too.
 impl<'a, T, V: SetterInput<T>> SetterInput<Owned<T>> for PointerList<'a, T, V> {
     ghost use Rattle.capnp_layout.specs.Tree.{count};
-    ghost use Rattle.capnp_values.specs.Lists.{IsPointerList, PointerListError};
+    ghost use Rattle.capnp_values.specs.Lists.{IsPointerListTree, PointerListError};
     ghost use Rattle.std.proofs.Common.{ap};
 
-    ghost has_tree = { λ value trees. IsPointerList V.has_tree value.items.now trees };
+    ghost has_tree = { λ value trees. IsPointerListTree V.has_tree value.items.now trees };
 
     ghost fails = { λ value kind.
         PointerListError V.has_tree V.fails value.items.now kind };
@@ -75,7 +75,7 @@ impl<'a, T, V: SetterInput<T>> SetterInput<Owned<T>> for PointerList<'a, T, V> {
 
 /// The number of words of a list of pointers to some values.
 pub(crate) fn measure_list<T, S: ValueSource<T>>(items: &S, canonical: bool) -> Result<TreeWords>
-    ensures { Measures (IsPointerList (S.has_tree items.now) (S.items items.now))
+    ensures { MeasuresValue (IsPointerListTree (S.has_tree items.now) (S.items items.now))
         (PointerListError (S.has_tree items.now) (S.fails items.now) (S.items items.now))
         canonical result }
 {
@@ -84,7 +84,7 @@ pub(crate) fn measure_list<T, S: ValueSource<T>>(items: &S, canonical: bool) -> 
         return Err(allocation_too_large(count));
     }
     let words = measure_items::<T, S>(items, canonical)?;
-    let as_is = count + words.as_is;
+    let untrimmed = count + words.untrimmed;
     let output = count + words.output;
-    Ok(TreeWords { as_is, output })
+    Ok(TreeWords { untrimmed, output })
 }

@@ -23,10 +23,10 @@ pub(crate) fn measure_elements<S: StructSource>(items: &S, canonical: bool) -> R
         canonical S.Value.data_words (S.items items.now) result }
 {
     if !canonical {
-        return as_is_elements(items);
+        return untrimmed_elements(items);
     }
     let mut words = TreeWords {
-        as_is: 0,
+        untrimmed: 0,
         output: 0,
     };
     let count = items.len();
@@ -42,7 +42,7 @@ pub(crate) fn measure_elements<S: StructSource>(items: &S, canonical: bool) -> R
 
 // The number of words of all that some structs lead to, of which no canonical form is written.
 // Speed: one sum serves for both numbers, and stays in a register (`tools/time-building`).
-fn as_is_elements<S: StructSource>(items: &S) -> Result<TreeWords>
+fn untrimmed_elements<S: StructSource>(items: &S) -> Result<TreeWords>
     requires pointers { S.Value.size < 2 ^ 16 }
     requires few { length (S.items items.now) * (S.Value.data_words + S.Value.size) < 2 ^ 29 }
     ensures { MeasuresElements (S.words items.now) (S.has_trees items.now) (S.fails items.now)
@@ -52,13 +52,13 @@ fn as_is_elements<S: StructSource>(items: &S) -> Result<TreeWords>
     let count = items.len();
     for index in 0..count {
         let item = items.get(index);
-        let own = item.as_is()?;
+        let own = item.untrimmed()?;
         // For the prover: this item has as many data words as its type says.
         let _data_words = item.words();
         words += own;
     }
     Ok(TreeWords {
-        as_is: words,
+        untrimmed: words,
         output: words,
     })
 }

@@ -31,10 +31,10 @@ impl<'a, E> StructList<'a, E> {
 // a field that fails as it is fails here, too.
 impl<'a, E: Fields + Element> SetterInput<Owned> for StructList<'a, E> {
     ghost use Rattle.capnp_layout.specs.Tree.{count};
-    ghost use Rattle.capnp_values.specs.StructLists.{IsStructList, StructListError};
+    ghost use Rattle.capnp_values.specs.StructLists.{IsStructListTree, StructListError};
     ghost use Rattle.std.proofs.Common.{ap};
 
-    ghost has_tree = { λ value trees. IsStructList E.words E.has_trees
+    ghost has_tree = { λ value trees. IsStructListTree E.words E.has_trees
         E.data_words E.size value.items.now trees };
 
     ghost fails = { λ value kind. StructListError E.has_trees E.fails

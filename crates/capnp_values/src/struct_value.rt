@@ -1,7 +1,7 @@
 //! Structs as values.
 ghost use Rattle.std.specs.Prelude.{◌≡◌, length};
-ghost use Rattle.capnp_values.specs.Measured.{Measures};
-ghost use Rattle.capnp_values.specs.Structs.{IsStruct, StructError};
+ghost use Rattle.capnp_values.specs.Measured.{MeasuresValue};
+ghost use Rattle.capnp_values.specs.Structs.{IsStructTree, StructError};
 
 use crate::element::Element;
 use crate::fields::Fields;
@@ -37,11 +37,11 @@ impl<const D: usize, F> StructValue<D, F> {
 impl<const D: usize, F: Fields> SetterInput<Owned> for StructValue<D, F> {
     ghost use Rattle.std.specs.Prelude.{length};
     ghost use Rattle.capnp_layout.specs.Tree.{count};
-    ghost use Rattle.capnp_values.specs.Structs.{IsStruct, StructError};
+    ghost use Rattle.capnp_values.specs.Structs.{IsStructTree, StructError};
     ghost use Rattle.std.proofs.Common.{ap};
 
     ghost has_tree = { λ value trees.
-        IsStruct value.words F.size (F.has_trees value.fields) trees };
+        IsStructTree value.words F.size (F.has_trees value.fields) trees };
 
     ghost fails = { λ value kind.
         StructError (length value.words) F.size (F.fails value.fields) kind };
@@ -79,7 +79,7 @@ impl<const D: usize, F: Fields> SetterInput<Owned> for StructValue<D, F> {
 
 // The number of words of a struct of these data words and fields.
 fn measure_struct<F: Fields>(words: &[u64], fields: &F, canonical: bool) -> Result<TreeWords>
-    ensures { Measures (IsStruct words.now F.size (F.has_trees fields.now))
+    ensures { MeasuresValue (IsStructTree words.now F.size (F.has_trees fields.now))
         (StructError (length words.now) F.size (F.fails fields.now)) canonical result }
 {
     if !fits(words, F::count()) {
@@ -90,9 +90,9 @@ fn measure_struct<F: Fields>(words: &[u64], fields: &F, canonical: bool) -> Resu
     let children = fields.measure(canonical)?;
     let data = kept_data(words, canonical) as u64;
     let pointers = fields.kept(canonical) as u64;
-    let as_is = words.len() as u64 + F::count() as u64 + children.as_is;
+    let untrimmed = words.len() as u64 + F::count() as u64 + children.untrimmed;
     let output = data + pointers + children.output;
-    Ok(TreeWords { as_is, output })
+    Ok(TreeWords { untrimmed, output })
 }
 
 // Only its fields.
@@ -113,8 +113,8 @@ impl<const D: usize, F: Fields> Fields for StructValue<D, F> {
         self.fields.measure(canonical)
     }
 
-    fn as_is(&self) -> Result<u64> {
-        self.fields.as_is()
+    fn untrimmed(&self) -> Result<u64> {
+        self.fields.untrimmed()
     }
 
     fn kept(&self, canonical: bool) -> u32 {

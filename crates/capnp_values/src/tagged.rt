@@ -2,8 +2,8 @@
 ghost use Rattle.std.specs.Prelude.{◌≡◌, ◌+◌, ◌-◌, ◌*◌, ◌^◌, ◌<◌, ◌≤◌, ◌∷◌, [], length, MatchResult};
 ghost use Rattle.capnp_layout.specs.Prelude.{words_of, Trees, total_words, body, output, list_pointer, struct_pointer, put};
 ghost use Rattle.capnp_wire.specs.Prelude.{IsCopied, HasRoomAt, IsFreeFrom};
-ghost use Rattle.capnp_values.specs.Measured.{Measures};
-ghost use Rattle.capnp_values.specs.StructLists.{AreElementsWritten, IsStructList, StructListError, TooManyStructs};
+ghost use Rattle.capnp_values.specs.Measured.{MeasuresValue};
+ghost use Rattle.capnp_values.specs.StructLists.{AreElementsWritten, IsStructListTree, StructListError, TooManyStructs};
 ghost use Rattle.capnp_values.specs.StructListPlaces.{AreDeclared, IsDeclared, ListPlace};
 
 use crate::element::Element;
@@ -18,7 +18,7 @@ use capnp_wire::traits::{Copied, TreeWords};
 
 /// The number of words of a list of some structs.
 pub(crate) fn measure_list<S: StructSource>(items: &S, canonical: bool) -> Result<TreeWords>
-    ensures { Measures (IsStructList (S.words items.now) (S.has_trees items.now)
+    ensures { MeasuresValue (IsStructListTree (S.words items.now) (S.has_trees items.now)
         S.Value.data_words S.Value.size (S.items items.now))
         (StructListError (S.has_trees items.now) (S.fails items.now)
         S.Value.data_words S.Value.size (S.items items.now)) canonical result }
@@ -63,16 +63,16 @@ fn with_tag(
 ) -> TreeWords
     requires declared { AreDeclared count data_words pointers }
     requires kept { IsDeclared count data_words pointers kept.data_words kept.pointers }
-    requires few { children.as_is + children.output < 2 ^ 59 }
-    ensures as_is { result.as_is ≡ 1 + count * (data_words + pointers) + children.as_is }
+    requires few { children.untrimmed + children.output < 2 ^ 59 }
+    ensures untrimmed { result.untrimmed ≡ 1 + count * (data_words + pointers) + children.untrimmed }
     ensures output { result.output
         ≡ 1 + count * (kept.data_words + kept.pointers) + children.output }
 {
     let all = count * (data_words + pointers as usize);
     let written = count * (kept.data_words + kept.pointers as usize);
-    let as_is = 1 + all as u64 + children.as_is;
+    let untrimmed = 1 + all as u64 + children.untrimmed;
     let output = 1 + written as u64 + children.output;
-    TreeWords { as_is, output }
+    TreeWords { untrimmed, output }
 }
 
 /// Writes a list of some structs into a block, as a value is written.
@@ -83,16 +83,16 @@ pub(crate) fn write_list<S: StructSource>(
     following: usize,
     next: usize,
 ) -> Copied
-    requires value { HasRoomAt (IsStructList (S.words items.now) (S.has_trees items.now)
+    requires value { HasRoomAt (IsStructListTree (S.words items.now) (S.has_trees items.now)
         S.Value.data_words S.Value.size (S.items items.now)) canonical next
         (length (words_of block.old)) }
     requires free { IsFreeFrom next block.old }
     requires following { following ≤ next }
-    ensures written { (trees : Trees) → IsStructList (S.words items.now) (S.has_trees items.now)
+    ensures written { (trees : Trees) → IsStructListTree (S.words items.now) (S.has_trees items.now)
         S.Value.data_words S.Value.size (S.items items.now) trees →
         IsCopied (output canonical trees) (next - following) next
         (words_of block.old) (words_of block.new) result }
-    ensures long { (trees : Trees) → IsStructList (S.words items.now) (S.has_trees items.now)
+    ensures long { (trees : Trees) → IsStructListTree (S.words items.now) (S.has_trees items.now)
         S.Value.data_words S.Value.size (S.items items.now) trees →
         length (body (output canonical trees)) ≡ total_words (output canonical trees) }
     ensures len { length block.new ≡ length block.old }

@@ -7,4 +7,4 @@ pub mod walks
 pub mod layouts
 pub mod forms
 pub mod views
-pub mod WorkedExamples
+pub mod WorkedCases

@@ -1,9 +1,9 @@
 -- Canonical forms.
-pub mod CanonLemmas
+pub mod DistinctLayoutLemmas
 pub mod PreorderLemmas
-pub mod ExactnessLemmas
-pub mod FullLemmas
+pub mod TestExactnessLemmas
+pub mod TrimmedObjectLemmas
 pub mod TrimmedStructListLemmas
 pub mod TruncatedLemmas
-pub mod CanonicalLemmas
-pub mod CanonicalExamples
+pub mod TestedMessageLemmas
+pub mod CanonicalCases

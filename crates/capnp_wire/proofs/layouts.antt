@@ -1,15 +1,15 @@
 -- Layouts: trees that are copied into a block, and read back.
-pub mod SizeLemmas
-pub mod LayoutLemmas
+pub mod LayoutSizeLemmas
+pub mod LayoutReadBackLemmas
 pub mod BlockLemmas
-pub mod CopyLemmas
-pub mod FillLemmas
-pub mod FreeLemmas
+pub mod TreesCopyLemmas
+pub mod PointerFillLemmas
+pub mod FreeBlockLemmas
 pub mod BlockElementLemmas
-pub mod OpenLemmas
-pub mod OpenedLemmas
+pub mod CopyPlanLemmas
+pub mod ObjectCopyLemmas
 pub mod ElementCopyLemmas
-pub mod CopiedLemmas
+pub mod CopiedTargetLemmas
 pub mod NumberCopyLemmas
-pub mod ExactLemmas
-pub mod LaidOutLemmas
+pub mod NextObjectLemmas
+pub mod TestedObjectLemmas

@@ -1,6 +1,6 @@
 -- Objects, and what is in them.
-pub mod NumberLemmas
-pub mod PaddedLemmas
+pub mod NumberElementLemmas
+pub mod LastWordLemmas
 pub mod ReadLocalLemmas
-pub mod StructLemmas
-pub mod PartLemmas
+pub mod ReadStructLemmas
+pub mod NumberStructLemmas

@@ -1,7 +1,7 @@
 -- Pointers, where they lead, and when they are invalid.
-pub mod LocalLemmas
+pub mod LocalObjectLemmas
 pub mod OwnSegmentLemmas
-pub mod NullLemmas
+pub mod NullPointerLemmas
 pub mod NullRunLemmas
 pub mod EmptyStructLemmas
-pub mod NextLemmas
+pub mod NextFreeWordLemmas

@@ -1,13 +1,13 @@
 -- What views show, and values that are set.
-pub mod ViewLemmas
-pub mod FormLemmas
+pub mod ViewErrorLemmas
+pub mod ShownFormLemmas
 pub mod ListViewLemmas
 pub mod ObjectViewLemmas
 pub mod UpgradedStructLemmas
 pub mod UpgradedNumberLemmas
 pub mod UpgradedPointerLemmas
-pub mod ValueLemmas
-pub mod SetterLemmas
+pub mod MeasuredValueLemmas
+pub mod TargetValueLemmas
 pub mod OneValueLemmas
 pub mod PartWordLemmas
 pub mod ListValueLemmas

@@ -1,11 +1,11 @@
 -- Walks over the objects that a pointer leads to.
 pub mod WalkErrorLemmas
-pub mod ProgressLemmas
-pub mod MeasureLemmas
-pub mod ParentLemmas
-pub mod WalkedLemmas
-pub mod StepLemmas
-pub mod GoingLemmas
-pub mod MetLemmas
-pub mod EndLemmas
+pub mod WalkProgressLemmas
+pub mod MeasuringWalkLemmas
+pub mod PointerRunWalkLemmas
+pub mod TestedLayoutLemmas
+pub mod TestStepLemmas
+pub mod TestProgressLemmas
+pub mod MetObjectLemmas
+pub mod EarlyEndLemmas
 pub mod OneEndLemmas

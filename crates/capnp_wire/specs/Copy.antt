@@ -1,7 +1,7 @@
 -- Objects that are copied, as they are or in canonical form (src/layout/copy.rt, and pending.rt,
 -- copy_pointers.rt and copy_cursor.rt beside it).
 use Rattle.std.specs.Prelude.{◌≡◌, ◌≢◌, ℕ, ◌+◌, ◌-◌, ◌/◌, ◌<◌, ◌≤◌, ◌^◌, Bool, List, [], ◌∷◌, length, Some, slice_get}
-use Rattle.capnp_layout.specs.Prelude.{words_of, words_from, code_of, numbers, Trees, depth, total_words, elements as numerals, elements_from, own, body, pointer_to, AllHaveRoom, output, struct_pointer, IsObject, room_of, words_in, put, put_data_sections, fill, places, run, segment_of, section_sizes, kept_in, slots_of, places_in, slots_in, end_of, Takes, At, IsNarrower}
+use Rattle.capnp_layout.specs.Prelude.{words_of, words_from, code_of, numbers, Trees, depth, total_words, elements as numerals, elements_from, own, body, pointer_to, AllHaveRoom, output, struct_pointer, IsObject, room_of, words_in, put, put_data_sections, fill, places, run, segment_of, section_sizes, kept_in, slots_of, places_in, slots_in, end_of, TakesSlot, At, IsNarrower}
 use Rattle.capnp_layout.specs.declared.place.Place.{Place}
 use Rattle.capnp_wire.specs.declared.layout.copy.Copied.{Copied}
 use Rattle.capnp_wire.specs.declared.layout.copy_cursor.CopyCursor.{CopyCursor}
@@ -72,7 +72,7 @@ pub record ArePaired (cursor : CopyCursor) (at : List Place) (segment : ℕ) (sl
 
 -- the first of the pointers that are left is taken, with its slot
 pub record TakesPair (old new : CopyCursor) (place : Place) (slot : ℕ) : Type 0 where
-  pub from : Takes old.from new.from place
+  pub from : TakesSlot old.from new.from place
   pub slots_are : slots_in old.to ≡ slot ∷ slots_in new.to
   pub as_many : length (places_in old.to) ≡ length (places_in new.to) + 1
   pub before : slot < end_of old.to
@@ -90,7 +90,7 @@ pub record IsCopyable (object : Object) (canonical : Bool) (next room : ℕ) : T
 
 -- A copy is in progress: what the object's own pointers lead to can still be copied, and then the
 -- copy is complete.
-pub record Begins (m : List (List ℕ)) (place : Place) (at : List Place) (slots : List ℕ) (nesting : ℕ) (canonical : Bool) (gap next following : ℕ)
+pub record BeginsCopy (m : List (List ℕ)) (place : Place) (at : List Place) (slots : List ℕ) (nesting : ℕ) (canonical : Bool) (gap next following : ℕ)
     (old mid : List ℕ) (pointer : ℕ) : Type 0 where
   pub there : CanCopy m at (nesting - 1) canonical following (length mid)
   pub ends : (new : List ℕ) (free : ℕ) → CopiesAll m at canonical slots following mid new free
@@ -98,7 +98,7 @@ pub record Begins (m : List (List ℕ)) (place : Place) (at : List Place) (slots
 
 -- The copy of an object is in progress, and its pointers are left.
 pub record BeginsObject (m : List (List ℕ)) (place : Place) (nesting : ℕ) (canonical : Bool) (gap next : ℕ) (old mid : List ℕ) (begun : PendingCopy) : Type 0 where
-  pub begins : Begins m place (kept_in begun.object.start begun.object.body (section_sizes begun.body).pointers) (slots_of next begun.body) nesting canonical gap next
+  pub begins : BeginsCopy m place (kept_in begun.object.start begun.object.body (section_sizes begun.body).pointers) (slots_of next begun.body) nesting canonical gap next
       (next + words_in begun.body) old mid begun.pointer
   pub content : slice_get m begun.object.start.segment ≡ Some (words_of begun.object.segment.now)
   pub narrower : IsNarrower begun.object.body begun.body
@@ -109,7 +109,7 @@ pub record BeginsObject (m : List (List ℕ)) (place : Place) (nesting : ℕ) (c
 -- The copy of an object whose pointers are consecutive, in the object and in the copy, is in
 -- progress.
 pub record BeginsRun (m : List (List ℕ)) (place : Place) (words : List ℕ) (nesting : ℕ) (canonical : Bool) (gap next : ℕ) (old mid : List ℕ) (left : PendingPointers) : Type 0 where
-  pub begins : Begins m place (places left.first.segment left.first.word left.count) (run left.slot left.count) nesting canonical gap next left.next old mid left.pointer
+  pub begins : BeginsCopy m place (places left.first.segment left.first.word left.count) (run left.slot left.count) nesting canonical gap next left.next old mid left.pointer
   pub content : slice_get m left.first.segment ≡ Some words
   pub bound : left.first.word + left.count < 2 ^ 61
   pub before : left.slot + left.count ≤ left.next

@@ -48,8 +48,8 @@ pointers_in list = record { message = list.message; children = list.children; ne
 
 -- the list of structs of a reader, also where it has no element that would say how many words of
 -- data each has
-abbrev pub structs_of : {S : Type 0} {ghosts : Ghosts S} → (S → List (List ℕ)) → StructListReader S ghosts → Form
-structs_of segments reader =
+abbrev pub structs_form : {S : Type 0} {ghosts : Ghosts S} → (S → List (List ℕ)) → StructListReader S ghosts → Form
+structs_form segments reader =
     let list = struct_list_of segments reader in structs reader.elements.size.data_words list.pointer_words list.elements
 
 -- the tree of a list of numbers of this code, and the error of more numbers than a list may have

@@ -19,26 +19,26 @@ abbrev pub IsFarAt : List ℕ → Place → Type 0
 IsFarAt segment place = (word : ℕ) × (word_at (segment ∷ []) place ≡ Some word) × (pointer_kind word ≡ 2)
 
 -- the offset of a pointer at a word leads to the next free word
-abbrev pub LeadsTo : ℕ → ℕ → ℕ → Type 0
-LeadsTo pointer word next = (offset pointer ≡ next - (word + 1)) × (next - (word + 1) < 2 ^ 29)
+abbrev pub PointsToNext : ℕ → ℕ → ℕ → Type 0
+PointsToNext pointer word next = (offset pointer ≡ next - (word + 1)) × (next - (word + 1) < 2 ^ 29)
 
 -- A pointer at a word leads to the next free word; the offset to a struct of no words is -1; the
 -- pointer to a list of structs counts exactly the words of its elements.
 abbrev pub IsNext : ℕ → ℕ → ℕ → Form → ℕ → Type 0
 IsNext pointer word next null n = Unit {0}
 IsNext pointer word next (struct words) n =
-    (length words + n ≡ 0 → offset pointer ≡ minus_one) × (0 < length words + n → LeadsTo pointer word next)
-IsNext pointer word next (structs d p elements) n = LeadsTo pointer word next × (list_count pointer ≡ length elements * (d + p))
-IsNext pointer word next form n = LeadsTo pointer word next
+    (length words + n ≡ 0 → offset pointer ≡ minus_one) × (0 < length words + n → PointsToNext pointer word next)
+IsNext pointer word next (structs d p elements) n = PointsToNext pointer word next × (list_count pointer ≡ length elements * (d + p))
+IsNext pointer word next form n = PointsToNext pointer word next
 
 -- the same for an object that is read: its pointer leads to the next free word
 abbrev pub NextOf : ℕ → ℕ → ℕ → Body → Type 0
 NextOf pointer word next (Struct size) =
     (size.data_words + size.pointers ≡ 0 → offset pointer ≡ minus_one)
-    × (0 < size.data_words + size.pointers → LeadsTo pointer word next)
+    × (0 < size.data_words + size.pointers → PointsToNext pointer word next)
 NextOf pointer word next (Structs elements following) =
-    LeadsTo pointer word next × (list_count pointer ≡ elements.count * (elements.size.data_words + elements.size.pointers))
-NextOf pointer word next body = LeadsTo pointer word next
+    PointsToNext pointer word next × (list_count pointer ≡ elements.count * (elements.size.data_words + elements.size.pointers))
+NextOf pointer word next body = PointsToNext pointer word next
 
 -- the padding of an object that starts at a word, as it is read
 abbrev pub PaddedOf : List ℕ → ℕ → Body → Type 0

@@ -7,7 +7,7 @@ use Rattle.capnp_frame.specs.declared.message.segments.ReaderSegments.{Ghosts as
 use Rattle.capnp_layout.specs.Prelude.{words_of, code_of, Trees, pointers, count, elements}
 use Rattle.capnp_wire.specs.ListViews.{struct_list_of}
 use Rattle.capnp_wire.specs.NumberViews.{numbers_of}
-use Rattle.capnp_wire.specs.ListValues.{IsListTree, WalkErrorInList, structs_of, pointers_in, IsNumbersTree, TooManyNumbers}
+use Rattle.capnp_wire.specs.ListValues.{IsListTree, WalkErrorInList, structs_form, pointers_in, IsNumbersTree, TooManyNumbers}
 use Rattle.capnp_wire.specs.UpgradedReaders.{upgraded_pointers_of}
 use Rattle.capnp_wire.specs.declared.primitive_element.PrimitiveElement.{Ghosts as ElementGhosts}
 use Rattle.capnp_wire.specs.declared.primitive_list.reader.Reader.{Reader as NumbersReader}
@@ -44,7 +44,7 @@ numbers_in_structs numbers = elements (words_of numbers.bytes.now) 0 (code_of nu
 -- Structs: the tree of a list of them, with all below them. A list of numbers that is read as one
 -- of structs stays the list of numbers that it is.
 abbrev pub IsElementsValue : {S : Type 0} {ghosts : SegmentGhosts S} → (S → List (List ℕ)) → StructElements S ghosts → Trees → Type 0
-IsElementsValue segments (StructsInPlace list) trees = IsListTree (structs_of segments list) (pointers_in (struct_list_of segments list)) trees
+IsElementsValue segments (StructsInPlace list) trees = IsListTree (structs_form segments list) (pointers_in (struct_list_of segments list)) trees
 IsElementsValue segments (NumbersAsStructs numbers) trees = IsNumbersTree (code_of numbers.size) (numbers_in_structs numbers) trees
 
 abbrev pub ElementsValueError : {S : Type 0} {ghosts : SegmentGhosts S} → (S → List (List ℕ)) → StructElements S ghosts → ErrorKind → Type 0

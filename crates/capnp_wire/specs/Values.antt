@@ -54,9 +54,9 @@ pub record HasPart (has_tree : Trees → Type 0) (canonical : Bool) (words : Tre
   pub trees : Trees
   pub tree_is : has_tree trees
   pub rooms : AllHaveRoom trees
-  pub as_is_same : words.as_is ≡ total_words trees
+  pub untrimmed_same : words.untrimmed ≡ total_words trees
   pub output_is : words.output ≡ total_words (output canonical trees)
-  pub few : words.as_is < 2 ^ 29
+  pub few : words.untrimmed < 2 ^ 29
 
 -- its tree has room in a block of this many words, from a word on
 pub record HasRoomAt (has_tree : Trees → Type 0) (canonical : Bool) (next room : ℕ) : Type 0 where
@@ -79,8 +79,8 @@ WordsError has_tree fails canonical kind =
     × (kind ≡ too_large canonical (total_words (output canonical trees))))
 
 -- the tree that a pointer leads to, within the nesting depth left and its limit, and where a walk over it stops
-abbrev pub LeadsToTree : Pointer → Trees → Type 0
-LeadsToTree pointer trees = MatchOption pointer.place (trees ≡ tree null none none)
+abbrev pub PointsToTree : Pointer → Trees → Type 0
+PointsToTree pointer trees = MatchOption pointer.place (trees ≡ tree null none none)
     (λ place. TreeAt pointer.message place pointer.nesting pointer.limit trees)
 
 abbrev pub WalkErrorFrom : Pointer → ErrorKind → Type 0
@@ -110,8 +110,8 @@ fields_at m words start size nesting limit = record {
 }
 
 -- where it has pointers, the segment is one of the message's
-abbrev pub HoldsPointers : List (List ℕ) → List ℕ → Place → StructSize → Type 0
-HoldsPointers m words start size = 0 < size.pointers → slice_get m start.segment ≡ Some words
+abbrev pub HasPointersSegment : List (List ℕ) → List ℕ → Place → StructSize → Type 0
+HasPointersSegment m words start size = 0 < size.pointers → slice_get m start.segment ≡ Some words
 
 -- the tree of a list of bytes, and the error of more bytes than a list may have
 abbrev pub IsBytes : List ℕ → Trees → Type 0
@@ -128,7 +128,7 @@ pointed word block = number_of 256 (bytes_of word) ∷ words_of block
 -- the canonical form of the tree that a pointer leads to
 pub record IsCanonicalForm (pointer : Pointer) (words : List ℕ) : Type 0 where
   pub trees : Trees
-  pub tree_is : LeadsToTree pointer trees
+  pub tree_is : PointsToTree pointer trees
   pub rooms : AllHaveRoom trees
   pub few : total_words (trim trees) < 2 ^ 29
   pub words_are : words ≡ canon trees
@@ -149,5 +149,5 @@ one_at : (o : Option Place) (m : List (List ℕ)) (nesting : ℕ) (limit : Optio
 one_at None m nesting limit trees is = ap count is
 one_at (Some place) m nesting limit trees is = one_there m place trees is.traversed is.are_at
 
-pub one_value : (pointer : Pointer) (trees : Trees) → LeadsToTree pointer trees → count trees ≡ 1
+pub one_value : (pointer : Pointer) (trees : Trees) → PointsToTree pointer trees → count trees ≡ 1
 one_value pointer trees is = one_at pointer.place pointer.message pointer.nesting pointer.limit trees is

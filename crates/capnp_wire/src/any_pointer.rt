@@ -3,7 +3,7 @@ ghost use Rattle.std.specs.Prelude.{◌≡◌, ◌-◌, ◌^◌, ◌<◌, ◌≤
 ghost use Rattle.capnp_layout.specs.Prelude.{Trees, output};
 ghost use Rattle.capnp_wire.specs.Copy.{IsCopied};
 ghost use Rattle.capnp_wire.specs.Readers.{pointer_of};
-ghost use Rattle.capnp_wire.specs.Values.{HasRoomAt, LeadsToTree};
+ghost use Rattle.capnp_wire.specs.Values.{HasRoomAt, PointsToTree};
 
 mod fast_path;
 mod reader;
@@ -28,9 +28,9 @@ impl<'a, S: ReaderSegments + 'a> traits::Owned<'a, S> for Owned {
 // The tree that the pointer leads to, within the nesting depth left and the traversal limit.
 impl<'a, S: ReaderSegments> SetterInput<Owned> for Reader<'a, S> {
     ghost use Rattle.capnp_wire.specs.Readers.{pointer_of};
-    ghost use Rattle.capnp_wire.specs.Values.{LeadsToTree, WalkErrorFrom, one_value};
+    ghost use Rattle.capnp_wire.specs.Values.{PointsToTree, WalkErrorFrom, one_value};
 
-    ghost has_tree = { λ reader trees. LeadsToTree (pointer_of S.segments reader) trees };
+    ghost has_tree = { λ reader trees. PointsToTree (pointer_of S.segments reader) trees };
 
     ghost fails = { λ reader kind. WalkErrorFrom (pointer_of S.segments reader) kind };
 
@@ -69,11 +69,11 @@ pub(crate) fn write_into<S: ReaderSegments, T: BlockItem>(
     following: usize,
     next: usize,
 ) -> Copied
-    requires value { HasRoomAt (LeadsToTree (pointer_of S.segments reader.now)) canonical
+    requires value { HasRoomAt (PointsToTree (pointer_of S.segments reader.now)) canonical
         next (length (T.as_words block.old)) }
     requires small { length (T.as_words block.old) < 2 ^ 29 }
     requires following { following ≤ next }
-    ensures written { (trees : Trees) → LeadsToTree (pointer_of S.segments reader.now) trees →
+    ensures written { (trees : Trees) → PointsToTree (pointer_of S.segments reader.now) trees →
         IsCopied (output canonical trees) (next - following) next
         (T.as_words block.old) (T.as_words block.new) result }
     ensures len { length (T.as_words block.new) ≡ length (T.as_words block.old) }

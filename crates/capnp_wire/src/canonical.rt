@@ -5,9 +5,9 @@ ghost use Rattle.std.specs.Result.{IsErrAnd};
 ghost use Rattle.capnp_frame.specs.Prelude.{IsWholeWords};
 ghost use Rattle.capnp_frame.specs.declared.error.ErrorKind.{ErrorKind};
 ghost use Rattle.capnp_frame.specs.declared.error.ErrorKind.TheVariants.{OutOfMemory};
-ghost use Rattle.capnp_layout.specs.Prelude.{words_of, numbers_of};
+ghost use Rattle.capnp_layout.specs.Prelude.{words_of, word_numbers};
 ghost use Rattle.capnp_wire.specs.Readers.{pointer_of};
-ghost use Rattle.capnp_wire.specs.Values.{HasWords, WordsError, LeadsToTree, WalkErrorFrom, IsCanonicalForm};
+ghost use Rattle.capnp_wire.specs.Values.{HasWords, WordsError, PointsToTree, WalkErrorFrom, IsCanonicalForm};
 
 use crate::any_pointer;
 use crate::traits::SetterInput;
@@ -24,13 +24,13 @@ use std::alloc::Global;
 #[inline(always)]
 pub fn canonical_size<S: ReaderSegments>(reader: &any_pointer::Reader<'_, S>) -> Result<u32>
     ensures returned { let pointer = pointer_of S.segments reader.now in MatchResult result
-        (λ words. (following : ℕ) × HasWords (LeadsToTree pointer) true following × (words ≡ following + 1))
-        (λ error. WordsError (LeadsToTree pointer) (WalkErrorFrom pointer) true error.kind) }
+        (λ words. (following : ℕ) × HasWords (PointsToTree pointer) true following × (words ≡ following + 1))
+        (λ error. WordsError (PointsToTree pointer) (WalkErrorFrom pointer) true error.kind) }
     ensures found { (following : ℕ) →
-        HasWords (LeadsToTree (pointer_of S.segments reader.now)) true following →
+        HasWords (PointsToTree (pointer_of S.segments reader.now)) true following →
         result ≡ Ok (following + 1) }
     ensures exact { let pointer = pointer_of S.segments reader.now in
-        (kind : ErrorKind) → WordsError (LeadsToTree pointer) (WalkErrorFrom pointer) true kind →
+        (kind : ErrorKind) → WordsError (PointsToTree pointer) (WalkErrorFrom pointer) true kind →
         IsErrAnd result (λ error. error.kind ≡ kind) }
 {
     let following = reader.measure(true)?;
@@ -46,14 +46,14 @@ pub fn canonical_bytes<S: ReaderSegments>(
 ) -> Result<Vec<u8>>
     ensures returned { let pointer = pointer_of S.segments reader.now in MatchResult result
         (λ bytes. IsCanonicalForm pointer (words_of bytes.items))
-        (λ error. WordsError (LeadsToTree pointer) (WalkErrorFrom pointer) true error.kind
+        (λ error. WordsError (PointsToTree pointer) (WalkErrorFrom pointer) true error.kind
         ⊎ (error.kind ≡ OutOfMemory)) }
     ensures whole { IfOk result (λ bytes. IsWholeWords bytes.items) }
     ensures found { (following : ℕ) →
-        HasWords (LeadsToTree (pointer_of S.segments reader.now)) true following →
+        HasWords (PointsToTree (pointer_of S.segments reader.now)) true following →
         IfErr result (λ error. error.kind ≡ OutOfMemory) }
     ensures exact { let pointer = pointer_of S.segments reader.now in
-        (kind : ErrorKind) → WordsError (LeadsToTree pointer) (WalkErrorFrom pointer) true kind →
+        (kind : ErrorKind) → WordsError (PointsToTree pointer) (WalkErrorFrom pointer) true kind →
         IsErrAnd result (λ error. error.kind ≡ kind) }
 {
     let words = canonical_size(reader)? as usize;
@@ -66,7 +66,7 @@ pub fn canonical_bytes<S: ReaderSegments>(
 /// words as `canonical_size` returns.
 pub fn write_form<S: ReaderSegments>(reader: &any_pointer::Reader<'_, S>, bytes: &mut [u8])
     requires words { (following : ℕ)
-        × HasWords (LeadsToTree (pointer_of S.segments reader.now)) true following
+        × HasWords (PointsToTree (pointer_of S.segments reader.now)) true following
         × (length bytes.old ≡ 8 * (following + 1)) }
     requires zero { bytes.old ≡ replicate (length bytes.old) 0 }
     ensures form { IsCanonicalForm (pointer_of S.segments reader.now) (words_of bytes.new) }
@@ -84,14 +84,14 @@ pub fn canonical_words<S: ReaderSegments>(
     reader: &any_pointer::Reader<'_, S>,
 ) -> Result<Vec<Word>>
     ensures returned { let pointer = pointer_of S.segments reader.now in MatchResult result
-        (λ words. IsCanonicalForm pointer (numbers_of words.items))
-        (λ error. WordsError (LeadsToTree pointer) (WalkErrorFrom pointer) true error.kind
+        (λ words. IsCanonicalForm pointer (word_numbers words.items))
+        (λ error. WordsError (PointsToTree pointer) (WalkErrorFrom pointer) true error.kind
         ⊎ (error.kind ≡ OutOfMemory)) }
     ensures found { (following : ℕ) →
-        HasWords (LeadsToTree (pointer_of S.segments reader.now)) true following →
+        HasWords (PointsToTree (pointer_of S.segments reader.now)) true following →
         IfErr result (λ error. error.kind ≡ OutOfMemory) }
     ensures exact { let pointer = pointer_of S.segments reader.now in
-        (kind : ErrorKind) → WordsError (LeadsToTree pointer) (WalkErrorFrom pointer) true kind →
+        (kind : ErrorKind) → WordsError (PointsToTree pointer) (WalkErrorFrom pointer) true kind →
         IsErrAnd result (λ error. error.kind ≡ kind) }
 {
     let size = canonical_size(reader)? as usize;
@@ -102,9 +102,9 @@ pub fn canonical_words<S: ReaderSegments>(
 
 // Writes the canonical form of what a pointer leads to into a slice of exactly its words.
 fn write_words<S: ReaderSegments>(reader: &any_pointer::Reader<'_, S>, words: &mut [Word])
-    requires { (following : ℕ) × HasWords (LeadsToTree (pointer_of S.segments reader.now)) true following
+    requires { (following : ℕ) × HasWords (PointsToTree (pointer_of S.segments reader.now)) true following
         × (length words.old ≡ following + 1) }
-    ensures { IsCanonicalForm (pointer_of S.segments reader.now) (numbers_of words.new) }
+    ensures { IsCanonicalForm (pointer_of S.segments reader.now) (word_numbers words.new) }
 {
     let copied = any_pointer::write_into(reader, true, &mut words[1..], 0, 0);
     words[0] = word_of(copied.pointer);

@@ -21,12 +21,12 @@ impl<'a, S: ReaderSegments + 'a> traits::Owned<'a, S> for Owned {
 // traversal limit.
 impl<'a, S: ReaderSegments> SetterInput<Owned> for Reader<'a, S> {
     ghost use Rattle.capnp_wire.specs.ListViews.{struct_list_of};
-    ghost use Rattle.capnp_wire.specs.ListValues.{IsListTree, WalkErrorInList, pointers_in, structs_of};
+    ghost use Rattle.capnp_wire.specs.ListValues.{IsListTree, WalkErrorInList, pointers_in, structs_form};
     ghost use Rattle.capnp_layout.specs.Tree.{count};
     ghost use Rattle.std.proofs.Common.{ap};
 
     ghost has_tree = { λ list trees.
-        IsListTree (structs_of S.segments list) (pointers_in (struct_list_of S.segments list)) trees };
+        IsListTree (structs_form S.segments list) (pointers_in (struct_list_of S.segments list)) trees };
 
     ghost fails = { λ list kind. WalkErrorInList (pointers_in (struct_list_of S.segments list)) kind };
 

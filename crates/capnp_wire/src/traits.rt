@@ -61,7 +61,7 @@ pub trait Owned<'a, S: ReaderSegments> {
 #[derive(Clone, Copy)]
 pub struct TreeWords {
     /// As they are.
-    pub as_is: u64,
+    pub untrimmed: u64,
 
     /// In the form that is written. Fewer, where that is canonical and they are not.
     pub output: u64,
@@ -100,15 +100,15 @@ pub trait SetterInput<T> {
             WordsError (has_tree self.now) (fails self.now) false kind →
             IsErrAnd result (λ error. error.kind ≡ kind) }
     {
-        let as_is = self.measure(false)? as u64;
+        let untrimmed = self.measure(false)? as u64;
         if !canonical {
             return Ok(TreeWords {
-                as_is,
-                output: as_is,
+                untrimmed,
+                output: untrimmed,
             });
         }
         let output = self.measure(true).unwrap_or(0) as u64;
-        Ok(TreeWords { as_is, output })
+        Ok(TreeWords { untrimmed, output })
     }
 
     /// Whether the value is null.

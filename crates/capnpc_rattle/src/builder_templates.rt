@@ -67,8 +67,8 @@ impl Builder {
         objects: &mut Orphanage<S>,
     ) -> Result<Builder>
         ensures words { IfOk result (λ made. made.draft.words
-            ≡ words_in (struct_of R.segments read.now.fields) @words@) }
-        ensures copies { Copies (struct_of R.segments read.now.fields) @pointers@
+            ≡ data_up_to (struct_of R.segments read.now.fields) @words@) }
+        ensures copies { CopiesPointers (struct_of R.segments read.now.fields) @pointers@
             objects.old objects.new (λ made. made.draft.pointers) result }
     {
         match StructDraft::from_reader(&read.fields, objects) {
@@ -81,7 +81,7 @@ impl Builder {
     /// pointers are null.
     pub fn from_data_section<R: ReaderSegments>(read: &Reader<'_, R>) -> Builder
         ensures words { result.draft.words
-            ≡ words_in (struct_of R.segments read.now.fields) @words@ }
+            ≡ data_up_to (struct_of R.segments read.now.fields) @words@ }
         ensures pointers { result.draft.pointers ≡ replicate @pointers@ 0 }
     {
         Builder {
@@ -91,7 +91,7 @@ impl Builder {
 
     /// Writes it, as an object that a pointer can lead to.
     pub fn add<S: GrowingSegment>(&self, objects: &mut Orphanage<S>) -> Result<Orphan<Owned>>
-        ensures adds { Adds (HoldsStruct (body_of objects.old) self.now.draft.words
+        ensures adds { AddsOrphan (HoldsStruct (body_of objects.old) self.now.draft.words
             self.now.draft.pointers) objects.old objects.new word_of result }
         ensures writes { Writes (StructWords @words@ @pointers@) (StructSizeError @words@ @pointers@)
             objects.old objects.new result }
@@ -103,7 +103,7 @@ impl Builder {
     pub fn add_root<S: GrowingSegment>(&self, objects: &mut Orphanage<S>) -> Result<()>
         ensures adds { AddsRoot (StructWords @words@ @pointers@) (HoldsStruct (body_of objects.old)
             self.now.draft.words self.now.draft.pointers) objects.old objects.new result }
-        ensures fails { Fails (StructWords @words@ @pointers@) (StructSizeError @words@ @pointers@)
+        ensures fails { FailsToAdd (StructWords @words@ @pointers@) (StructSizeError @words@ @pointers@)
             objects.old result }
     {
         objects.add_root(&self.draft)
@@ -114,10 +114,10 @@ impl Builder {
         elements: &[Builder],
         objects: &mut Orphanage<S>,
     ) -> Result<Orphan<OwnedList>>
-        ensures adds { Adds (HoldsStructs (body_of objects.old)
+        ensures adds { AddsOrphan (HoldsStructs (body_of objects.old)
             (map (λ element. element.draft) elements.now)) objects.old objects.new word_of result }
         ensures writes { let count = length elements.now in
-            Writes (TakesStructs @words@ @pointers@ count) (ManyStructs @words@ @pointers@ count)
+            Writes (TakesStructsWords @words@ @pointers@ count) (ManyStructs @words@ @pointers@ count)
             objects.old objects.new result }
     {
         objects.draft_list(elements)

@@ -33,17 +33,17 @@ pub const DEFINITIONS: &[(&str, &[&str])] = &[
     ),
     (
         "capnp_orphans.specs.Adding",
-        &["Adds", "AddsRoot", "Fails", "Writes"],
+        &["AddsOrphan", "AddsRoot", "FailsToAdd", "Writes"],
     ),
-    ("capnp_orphans.specs.Copied", &["words_in", "Copies"]),
+    ("capnp_orphans.specs.Copied", &["data_up_to", "CopiesPointers"]),
     (
         "capnp_orphans.specs.Holds",
         &[
             "word_of",
             "HoldsStruct",
             "HoldsStructs",
-            "TakesStruct as StructWords",
-            "TakesStructs",
+            "TakesStructWords as StructWords",
+            "TakesStructsWords",
             "StructSizeError",
             "ManyStructs",
         ],

@@ -1,6 +1,6 @@
 //! Types and values of a request.
 ghost use Rattle.std.specs.Prelude.{◌≡◌, ℕ, ◌*◌, ◌∷◌, false, length, replicate};
-ghost use Rattle.capnp_wire.specs.Prelude.{layout, words_of, pointer_of, Trees, HasWords, LeadsToTree};
+ghost use Rattle.capnp_wire.specs.Prelude.{layout, words_of, pointer_of, Trees, HasWords, PointsToTree};
 
 use crate::request::read_text;
 use crate::schema::{Base, Object, Type, Value};
@@ -127,10 +127,10 @@ fn read_object<S: ReaderSegments>(
 // from just before these.
 fn write_object<S: ReaderSegments>(pointer: &any_pointer::Reader<'_, S>, block: &mut [u8]) -> u64
     requires words { (words : ℕ)
-        × HasWords (LeadsToTree (pointer_of S.segments pointer.now)) false words
+        × HasWords (PointsToTree (pointer_of S.segments pointer.now)) false words
         × (length block.old ≡ 8 * words) }
     requires zero { block.old ≡ replicate (length block.old) 0 }
-    ensures { (trees : Trees) → LeadsToTree (pointer_of S.segments pointer.now) trees →
+    ensures { (trees : Trees) → PointsToTree (pointer_of S.segments pointer.now) trees →
         result ∷ words_of block.new ≡ layout trees }
 {
     pointer.write(false, block, 0, 0).pointer

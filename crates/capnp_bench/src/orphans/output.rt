@@ -1,9 +1,9 @@
-//! What becomes of the messages that a job builds.
+//! What becomes of the messages that a benchmark builds.
 use crate::digest::Digest;
 use capnp::Result;
 use std::alloc::Global;
 
-/// Where the messages of a job go: into a digest of their bytes, or into a stream, framed.
+/// Where the messages of a benchmark go: into a digest of their bytes, or into a stream, framed.
 #[derive(Drop)]
 pub enum Output {
     Digest(Digest),

@@ -1,6 +1,6 @@
 //! Records of three numbers, a text, and in some of them a list of numbers: a message each, in the
 //! memory of the one before.
-use crate::orphans::{Job, Output};
+use crate::orphans::{Benchmark, Output};
 use crate::random::Random;
 use capnp::{Result, any_struct};
 use capnp_orphans::{Orphanage, StructDraft};
@@ -10,14 +10,14 @@ const NAMES: [&str; 4] = ["Ada", "Grace", "Barbara", "Margaret"];
 
 const SAMPLES: [u32; 12] = [3, 1, 4, 1, 5, 9, 2, 6, 5, 3, 5, 8];
 
-pub fn build(alloc: Global, job: Job, output: &mut Output) -> Result<()> {
+pub fn build(alloc: Global, benchmark: Benchmark, output: &mut Output) -> Result<()> {
     let mut objects = Orphanage::new(alloc)?;
-    for time in 0..job.times {
-        let mut random = Random::new(job.seed);
-        for id in 0..job.count {
+    for time in 0..benchmark.times {
+        let mut random = Random::new(benchmark.seed);
+        for id in 0..benchmark.count {
             objects.clear();
             record(&mut objects, &mut random, id)?;
-            if time + 1 == job.times {
+            if time + 1 == benchmark.times {
                 output.add(objects.bytes())?;
             }
         }

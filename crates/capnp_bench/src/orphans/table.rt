@@ -1,5 +1,5 @@
 //! A table: one message, a list of structs of a number, a flag and a text, which elements share.
-use crate::orphans::{Job, Output};
+use crate::orphans::{Benchmark, Output};
 use crate::random::Random;
 use capnp::{Result, any_struct, text};
 use capnp_orphans::{Orphanage, StructDraft};
@@ -7,21 +7,21 @@ use std::alloc::Global;
 
 type Element = StructDraft<any_struct::Owned, 2, 1>;
 
-pub fn build(alloc: Global, job: Job, output: &mut Output) -> Result<()> {
+pub fn build(alloc: Global, benchmark: Benchmark, output: &mut Output) -> Result<()> {
     let mut objects = Orphanage::new(alloc)?;
     let mut elements: Vec<Element> = Vec::new(alloc);
-    for _ in 0..job.times {
+    for _ in 0..benchmark.times {
         objects.clear();
         elements.clear();
-        table(&mut objects, &mut elements, job)?;
+        table(&mut objects, &mut elements, benchmark)?;
     }
     output.add(objects.bytes())
 }
 
-fn table(objects: &mut Orphanage, elements: &mut Vec<Element>, job: Job) -> Result<()> {
-    let mut random = Random::new(job.seed);
+fn table(objects: &mut Orphanage, elements: &mut Vec<Element>, benchmark: Benchmark) -> Result<()> {
+    let mut random = Random::new(benchmark.seed);
     let shared = objects.text("a text that rows share")?;
-    for id in 0..job.count {
+    for id in 0..benchmark.count {
         let mut element = Element::new();
         element.set_data_field(0, random.next());
         element.set_data_field(64, id % 3 == 0);

@@ -1,16 +1,16 @@
 //! A binary tree of as many nodes as are asked for, up to a full layer of leaves.
-use crate::orphans::{Job, Output};
+use crate::orphans::{Benchmark, Output};
 use crate::random::Random;
 use capnp::{Result, any_struct};
 use capnp_orphans::{Orphan, Orphanage, StructDraft};
 use std::alloc::Global;
 
-pub fn build(alloc: Global, job: Job, output: &mut Output) -> Result<()> {
+pub fn build(alloc: Global, benchmark: Benchmark, output: &mut Output) -> Result<()> {
     let mut objects = Orphanage::new(alloc)?;
-    let depth = job.count.checked_ilog2().unwrap_or(0);
-    for _ in 0..job.times {
+    let depth = benchmark.count.checked_ilog2().unwrap_or(0);
+    for _ in 0..benchmark.times {
         objects.clear();
-        let mut random = Random::new(job.seed);
+        let mut random = Random::new(benchmark.seed);
         let root = tree(&mut objects, &mut random, depth)?;
         objects.set_root(root);
     }

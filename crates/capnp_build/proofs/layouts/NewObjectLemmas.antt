@@ -4,8 +4,8 @@ use Rattle.std.proofs.lemmas.List.{append-nil, length-replicate, drop-replicate,
 use Rattle.std.proofs.lemmas.List.Elements.{All-replicate}
 use Rattle.capnp_layout.specs.Prelude.{number_of, digits, words_of, words_for, struct, Trees, none, tree, total_words, cut_zeros, keep_word, body, pointer, output, struct_pointer, minus_one, AllHaveRoom, put}
 use Rattle.capnp_wire.specs.Prelude.{IsCopied, HasWords, HasRoomAt, IsFreeFrom}
-use Rattle.capnp_wire.proofs.layouts.FreeLemmas.{body_long}
-use Rattle.capnp_layout.proofs.layouts.LayoutLemmas.{if_positive}
+use Rattle.capnp_wire.proofs.layouts.FreeBlockLemmas.{tree_body_long}
+use Rattle.capnp_layout.proofs.layouts.LayoutReadBackLemmas.{if_positive}
 use Rattle.capnp_build.specs.Prelude.{words_of_body, Fits, body_pointer_word, zero_form, output_new_object}
 use Rattle.capnp_build.specs.declared.object.NewBody.{NewBody}
 use Rattle.capnp_build.specs.declared.object.NewBody.TheVariants.{Bytes, Words, Struct}
@@ -109,4 +109,4 @@ new_object_written b c gap next tag end block w f tag_is end_is trees is =
 
 pub new_object_long : (b : NewBody) (c : Bool) (next room : ℕ) → HasRoomAt (λ trees. trees ≡ new_tree b) c next room → (trees : Trees) → trees ≡ new_tree b
     → length (body (output c trees)) ≡ total_words (output c trees)
-new_object_long b c next room w = body_long (λ trees. trees ≡ new_tree b) c next room (λ x y p q. p ∙ sym q) w
+new_object_long b c next room w = tree_body_long (λ trees. trees ≡ new_tree b) c next room (λ x y p q. p ∙ sym q) w

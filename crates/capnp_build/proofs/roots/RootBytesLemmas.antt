@@ -3,13 +3,13 @@ use Rattle.std.proofs.Common.{◌≡◌, ℕ, ◌*◌, ◌<◌, List, [], length
 use Rattle.capnp_layout.specs.Prelude.{Form, Trees, total_words, body, Root}
 use Rattle.capnp_build.specs.Prelude.{Space, space_at, message, HasNullRoot, IsBuilt, HoldsForm, HoldsTree}
 use Rattle.capnp_build.specs.declared.arena.location.RootLocation.{RootLocation}
-use Rattle.capnp_build.proofs.roots.NullLemmas.{null_tree_only}
-use Rattle.capnp_build.proofs.layouts.LaidLemmas.{laid_as}
-use Rattle.capnp_build.proofs.roots.ReadLemmas.{holds_form, body_words, body_long}
+use Rattle.capnp_build.proofs.roots.NullRootLemmas.{null_tree_only}
+use Rattle.capnp_build.proofs.layouts.TreeLayoutLemmas.{laid_as}
+use Rattle.capnp_build.proofs.roots.RootReadBackLemmas.{holds_form, body_words, body_long}
 
 -- a root of no location
-pub no_bytes : (spaces : List Space) → HasNullRoot spaces → HoldsTree spaces []
-no_bytes spaces r = record {
+pub no_location_no_bytes : (spaces : List Space) → HasNullRoot spaces → HoldsTree spaces []
+no_location_no_bytes spaces r = record {
   words = λ form children traversed there. ap body (null_tree_only spaces form children traversed r there);
   size = λ form children traversed there. ap (λ (t : Trees). 8 * total_words t) (null_tree_only spaces form children traversed r there);
   empty = λ e. refl;
@@ -26,8 +26,8 @@ its_bytes spaces location p = record {
 }
 
 -- the form of such a root
-pub holds_there : (spaces : List Space) (location : RootLocation) → IsBuilt spaces (Some location) → ((i : ℕ) → slice_index_or (space_at spaces location.segment).used i 0 < 256)
+pub root_holds_there : (spaces : List Space) (location : RootLocation) → IsBuilt spaces (Some location) → ((i : ℕ) → slice_index_or (space_at spaces location.segment).used i 0 < 256)
     → (form : Form) (children : Trees) (traversed : ℕ) → Root (message spaces) form children traversed
     → HoldsForm (take (8 * location.words) (drop (8 * location.start) (space_at spaces location.segment).used)) form
-holds_there spaces location p low form children traversed there =
+root_holds_there spaces location p low form children traversed there =
     holds_form spaces location form children (laid_as spaces location p.0 form p.1 children traversed p.2 there) low

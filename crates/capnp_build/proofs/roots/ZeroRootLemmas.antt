@@ -5,10 +5,10 @@ use Rattle.capnp_layout.specs.Prelude.{word_at, root}
 use Rattle.capnp_build.specs.Prelude.{Space, with_bytes, BuilderState, space_at, with_space, message, size_in_words, HasNullRoot, IsBuilt, root_word, ZeroesRoot}
 use Rattle.capnp_build.specs.declared.allocator.Allocator.{Ghosts}
 use Rattle.capnp_build.specs.declared.arena.location.RootLocation.{RootLocation}
-use Rattle.capnp_build.proofs.states.BuilderStateLemmas.{edit_keeps}
-use Rattle.capnp_build.proofs.roots.NullLemmas.{old_cleared, old_size, first_cleared, first_size, root_is_there, root_room}
-use Rattle.capnp_build.proofs.states.KeptLemmas.{kept_past, kept_outside}
-use Rattle.capnp_build.proofs.states.SpaceLemmas.{one_zeroed, two_zeroed, wiped}
+use Rattle.capnp_build.proofs.states.SegmentOrderLemmas.{edit_keeps}
+use Rattle.capnp_build.proofs.roots.NullRootLemmas.{old_cleared, old_size, first_cleared, first_size, root_is_there, root_room}
+use Rattle.capnp_build.proofs.states.StayingBytesLemmas.{kept_past, kept_outside}
+use Rattle.capnp_build.proofs.states.ChangedSegmentLemmas.{one_zeroed, two_zeroed, wiped}
 
 pub word_wiped : {A S : Type 0} (alloc : Ghosts A S) (old new : BuilderState A) → 0 < length old.spaces → HasNullRoot old.spaces
     → new ≡ with_space old 0 (with_bytes (space_at old.spaces 0) 0 (replicate 8 0)) → ZeroesRoot alloc None old new

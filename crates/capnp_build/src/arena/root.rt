@@ -3,7 +3,7 @@ ghost use Rattle.std.specs.Prelude.{◌+◌, ◌<◌, ◌≤◌, [], length, Non
 ghost use Rattle.std.specs.Borrow.{RestsIfErr, sem};
 ghost use Rattle.capnp_build.specs.Built.{message};
 ghost use Rattle.capnp_build.specs.Outcomes.{LooksAtRoot};
-ghost use Rattle.capnp_build.specs.RootViews.{InitsView, GetsView, LeavesNull, LeavesRoot};
+ghost use Rattle.capnp_build.specs.RootViews.{InitsView, GetsView, FailsWithNull, LeavesRoot};
 
 use crate::allocator::Allocator;
 use crate::arena::builder_arena::BuilderArena;
@@ -24,7 +24,7 @@ impl<A: Allocator> BuilderArena<A> {
         ensures* rests { sem 𝓛 (RestsIfErr
             (the_row A.row A.Segment.row A.Allocator A.Segment.SegmentSpace) self.entry
             (λ view. view.message.ghost_name) result
-            (λ last. LeavesNull A.Allocator K.OwnedBuilder n self.old last result)) }
+            (λ last. FailsWithNull A.Allocator K.OwnedBuilder n self.old last result)) }
         ensures inits { InitsView A.Allocator K.OwnedBuilder n (λ arena. arena)
             (λ view. view.message) self.entry result }
     {
@@ -38,7 +38,7 @@ impl<A: Allocator> BuilderArena<A> {
         ensures* rests { sem 𝓛 (RestsIfErr
             (the_row A.row A.Segment.row A.Allocator A.Segment.SegmentSpace) self.entry
             (λ view. view.message.ghost_name) result
-            (λ last. LeavesNull A.Allocator K.OwnedBuilder 0 self.old last result)) }
+            (λ last. FailsWithNull A.Allocator K.OwnedBuilder 0 self.old last result)) }
         ensures inits { InitsView A.Allocator K.OwnedBuilder 0 (λ arena. arena)
             (λ view. view.message) self.entry result }
     {

@@ -7,8 +7,8 @@ use Rattle.capnp_frame.specs.declared.error.ErrorKind.{ErrorKind}
 use Rattle.capnp_frame.specs.declared.error.ErrorKind.TheVariants.{OutOfMemory}
 use Rattle.capnp_frame.specs.declared.serialize.segment_table.Padding.{Padding}
 use Rattle.capnp_frame.specs.Prelude.{table_size, KeepsPadding, KeepsLimit, number, declared_lengths, declared_padding, declared_segments, HoldsMessage, FlatForm, by_words, by_fields, count_of, AcceptsSeveral, FlatError, FlatRules, FoundBy, RulesError, Leaves, OrOutOfMemory, AcceptsFlat, ReadsFlat}
-use Rattle.capnp_frame.proofs.encodings.FrontMessages.{found_from_holds, within_declared}
-use Rattle.capnp_frame.proofs.slices.FlatLemmas.{FlatError-once, frame_counted, FlatError-apart}
+use Rattle.capnp_frame.proofs.encodings.FrontMessageLemmas.{found_from_holds, within_declared}
+use Rattle.capnp_frame.proofs.slices.FlatErrorLemmas.{FlatError-once, frame_counted, FlatError-apart}
 
 -- no line holds where a message is
 found_apart : (rules : FlatRules) (kind : ErrorKind) (bytes rest : List ℕ) (message : List (List ℕ)) → FoundBy rules message bytes rest → RulesError rules kind bytes → ⊥

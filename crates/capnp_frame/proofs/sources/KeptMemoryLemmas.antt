@@ -3,10 +3,10 @@ use Rattle.std.proofs.Common.{◌≡◌, ℕ, ◌*◌, ◌<◌, ◌≤◌, inl, 
 use Rattle.std.proofs.lemmas.List.{length-map}
 use Rattle.std.specs.Prelude.{sum}
 use Rattle.std.specs.List.{concat}
-use Rattle.capnp_frame.specs.Prelude.{lengths, word_count, size_in_words, Giving, Refusing, IsSource, MessageFound, Tells, Outgrows}
+use Rattle.capnp_frame.specs.Prelude.{lengths, word_count, size_in_words, Giving, Refusing, IsSource, MessageFound, DeclaresCount, Outgrows}
 use Rattle.capnp_frame.specs.declared.serialize.segment_table.Padding.{Padding}
-use Rattle.capnp_frame.proofs.tables.TableLemmas.{TableFound-once}
-use Rattle.capnp_frame.proofs.errors.StreamErrorLemmas.{few_tells}
+use Rattle.capnp_frame.proofs.tables.TableFieldLemmas.{TableFound-once}
+use Rattle.capnp_frame.proofs.errors.ErrorTableLemmas.{few_tells}
 
 -- a message of no more bytes and segments, or of one, outgrows it nowhere
 pub fits_kept : {gives : Giving} {refuses : Refusing} (rule : Padding) (laws : IsSource gives refuses) (limit : Option ℕ)
@@ -16,7 +16,7 @@ pub fits_kept : {gives : Giving} {refuses : Refusing} (rule : Padding) (laws : I
 fits_kept {gives} rule laws limit kept m raw rest left is_found few segments size (inl (there, more)) =
     let table = is_found.table in
     let first = laws.unique raw 8 there.word left table.first table.between there.given table.first_given in
-    let tells : Tells table.first there.count = subst (λ word. Tells word there.count) first.0 there.declared in
+    let tells : DeclaresCount table.first there.count = subst (λ word. DeclaresCount word there.count) first.0 there.declared in
     let long = length-map m word_count in
     let same = few_tells table.first table.others (lengths m) there.count table.table
     (laws.gives_all raw 8 table.first table.between table.first_given) (omega arith) tells in

@@ -9,15 +9,15 @@ use Rattle.std.specs.Prelude.{sum, slice_get}
 use Rattle.std.specs.List.{flat_map, AllByRecursion}
 use Rattle.std.specs.Int.{w32, from_le_bytes}
 use Rattle.capnp_frame.specs.declared.serialize.segment_table.Padding.{Padding}
-use Rattle.capnp_frame.specs.Prelude.{field, FitsField, table_size, padding_len, KeepsPadding, IsTable, number, numbers, declared_lengths, declared_padding, SpellsLengths, DeclaresTable}
-use Rattle.capnp_frame.proofs.tables.Ranges.{sum_push}
-use Rattle.capnp_frame.proofs.tables.TableLemmas.{length-fields, AllByRecursion-push, padding_at}
-use Rattle.capnp_frame.proofs.encodings.FrameLemmas.{length-table}
+use Rattle.capnp_frame.specs.Prelude.{table_field, FitsField, table_size, padding_len, KeepsPadding, IsTable, number, numbers, declared_lengths, declared_padding, SpellsLengths, DeclaresTable}
+use Rattle.capnp_frame.proofs.tables.RunningSumLemmas.{sum_push}
+use Rattle.capnp_frame.proofs.tables.TableFieldLemmas.{length-fields, AllByRecursion-push, padding_at}
+use Rattle.capnp_frame.proofs.encodings.FrameRequestLemmas.{length-table}
 
 -- numbers in fields
 
-pub number-field : (n : ℕ) (bytes : List ℕ) → n < 2 ^ 32 → field n ≡ take 4 bytes → number bytes ≡ n
-number-field n bytes fits read = ap (from_le_bytes w32) (sym read) ∙ from_le_bytes-to_le_bytes_4 n fits
+pub number-table_field : (n : ℕ) (bytes : List ℕ) → n < 2 ^ 32 → table_field n ≡ take 4 bytes → number bytes ≡ n
+number-table_field n bytes fits read = ap (from_le_bytes w32) (sym read) ∙ from_le_bytes-to_le_bytes_4 n fits
 
 pub numbers-suc : (count : ℕ) (bytes : List ℕ) → numbers (suc count) bytes ≡ numbers count bytes ++ number (drop (4 * count) bytes) ∷ []
 numbers-suc zero bytes = refl
@@ -44,10 +44,10 @@ number_at (suc index) (suc count) bytes less =
     number_at index count (drop 4 bytes) (omega arith) ∙ ap (λ l. Some (number l)) (drop-drop (4 * index) 4 bytes ∙ ap (λ k. drop k bytes) further)
 
 -- the numbers in the fields of some numbers are these numbers
-numbers_declared : (ns rest : List ℕ) → AllByRecursion FitsField ns → numbers (length ns) (flat_map field ns ++ rest) ≡ ns
+numbers_declared : (ns rest : List ℕ) → AllByRecursion FitsField ns → numbers (length ns) (flat_map table_field ns ++ rest) ≡ ns
 numbers_declared [] rest fits = refl
 numbers_declared (n ∷ ns) rest fits =
-    ap (λ k. k ∷ numbers (length ns) (flat_map field ns ++ rest)) (from_le_bytes-to_le_bytes_4 n fits.0)
+    ap (λ k. k ∷ numbers (length ns) (flat_map table_field ns ++ rest)) (from_le_bytes-to_le_bytes_4 n fits.0)
     ∙ ap (λ l. n ∷ l) (numbers_declared ns rest fits.1)
 
 -- a length more
@@ -56,19 +56,19 @@ pub record TellsMore (bytes : List ℕ) (index n : ℕ) : Type 0 where
   pub next : declared_lengths (index + 1) bytes ≡ declared_lengths index bytes ++ n ∷ []
   pub total : sum (declared_lengths (index + 1) bytes) ≡ sum (declared_lengths index bytes) + n
 
-pub tells_more : (bytes : List ℕ) (index n : ℕ) → n < 2 ^ 32 → field n ≡ take 4 (drop (4 * (index + 1)) bytes) → SpellsLengths bytes index → TellsMore bytes index n
+pub tells_more : (bytes : List ℕ) (index n : ℕ) → n < 2 ^ 32 → table_field n ≡ take 4 (drop (4 * (index + 1)) bytes) → SpellsLengths bytes index → TellsMore bytes index n
 tells_more bytes index n fits read before =
     let place : 4 + 4 * index ≡ 4 * (index + 1) = omega arith in
     let there : drop (4 * index) (drop 4 bytes) ≡ drop (4 * (index + 1)) bytes = drop-drop (4 * index) 4 bytes ∙ ap (λ k. drop k bytes) place in
-    let here : number (drop (4 * index) (drop 4 bytes)) ≡ n = ap number there ∙ number-field n (drop (4 * (index + 1)) bytes) fits read in
+    let here : number (drop (4 * index) (drop 4 bytes)) ≡ n = ap number there ∙ number-table_field n (drop (4 * (index + 1)) bytes) fits read in
     let next : declared_lengths (index + 1) bytes ≡ declared_lengths index bytes ++ n ∷ [] = ap (λ k. numbers k (drop 4 bytes))
     (add-one index) ∙ numbers-suc index (drop 4 bytes) ∙ ap (λ k. declared_lengths index bytes ++ k ∷ []) here in
     let more : 4 * index + 4 ≡ 4 * (index + 1) = omega arith in
     record {
       lengths = record {
         each = subst (AllByRecursion FitsField) (sym next) (AllByRecursion-push FitsField (declared_lengths index bytes) n before.each fits);
-        spelled = ap (flat_map field) next ∙ flat_map-append field (declared_lengths index bytes) (n ∷ [])
-            ∙ ap (λ l. l ++ field n) before.spelled ∙ ap (λ l. take (4 * index) (drop 4 bytes) ++ l)
+        spelled = ap (flat_map table_field) next ∙ flat_map-append table_field (declared_lengths index bytes) (n ∷ [])
+            ∙ ap (λ l. l ++ table_field n) before.spelled ∙ ap (λ l. take (4 * index) (drop 4 bytes) ++ l)
             (read ∙ ap (take 4) (sym there)) ∙ sym (take-add (4 * index) 4 (drop 4 bytes))
             ∙ ap (λ k. take k (drop 4 bytes)) more;
       };
@@ -92,10 +92,10 @@ table_is rule bytes count tells kept =
     let table = take (table_size count) bytes in
     let fields : take (4 * (count + 1)) table ≡ take (4 * (count + 1)) bytes = take-take (4 * (count + 1)) (table_size count) bytes (omega arith) in
     let place : 4 * (count + 1) ≡ 4 + 4 * count = omega arith in
-    let front : take (4 + 4 * count) bytes ≡ field (length ns - 1) ++ flat_map field ns = take-add 4 (4 * count) bytes
+    let front : take (4 + 4 * count) bytes ≡ table_field (length ns - 1) ++ flat_map table_field ns = take-add 4 (4 * count) bytes
     ∙ ap (λ l. l ++ take (4 * count) (drop 4 bytes)) (sym tells.counted)
-    ∙ ap (λ l. field (count - 1) ++ l) (sym tells.lengths.spelled)
-    ∙ ap (λ k. field (k - 1) ++ flat_map field ns) (sym len) in
+    ∙ ap (λ l. table_field (count - 1) ++ l) (sym tells.lengths.spelled)
+    ∙ ap (λ k. table_field (k - 1) ++ flat_map table_field ns) (sym len) in
     let padded : length (declared_padding count bytes) ≡ padding_len ns = length-drop (4 * (count + 1)) table ∙ ap (λ k. k - 4 * (count + 1)) (length-take-le (table_size count) bytes room) ∙ padding_is count (length ns) (sym len) in
     record {
       can = record { some = omega arith; count = omega arith; each = tells.lengths.each };
@@ -124,14 +124,14 @@ pub declared_from_table : {rule : Padding} (table rest ns : List ℕ) → IsTabl
 declared_from_table {rule} table rest ns is few =
     let count = length ns in
     let some = is.can.some in
-    let following = flat_map field ns ++ (is.padding ++ rest) in
-    let bytes_are : table ++ rest ≡ field (count - 1) ++ following = ap (λ l. l ++ rest) is.spelled
-    ∙ append_assoc (field (count - 1) ++ flat_map field ns) is.padding rest
-    ∙ append_assoc (field (count - 1)) (flat_map field ns) (is.padding ++ rest) in
-    let first : field (count - 1) ≡ take 4 (table ++ rest) = ap (take 4) (sym bytes_are) in
+    let following = flat_map table_field ns ++ (is.padding ++ rest) in
+    let bytes_are : table ++ rest ≡ table_field (count - 1) ++ following = ap (λ l. l ++ rest) is.spelled
+    ∙ append_assoc (table_field (count - 1) ++ flat_map table_field ns) is.padding rest
+    ∙ append_assoc (table_field (count - 1)) (flat_map table_field ns) (is.padding ++ rest) in
+    let first : table_field (count - 1) ≡ take 4 (table ++ rest) = ap (take 4) (sym bytes_are) in
     let others : drop 4 (table ++ rest) ≡ following = ap (drop 4) bytes_are in
     let declared : declared_lengths count (table ++ rest) ≡ ns = ap (numbers count) others ∙ numbers_declared ns (is.padding ++ rest) is.can.each in
-    let number_is = number-field (count - 1) (table ++ rest) (omega arith) first in
+    let number_is = number-table_field (count - 1) (table ++ rest) (omega arith) first in
     record {
       tells = record {
         some = some;
@@ -139,7 +139,7 @@ declared_from_table {rule} table rest ns is few =
         counted = first;
         lengths = record {
           each = subst (AllByRecursion FitsField) (sym declared) is.can.each;
-          spelled = ap (flat_map field) declared ∙ sym (take_at (flat_map field ns) (is.padding ++ rest) (4 * count) (length-fields ns)) ∙ ap (take (4 * count)) (sym others);
+          spelled = ap (flat_map table_field) declared ∙ sym (take_at (flat_map table_field ns) (is.padding ++ rest) (4 * count) (length-fields ns)) ∙ ap (take (4 * count)) (sym others);
         };
         room = omega (arith, length-table table ns is, length-append table rest);
       };

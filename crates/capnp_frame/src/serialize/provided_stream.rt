@@ -7,7 +7,7 @@ ghost use Rattle.capnp_frame.specs.Source.{IfKnown};
 ghost use Rattle.capnp_frame.specs.Asking.{Asked, FailsOr};
 ghost use Rattle.capnp_frame.specs.Errors.{FailsWith};
 ghost use Rattle.capnp_frame.specs.Streams.{next_in, framed_rules, ReadsStreamInto};
-ghost use Rattle.capnp_frame.specs.Steps.{FindsTable, FindsMessage, AsksNextInto, TableRestError, CompleteTableError};
+ghost use Rattle.capnp_frame.specs.Steps.{FindsTable, FindsMessageSize, AsksNextInto, TableRestError, CompleteTableError};
 ghost use Rattle.capnp_frame.specs.Requests.{RestFound, TableFound, MessageFound};
 ghost use Rattle.capnp_frame.specs.StreamErrors.{DeclaresAccepted, TableError, StreamError, IsTableKind, IsProvidedReaderKind};
 ghost use Rattle.capnp_frame.specs.declared.error.ErrorKind.{ErrorKind};
@@ -83,7 +83,7 @@ pub(crate) fn read_into<R: Read>(
     buffer: &mut [u8],
 ) -> Result<Option<NoAllocSegmentTableInfo>>
     ensures message { IfOk result (λ found. IfSome found (λ info.
-        FindsMessage rules.padding R.gives rules.limit_in_words buffer.new info.segments_count info.total_segments_length_bytes
+        FindsMessageSize rules.padding R.gives rules.limit_in_words buffer.new info.segments_count info.total_segments_length_bytes
         (R.unread source.old) (R.unread source.new))) }
     ensures asks { AsksNextInto R.Read source.old source.new rules.padding (length buffer.old)
         (StreamError rules.padding R.gives R.refuses rules.limit_in_words

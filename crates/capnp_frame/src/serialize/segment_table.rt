@@ -1,9 +1,9 @@
 //! The segment table at the front of a framed message: its fields, and the lengths that they
 //! declare.
 ghost use Rattle.std.specs.Prelude.{◌≡◌, ◌+◌, ◌*◌, ◌<◌, ◌≤◌, ◌^◌, length, map, take, drop, sum, ℕ, OnOk, IfOk, IfErr, IfSome, IsSomeAnd};
-ghost use Rattle.capnp_frame.specs.SegmentTable.{field, table_size, KeepsPadding};
+ghost use Rattle.capnp_frame.specs.SegmentTable.{table_field, table_size, KeepsPadding};
 ghost use Rattle.capnp_frame.specs.SegmentLengths.{range_len, AreRanges};
-ghost use Rattle.capnp_frame.specs.StreamErrors.{Tells, DeclaresAccepted, IsOutOfRange};
+ghost use Rattle.capnp_frame.specs.StreamErrors.{DeclaresCount, DeclaresAccepted, IsOutOfRange};
 ghost use Rattle.capnp_frame.specs.Front.{declared_lengths, declared_padding, SpellsLengths};
 
 use crate::error::{Error, ErrorKind, Result};
@@ -63,7 +63,7 @@ pub(crate) fn table_len(count: usize) -> usize
 /// The number in the four bytes at `at`.
 pub(crate) fn field_at(table: &[u8], at: usize) -> u32
     requires { at + 4 ≤ length table.now }
-    ensures { field result ≡ take 4 (drop at table.now) }
+    ensures { table_field result ≡ take 4 (drop at table.now) }
 {
     u32::from_le_bytes([table[at], table[at + 1], table[at + 2], table[at + 3]])
 }
@@ -75,7 +75,7 @@ pub(crate) fn field_at(table: &[u8], at: usize) -> u32
 /// fails as 2^32 there.
 pub(crate) fn accepted_count(first: &[u8; 8]) -> Result<usize>
     ensures accepted { IfOk result (DeclaresAccepted first.now) }
-    ensures errors { IfErr result (λ error. (count : ℕ) × Tells first.now count
+    ensures errors { IfErr result (λ error. (count : ℕ) × DeclaresCount first.now count
         × IsOutOfRange count × (error.kind ≡ ErrorKind.InvalidNumberOfSegments count)) }
 {
     let count = field_at(first, 0).wrapping_add(1) as usize;

@@ -2,7 +2,7 @@
 ghost use Rattle.std.specs.Prelude.{◌≡◌, ◌+◌, ◌<◌, ◌≤◌, ◌^◌, length, take, drop, replicate, ◌++◌, slice_get, Some, IfSome, IfNone, IfErr};
 ghost use Rattle.std.specs.List.{AllByRecursion, concat};
 ghost use Rattle.capnp_frame.specs.Message.{IsWholeWords, lengths};
-ghost use Rattle.capnp_frame.specs.SegmentTable.{field, zero_padded_table, table_size};
+ghost use Rattle.capnp_frame.specs.SegmentTable.{table_field, zero_padded_table, table_size};
 ghost use Rattle.capnp_frame.specs.Writing.{IsWritable, SegmentCountError, word_and_rest, table_chunks};
 ghost use Rattle.capnp_frame.specs.Sink.{AppendsAll, LeavesSome, ChunksError};
 ghost use Rattle.capnp_frame.specs.Writers.{WritesTo, WritesChunks, WritesSegments, TakesGranted, NoError, TableMemoryError, KeepsCount, ReturnsEncoding, CountsWords};
@@ -162,7 +162,7 @@ fn fill_table<S: ReaderSegments>(table: &mut [u8], segments: &S)
 // Writes a number into the four bytes at `at`.
 fn put_field(table: &mut [u8], at: usize, number: u32)
     requires { at + 4 ≤ length table.old }
-    ensures { table.new ≡ take at table.old ++ field number ++ drop (at + 4) table.old }
+    ensures { table.new ≡ take at table.old ++ table_field number ++ drop (at + 4) table.old }
 {
     table[at..at + 4].copy_from_slice(&number.to_le_bytes());
 }

@@ -16,7 +16,7 @@ put_parts front middle rest words at here long =
     rw (one, two) refl
 
 -- where the words that are put have room, the block is in three parts
-pub record Parts (at n : ℕ) (block : List ℕ) : Type 0 where
+pub record BlockParts (at n : ℕ) (block : List ℕ) : Type 0 where
   pub front : List ℕ
   pub middle : List ℕ
   pub rest : List ℕ
@@ -24,7 +24,7 @@ pub record Parts (at n : ℕ) (block : List ℕ) : Type 0 where
   pub begins : length front ≡ at
   pub long : length middle ≡ n
 
-pub parts : (at n : ℕ) (block : List ℕ) → at + n ≤ length block → Parts at n block
+pub parts : (at n : ℕ) (block : List ℕ) → at + n ≤ length block → BlockParts at n block
 parts at n block room = record {
   front = take at block;
   middle = take n (drop at block);

@@ -2,7 +2,7 @@
 use Rattle.std.proofs.Common.{◌≡◌, ℕ, ◌+◌, ◌<◌, ◌≤◌, List, [], ◌∷◌, subst, arith}
 use Rattle.capnp_layout.specs.Prelude.{Form, Trees, none, tree, At, nowhere, at, IsIn, here, there, Below, directly, further}
 use Rattle.capnp_layout.specs.declared.place.Place.{Place}
-use Rattle.capnp_layout.proofs.objects.ObjectLemmas.{one_object, one_tree}
+use Rattle.capnp_layout.proofs.objects.OneObjectLemmas.{one_object, one_tree}
 
 -- how many pointers trees have
 objects : Trees → ℕ

@@ -3,8 +3,8 @@ use Rattle.std.proofs.Common.{◌≡◌, ℕ, zero, suc, ◌+◌, ◌*◌, ◌<�
 use Rattle.std.proofs.Math.Seq.{take-append_seam, drop-append-add}
 use Rattle.capnp_layout.specs.Prelude.{words_from, places, elements_from, pointer_places}
 use Rattle.capnp_layout.specs.declared.place.Place.{Place}
-use Rattle.capnp_layout.proofs.objects.FieldLemmas.{length-places}
-use Rattle.capnp_layout.proofs.trees.RoomLemmas.{length-elements_from}
+use Rattle.capnp_layout.proofs.objects.StructFieldLemmas.{length-places}
+use Rattle.capnp_layout.proofs.trees.FieldRoomLemmas.{length-elements_from}
 
 -- the words up to an element
 next_struct : (start i d p : ℕ) → start + d + p + i * (d + p) ≡ start + suc i * (d + p)

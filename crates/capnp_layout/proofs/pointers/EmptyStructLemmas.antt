@@ -3,7 +3,7 @@ use Rattle.std.proofs.Common.{◌≡◌, ℕ, Bool, true, false, List, [], Some,
 use Rattle.std.proofs.lemmas.Option.{slice_get_within}
 use Rattle.capnp_layout.specs.Prelude.{struct, Trees, none, tree, Shape, PointsTo, local, a_struct, is_object, output, empty_struct}
 use Rattle.capnp_layout.specs.declared.place.Place.{Place}
-use Rattle.capnp_layout.proofs.pointers.LocalLemmas.{word_there}
+use Rattle.capnp_layout.proofs.pointers.LocalObjectLemmas.{word_there}
 
 abbrev pub empty_shape : Shape
 empty_shape = record { form = struct []; children = []; traversed = 0 }

@@ -13,7 +13,7 @@ use Rattle.capnp_layout.specs.declared.object.Body.TheVariants.{Struct, Numbers,
 use Rattle.capnp_layout.specs.declared.landing_pad.Landing.{Landing as ReadLanding}
 use Rattle.capnp_layout.specs.declared.pointer.FarPointer.{FarPointer}
 use Rattle.capnp_layout.specs.declared.pointer.LocalPointer.{LocalPointer}
-use Rattle.capnp_layout.proofs.words.MessageLemmas.{segment_is_there, no_segment_is_there, word_is_there, no_word_is_there}
+use Rattle.capnp_layout.proofs.words.MessageWordLemmas.{segment_is_there, no_segment_is_there, word_is_in_message, no_word_is_there}
 
 -- what `?` passes on is of the same kind as the error that it returns
 pub passed_kind : {Y : Type 0} {error : Error} {kind : ErrorKind} (result : Result Y Error) → IsErrAnd result (λ y. y ≡ error) → error.kind ≡ kind → IsErrAnd result (λ y. y.kind ≡ kind)
@@ -21,8 +21,8 @@ passed_kind (Ok y) is same = absurd is
 passed_kind (Err e) is same = ap (λ (x : Error). x.kind) is ∙ same
 
 -- what an offset from a word leads to, if that is in its segment
-abbrev pub LeadsTo : Option ℕ → ℕ → ℕ → Type 0
-LeadsTo found bits word =
+abbrev pub OffsetPointsTo : Option ℕ → ℕ → ℕ → Type 0
+OffsetPointsTo found bits word =
     MatchOption found ((start : ℕ) → start + 2 ^ 30 * (bits / 2 ^ 29) ≡ word + 1 + bits → ⊥) (λ start. start + 2 ^ 30 * (bits / 2 ^ 29) ≡ word + 1 + bits)
 
 -- what the caller has seen of a pointer within its segment, and what is read of where it leads
@@ -31,7 +31,7 @@ pub record Seen (from : Place) (landing_pads : ℕ) (local : LocalPointer) (byte
   pub number : read.number ≡ from.segment
   pub shape : read.shape ≡ local.shape
   pub landing_pads_are : read.landing_pads ≡ landing_pads
-  pub start : LeadsTo read.start local.offset.0 from.word
+  pub start : OffsetPointsTo read.start local.offset.0 from.word
 
 pub local_landing : (m : List (List ℕ)) (place from : Place) (word landing_pads : ℕ) (local : LocalPointer) (bytes : List ℕ) (read : ReadLanding)
     → Lands m place (record { segment = from.segment; origin = following from.word; tag = word; landing_pads = landing_pads }) → landing_pads ≤ 2
@@ -42,7 +42,7 @@ local_landing m place from word landing_pads local bytes read lands few content 
   number = sym seen.number;
   content = content ∙ ap (λ (l : List ℕ). Some (words_of l)) (sym seen.segment);
   shape = subst (IsLocalShape word) (sym seen.shape) local_is.shape_is;
-  start = subst (λ (x : ℕ). LeadsTo read.start x from.word) local_is.offset_is seen.start;
+  start = subst (λ (x : ℕ). OffsetPointsTo read.start x from.word) local_is.offset_is seen.start;
   landing_pads = sym seen.landing_pads_are;
   few_landing_pads = few;
   small = local_is.small;
@@ -75,14 +75,14 @@ pub landing_pad_word : (segments : List (List ℕ)) (word : ℕ) (far : FarPoint
     → slice_get segments far.landing_pad.segment ≡ Some bytes → slice_get (words_of bytes) far.landing_pad.word ≡ Some first
     → word_at (message_of segments) (landing_pad word) ≡ Some first
 landing_pad_word segments word far bytes first far_is segment e =
-    subst (λ (x : Place). word_at (message_of segments) x ≡ Some first) far_is.landing_pad_is (word_is_there segments far.landing_pad bytes first segment e)
+    subst (λ (x : Place). word_at (message_of segments) x ≡ Some first) far_is.landing_pad_is (word_is_in_message segments far.landing_pad bytes first segment e)
 
 pub second_word : (segments : List (List ℕ)) (word : ℕ) (far : FarPointer) (bytes : List ℕ) (tag : ℕ) → IsFarPointer word far
     → slice_get segments far.landing_pad.segment ≡ Some bytes → slice_get (words_of bytes) (far.landing_pad.word + 1) ≡ Some tag
     → word_at (message_of segments) (landing_pad_tag word) ≡ Some tag
 second_word segments word far bytes tag far_is segment e =
     subst (λ (x : Place). word_at (message_of segments) (record { segment = x.segment; word = x.word + 1 }) ≡ Some tag) far_is.landing_pad_is
-    (word_is_there segments (record { segment = far.landing_pad.segment; word = far.landing_pad.word + 1 }) bytes tag segment e)
+    (word_is_in_message segments (record { segment = far.landing_pad.segment; word = far.landing_pad.word + 1 }) bytes tag segment e)
 
 pub no_second_word : (segments : List (List ℕ)) (word : ℕ) (far : FarPointer) (bytes : List ℕ) → IsFarPointer word far
     → slice_get segments far.landing_pad.segment ≡ Some bytes → slice_get (words_of bytes) (far.landing_pad.word + 1) ≡ None

@@ -6,13 +6,13 @@ use Rattle.std.proofs.lemmas.Option.{slice_get-get_or}
 use Rattle.capnp_layout.specs.Prelude.{words_from, null, Trees, none, tree, depth, total_words, keep_word, cut_zeros, trim, places, is_null as null_there, At, nowhere, at, output, run, AllHaveRoom, put, fill, AreNull, least_size, output_body_of}
 use Rattle.capnp_layout.specs.declared.pointer.StructSize.{StructSize}
 use Rattle.capnp_layout.specs.declared.object.Body.TheVariants.{Struct}
-use Rattle.capnp_layout.proofs.words.WordLemmas.{take-add}
+use Rattle.capnp_layout.proofs.words.WordByteLemmas.{take-add}
 use Rattle.capnp_layout.proofs.layouts.BlockLemmas.{put_none, put_both, length-put}
-use Rattle.capnp_layout.proofs.words.CutLemmas.{cut-cut}
-use Rattle.capnp_layout.proofs.trees.FrontLemmas.{cut_words}
-use Rattle.capnp_layout.proofs.words.UsedLemmas.{most_within}
+use Rattle.capnp_layout.proofs.words.ZeroCutLemmas.{cut_zeros-cut_zeros}
+use Rattle.capnp_layout.proofs.trees.TrimmedFrontLemmas.{cut_words}
+use Rattle.capnp_layout.proofs.words.TrailingZeroLemmas.{most_within}
 use Rattle.capnp_layout.proofs.forms.TruncatedLemmas.{drop_first}
-use Rattle.capnp_layout.proofs.pointers.LocalLemmas.{word_there}
+use Rattle.capnp_layout.proofs.pointers.LocalObjectLemmas.{word_there}
 
 -- a given number of nulls
 abbrev pub nulls : ℕ → Trees
@@ -35,9 +35,9 @@ pub nulls_output : (c : Bool) (n : ℕ) → output c (nulls n) ≡ nulls n
 nulls_output true n = trim_nulls n
 nulls_output false n = refl
 
-pub no_words : (n : ℕ) → total_words (nulls n) ≡ 0
-no_words zero = refl
-no_words (suc n) = omega (arith, no_words n)
+pub nulls_have_no_words : (n : ℕ) → total_words (nulls n) ≡ 0
+nulls_have_no_words zero = refl
+nulls_have_no_words (suc n) = omega (arith, nulls_have_no_words n)
 
 -- the first of them, and the others
 record FirstNull (words : List ℕ) (start n : ℕ) : Type 0 where
@@ -93,7 +93,7 @@ none_or_whole true words start from size is are =
     let least : size ≡ least_size words start from 1 = cc in
     let kept_is : size.pointers ≡ length (cut_zeros (words_from words (start + from.data_words) from.pointers)) = omega (arith, ap (λ (s : StructSize). s.pointers) least) in
     let kept = cut_words words (start + from.data_words) from.pointers size.pointers kept_is (omega (arith, kept_is, most_within words (start + from.data_words) from.pointers)) in
-    inl (kept_is ∙ ap length (sym (cut-cut (words_from words (start + from.data_words) from.pointers)) ∙ ap cut_zeros kept) ∙ are)
+    inl (kept_is ∙ ap length (sym (cut_zeros-cut_zeros (words_from words (start + from.data_words) from.pointers)) ∙ ap cut_zeros kept) ∙ are)
 
 pub seam : (words : List ℕ) (start d e q : ℕ) → (q ≡ 0) ⊎ (e ≡ d) → words_from words start (e + q) ≡ words_from words start e ++ words_from words (start + d) q
 seam words start d e q (inl no_pointers) =

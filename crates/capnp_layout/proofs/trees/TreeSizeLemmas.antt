@@ -6,14 +6,14 @@ use Rattle.capnp_layout.specs.declared.place.Place.{Place}
 use Rattle.capnp_layout.specs.declared.object.Body.{Body}
 use Rattle.capnp_layout.specs.declared.object.Body.TheVariants.{Struct, Numbers, Pointers, Structs}
 use Rattle.capnp_layout.specs.declared.object.Object.{Object as ReadObject}
-use Rattle.capnp_layout.proofs.words.WordLemmas.{length-words_of}
+use Rattle.capnp_layout.proofs.words.WordByteLemmas.{length-words_of}
 use Rattle.capnp_layout.proofs.trees.TreeCountLemmas.{count_at}
-use Rattle.capnp_layout.proofs.trees.ChunkLemmas.{cut-first, count-following, total-before, total-chunks}
-use Rattle.capnp_layout.proofs.trees.KeptLemmas.{rooms_first, rooms_after, used_where_some, least_data_is, least_pointers_are, long_places}
-use Rattle.capnp_layout.proofs.trees.FrontLemmas.{trim_before, count_cut_trim}
-use Rattle.capnp_layout.proofs.trees.RoomLemmas.{length-elements_from, length-pointer_places}
-use Rattle.capnp_layout.proofs.trees.TrimLemmas.{count-trim, room_trim}
-use Rattle.capnp_layout.proofs.objects.OwnWordLemmas.{own_words_are}
+use Rattle.capnp_layout.proofs.trees.TreePartLemmas.{cut-first, count-following, total-before, total-chunks}
+use Rattle.capnp_layout.proofs.trees.TrimmedPlaceLemmas.{rooms_first, rooms_after, used_where_some, least_data_is, least_pointers_are, long_places}
+use Rattle.capnp_layout.proofs.trees.TrimmedFrontLemmas.{trim_before, count_cut_trim}
+use Rattle.capnp_layout.proofs.trees.FieldRoomLemmas.{length-elements_from, length-pointer_places}
+use Rattle.capnp_layout.proofs.trees.TrimmedTreeLemmas.{count-trim, room_trim}
+use Rattle.capnp_layout.proofs.objects.ObjectWordLemmas.{own_words_are}
 
 -- the words of an object alone: with those of the trees below it they are the words of the whole
 pub record OwnOf (m : List (List ℕ)) (c : Bool) (shape : Shape) (own : ℕ) : Type 0 where

@@ -7,7 +7,7 @@ use Rattle.std.proofs.Common.{◌≡◌, ℕ, zero, suc, ◌+◌, ◌-◌, ◌*�
 use native.Mathlib.Nat.{pow-zero}
 use Rattle.std.specs.Prelude.{All}
 use Rattle.capnp_layout.specs.Prelude.{digits, number_of}
-use Rattle.capnp_layout.proofs.objects.ElementLemmas.{low_digit, high_digits}
+use Rattle.capnp_layout.proofs.objects.ListWordLemmas.{low_digit, high_digits}
 
 -- a word among some words
 pub word_in_number : (words : List ℕ) (q : ℕ) → All (λ w. w < 2 ^ 64) words → number_of (2 ^ 64) words / (2 ^ 64) ^ q % 2 ^ 64 ≡ slice_index_or words q 0

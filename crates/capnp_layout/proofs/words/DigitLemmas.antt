@@ -6,7 +6,7 @@ use Rattle.std.proofs.lemmas.List.Elements.{All-head, All-tail}
 use Rattle.std.proofs.Common.{◌≡◌, ℕ, zero, suc, ◌+◌, ◌*◌, ◌/◌, ◌%◌, ◌^◌, ◌<◌, ◌≤◌, List, [], ◌∷◌, length, refl, ap, arith}
 use Rattle.std.specs.Prelude.{All}
 use Rattle.capnp_layout.specs.Prelude.{digits, number_of, words_for}
-use Rattle.capnp_layout.proofs.objects.ElementLemmas.{low_digit, high_digits}
+use Rattle.capnp_layout.proofs.objects.ListWordLemmas.{low_digit, high_digits}
 
 pub length-digits : (base n x : ℕ) → length (digits base n x) ≡ n
 length-digits base zero x = refl

@@ -93,12 +93,12 @@ fn is_text(text: Result<text::Reader<'_>>, index: u32) -> bool {
     }
 }
 
-fn leads_to_text(pointer: &Pointer<'_>, index: u32) -> bool {
+fn points_to_text(pointer: &Pointer<'_>, index: u32) -> bool {
     is_text(pointer.get_as(), index)
 }
 
 fn is_struct(element: &StructReader<'_, SegmentArray<'_>>, index: u32) -> bool {
-    element.get_word(0) == number(index) && leads_to_text(&element.get_pointer(0), index)
+    element.get_word(0) == number(index) && points_to_text(&element.get_pointer(0), index)
 }
 
 // As a list of structs, and as what became of one: of structs, of their numbers and of their texts.
@@ -134,10 +134,10 @@ fn are_pointers(arena: &Arena<'_>) -> Result<bool> {
         if index >= pointers.len() || index >= texts.len() {
             return Ok(false);
         }
-        if !leads_to_text(&pointer, index) || !is_text(text, index) {
+        if !points_to_text(&pointer, index) || !is_text(text, index) {
             return Ok(false);
         }
-        if !leads_to_text(&pointers.get(index), index) || !is_text(texts.get(index), index) {
+        if !points_to_text(&pointers.get(index), index) || !is_text(texts.get(index), index) {
             return Ok(false);
         }
         index = index.wrapping_add(1);
@@ -177,10 +177,10 @@ fn are_texts(arena: &Arena<'_>) -> Result<bool> {
         if index >= pointers.len() || index >= texts.len() || index >= data.len() {
             return Ok(false);
         }
-        if !leads_to_text(&pointer, index) || !is_text(text, index) {
+        if !points_to_text(&pointer, index) || !is_text(text, index) {
             return Ok(false);
         }
-        if !leads_to_text(&pointers.get(index), index) || !is_text(texts.get(index), index) {
+        if !points_to_text(&pointers.get(index), index) || !is_text(texts.get(index), index) {
             return Ok(false);
         }
         if !is_data(data.get(index), index) || index >= lists.len() {

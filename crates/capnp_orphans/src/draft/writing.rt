@@ -13,11 +13,11 @@ use capnp_values::words_fit;
 // The data words, and then the pointers. 2^16 or more of either fail with `AllocationTooLarge`.
 impl<T, const D: usize, const P: usize> Object for StructDraft<T, D, P> {
     ghost use Rattle.std.specs.Prelude.{false};
-    ghost use Rattle.capnp_orphans.specs.Holds.{HoldsStruct, TakesStruct, StructSizeError};
+    ghost use Rattle.capnp_orphans.specs.Holds.{HoldsStruct, TakesStructWords, StructSizeError};
 
     ghost holds = { λ draft old new word. HoldsStruct old draft.words draft.pointers new word };
 
-    ghost takes = { λ draft words. TakesStruct D P words };
+    ghost takes = { λ draft words. TakesStructWords D P words };
 
     ghost fails = { λ draft kind. StructSizeError D P kind };
 

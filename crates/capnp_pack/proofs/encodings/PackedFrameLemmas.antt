@@ -4,14 +4,14 @@ use Rattle.std.proofs.lemmas.List.{take-append-drop, length-take-le, length-drop
 use Rattle.std.proofs.lemmas.List.Concat.{flat_map-append}
 use Rattle.std.proofs.lemmas.List.Folds.{concat-append}
 use Rattle.std.specs.List.{concat, flat_map, AllByRecursion}
-use Rattle.capnp_frame.specs.Prelude.{IsWholeWords, lengths, field, padding_len, zero_padded_table, HasTable, IsTable, MessageFound, AppendsAll}
+use Rattle.capnp_frame.specs.Prelude.{IsWholeWords, lengths, table_field, padding_len, zero_padded_table, HasTable, IsTable, MessageFound, AppendsAll}
 use Rattle.capnp_frame.specs.declared.serialize.segment_table.Padding.{Padding}
 use Rattle.capnp_frame.specs.declared.serialize.segment_table.Padding.TheVariants.{Zero}
-use Rattle.capnp_frame.proofs.tables.TableLemmas.{length-fields, zero_table}
-use Rattle.capnp_frame.proofs.encodings.FrameLemmas.{zero_padded_is, length-table, length-segments}
+use Rattle.capnp_frame.proofs.tables.TableFieldLemmas.{length-fields, zero_table}
+use Rattle.capnp_frame.proofs.encodings.FrameRequestLemmas.{zero_padded_is, length-table, length-segments}
 use Rattle.capnp_pack.specs.Prelude.{IsGroup, group_encoding, group_words, IsChunk, encoding_of, words_of_groups, Packs, IsPackedFrame, IsPackedEncoding, Unpacks}
-use Rattle.capnp_pack.proofs.words.AllLemmas.{AllByRecursion-append}
-use Rattle.capnp_pack.proofs.packing.PackerLemmas.{Packs-some, Packs-whole}
+use Rattle.capnp_pack.proofs.words.EachElementLemmas.{AllByRecursion-append}
+use Rattle.capnp_pack.proofs.packing.OneEncodingLemmas.{Packs-some, Packs-whole}
 
 -- the three requests of a packed source are the three chunks
 
@@ -125,8 +125,8 @@ all_packed (s ∷ ss) whole =
 length-zero_padded : (ns : List ℕ) → length (zero_padded_table ns) ≡ 4 + 4 * length ns + 4 * ((length ns + 1) % 2)
 length-zero_padded ns = omega (
   arith,
-  length-append (field (length ns - 1) ++ flat_map field ns) (replicate (padding_len ns) 0),
-  length-append (field (length ns - 1)) (flat_map field ns),
+  length-append (table_field (length ns - 1) ++ flat_map table_field ns) (replicate (padding_len ns) 0),
+  length-append (table_field (length ns - 1)) (flat_map table_field ns),
   length-fields ns,
   length-replicate {A = ℕ} (padding_len ns) 0,
 )

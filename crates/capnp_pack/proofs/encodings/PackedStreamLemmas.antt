@@ -7,10 +7,10 @@ use Rattle.capnp_frame.specs.declared.error.ErrorKind.TheVariants.{DeviceFailed,
 use Rattle.capnp_frame.specs.declared.serialize.segment_table.Padding.{Padding}
 use Rattle.capnp_frame.specs.declared.io.Read.{Ghosts}
 use Rattle.capnp_frame.specs.Prelude.{size_in_words, Outgrows, TakesForLengths, TableFound, cut, SkipsMessage, LengthsFound, IfKnown, ReadsTable, table_size, framed_rules, reusing_rules, skipping_rules, ReadsStream, ReadsStreamInto}
-use Rattle.capnp_frame.proofs.encodings.RequestLemmas.{lengths-cut, MessageFound-cut}
-use Rattle.capnp_frame.proofs.sources.SourceLemmas.{IfKnown-join}
+use Rattle.capnp_frame.proofs.encodings.MessageRequestLemmas.{lengths-cut, MessageFound-cut}
+use Rattle.capnp_frame.proofs.sources.RequestSequenceLemmas.{IfKnown-join}
 use Rattle.capnp_pack.specs.Prelude.{Unpacks, ChunkError, packed_rules, packed_reusing_rules, packed_skipping_rules, packed_source}
-use Rattle.capnp_pack.proofs.encodings.MessageLemmas.{found_packed, accepted_packed}
+use Rattle.capnp_pack.proofs.encodings.PackedRequestLemmas.{found_packed, accepted_packed}
 
 -- what unpacks a source: what is seen of it is what is seen of that source
 abbrev pub unpacked : {S T : Type 0} → (T → S) → Ghosts S → (T → T → Type 0) → Ghosts T

@@ -9,7 +9,7 @@ use Rattle.capnp_frame.specs.declared.error.ErrorKind.{ErrorKind}
 use Rattle.capnp_frame.specs.declared.error.ErrorKind.TheVariants.{PrematureEndOfPackedInput, PackedInputDidNotEndCleanlyOnASegmentBoundary}
 use Rattle.capnp_frame.specs.Prelude.{IfKnown, RequestError, RunsShort}
 use Rattle.capnp_pack.specs.Prelude.{tagged, zeros, literal, AreZero, zero_word, marked, unmarked, group_size, IsHeadAt, GroupError, PackedError, FirstGroupError, ErrorAfter, zero_words, true_false, bit_cases}
-use Rattle.capnp_pack.proofs.unpacking.GroupLemmas.{concat-zeros}
+use Rattle.capnp_pack.proofs.unpacking.FrontGroupLemmas.{concat-zeros}
 
 -- an error after a tag is one of the chunk
 pub group_error : (F : Type 0) (n tag : ℕ) (old mid : Option (List ℕ)) (kind : ErrorKind) → IfKnown old mid (λ raw left. raw ≡ tag ∷ left) →
@@ -35,11 +35,11 @@ pub long_run : (more n : ℕ) (left : List ℕ) → more < 256 → 0 < n → n <
 long_run more n left fits some long =
     (some, inr (inl (record { group = zeros more; following = left; head = record { is = fits; spelled = refl }; long = omega (arith, zeros_size more) }, refl)))
 
-pub run_error : (n more : ℕ) (old mid : Option (List ℕ)) → 0 < n → more < 256 → n < 8 * (more + 1) →
+pub group_run_error : (n more : ℕ) (old mid : Option (List ℕ)) → 0 < n → more < 256 → n < 8 * (more + 1) →
     IfKnown old mid (λ raw left. raw ≡ more ∷ left) → RequestError (ErrorAfter 0) n old PackedInputDidNotEndCleanlyOnASegmentBoundary
-run_error n more None mid some fits long at = (more ∷ [], n, long_run more n [] fits some long)
-run_error n more (Some x) None some fits long at = absurd at
-run_error n more (Some x) (Some y) some fits long at = subst (λ l. FirstGroupError (0 ∷ l) n PackedInputDidNotEndCleanlyOnASegmentBoundary) (sym at) (long_run more n y fits some long)
+group_run_error n more None mid some fits long at = (more ∷ [], n, long_run more n [] fits some long)
+group_run_error n more (Some x) None some fits long at = absurd at
+group_run_error n more (Some x) (Some y) some fits long at = subst (λ l. FirstGroupError (0 ∷ l) n PackedInputDidNotEndCleanlyOnASegmentBoundary) (sym at) (long_run more n y fits some long)
 
 -- a run with no count
 pub no_count : (n : ℕ) → 0 < n → FirstGroupError (0 ∷ []) n PrematureEndOfPackedInput

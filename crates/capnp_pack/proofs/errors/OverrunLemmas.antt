@@ -6,11 +6,11 @@ use Rattle.std.proofs.lemmas.List.Concat.{flat_map-append}
 use Rattle.capnp_frame.specs.declared.error.ErrorKind.{ErrorKind}
 use Rattle.capnp_frame.specs.declared.error.ErrorKind.TheVariants.{DeviceFailed, PackedInputDidNotEndCleanlyOnASegmentBoundary}
 use Rattle.capnp_frame.specs.Prelude.{IfKnown, RequestError, RunsShort}
-use Rattle.capnp_frame.proofs.sources.SourceLemmas.{IfKnown-join, IfKnown-weaker}
+use Rattle.capnp_frame.proofs.sources.RequestSequenceLemmas.{IfKnown-join, IfKnown-weaker}
 use Rattle.capnp_pack.specs.Prelude.{IsGroup, zeros, literal, IsWord, group_encoding, group_words, marked, zero_word, encoding_of, words_of_groups, LeavesOverrun, head_encoding, HasProgress, HeadOver, CountOver, MarkedAt, CutError}
-use Rattle.capnp_pack.proofs.words.AllLemmas.{AllByRecursion-append}
+use Rattle.capnp_pack.proofs.words.EachElementLemmas.{AllByRecursion-append}
 use Rattle.capnp_pack.proofs.errors.GroupErrorLemmas.{literal_head, literal_size, zeros_size}
-use Rattle.capnp_pack.proofs.words.WordLemmas.{full_word}
+use Rattle.capnp_pack.proofs.words.TaggedWordLemmas.{full_word}
 
 -- Other failures
 

@@ -5,10 +5,10 @@ use Rattle.std.proofs.lemmas.List.{append-nil, take_all}
 use Rattle.std.proofs.lemmas.Bool.Decides.{nat_tests}
 use lib.Count.{ones, ones-le}
 use borrow.Rule.Slice.PartMut.{put_mid}
-use Rattle.capnp_frame.proofs.sources.SourceLemmas.{length-put_mid}
+use Rattle.capnp_frame.proofs.sources.RequestSequenceLemmas.{length-put_mid}
 use Rattle.capnp_pack.specs.Prelude.{IsWord, MarkedAt, GroupFollowing, Unpacked}
-use Rattle.capnp_pack.proofs.unpacking.UnpackedLemmas.{group_unpacked, tagged_after, zero_after_single_word, unpacked_more}
-use Rattle.capnp_pack.proofs.unpacking.WordGroups.{literal_found}
+use Rattle.capnp_pack.proofs.unpacking.ShownByteLemmas.{group_unpacked, tagged_after, zero_after_single_word, unpacked_more}
+use Rattle.capnp_pack.proofs.unpacking.WordGroupLemmas.{literal_found}
 
 -- a word whose bytes are all marked, and no word after it
 literal_after_single_word : (following word buffer : List ℕ) → 9 ≤ length following → get_or following 8 0 ≡ 0 → IsWord word → 8 ≤ length buffer →
@@ -64,8 +64,8 @@ unpacked_on used filled more count shown buffer part fits before after =
     (length-put_mid filled buffer part inside fits, unpacked_more used filled more count shown _ buffer part all fits before after)
 
 -- no group is taken
-pub none_unpacked : (encoding buffer : List ℕ) → Unpacked encoding buffer 0 0
-none_unpacked encoding buffer = record {
+pub no_group_unpacked : (encoding buffer : List ℕ) → Unpacked encoding buffer 0 0
+no_group_unpacked encoding buffer = record {
   used_within = omega arith;
   some = λ s. s;
   filled_within = omega arith;
@@ -80,5 +80,5 @@ unpacked_kept used filled shown buffer part fits before =
     let after = put_mid filled (length buffer - filled) buffer part in
     let encoding : used + 0 ≡ used = omega arith in
     let words : filled + 0 ≡ filled = omega arith in
-    let same = unpacked_on used filled 0 0 shown buffer part fits before (none_unpacked (take (length shown - used) (drop used shown)) part) in
+    let same = unpacked_on used filled 0 0 shown buffer part fits before (no_group_unpacked (take (length shown - used) (drop used shown)) part) in
     subst (λ u. Unpacked shown after u filled) encoding (subst (λ f. Unpacked shown after (used + 0) f) words same.1)

@@ -2,10 +2,10 @@
 use Rattle.std.proofs.Common.{◌≡◌, ℕ, zero, suc, ◌+◌, ◌-◌, ◌*◌, ◌≤◌, List, [], ◌∷◌, ◌++◌, length, refl, sym, ◌∙◌, ap, arith}
 use Rattle.std.proofs.lemmas.List.Elements.{All-head, All-tail}
 use Rattle.capnp_layout.specs.Prelude.{Trees, none, tree, count, object_size, total_words, first, following, before, pointer, run, body, AllHaveRoom, put, put_data_sections, fill, section_slots}
-use Rattle.capnp_layout.proofs.pointers.SlotLemmas.{AllOf}
-use Rattle.capnp_layout.proofs.trees.ChunkLemmas.{count-first, count-following, total-before, before_chunks}
-use Rattle.capnp_layout.proofs.trees.KeptLemmas.{rooms_first, rooms_after}
-use Rattle.capnp_layout.proofs.layouts.SizeLemmas.{Before, before_more, length-run, length-body}
+use Rattle.capnp_layout.proofs.pointers.SlotRunLemmas.{AllOf}
+use Rattle.capnp_layout.proofs.trees.TreePartLemmas.{count-first, count-following, total-before, before_chunks}
+use Rattle.capnp_layout.proofs.trees.TrimmedPlaceLemmas.{rooms_first, rooms_after}
+use Rattle.capnp_layout.proofs.layouts.LayoutSizeLemmas.{Before, before_more, length-run, length-body}
 use Rattle.capnp_wire.proofs.layouts.BlockLemmas.{put_apart}
 use Rattle.capnp_layout.proofs.layouts.BlockLemmas.{length-put}
 use Rattle.capnp_values.specs.StructLists.{fill_elements}

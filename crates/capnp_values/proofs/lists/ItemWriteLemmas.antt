@@ -3,17 +3,17 @@ use Rattle.std.proofs.Common.{◌≡◌, ℕ, suc, ◌+◌, ◌-◌, ◌/◌, �
 use Rattle.capnp_layout.specs.Prelude.{words_of, Form, Trees, none, tree, total_words, pointer_to, run, body, output, put, fill}
 use Rattle.capnp_wire.specs.Prelude.{IsCopied, HasRoomAt, IsFreeFrom}
 use Rattle.capnp_wire.specs.declared.layout.copy.Copied.{Copied}
-use Rattle.capnp_layout.proofs.words.WordLemmas.{length-words_of}
+use Rattle.capnp_layout.proofs.words.WordByteLemmas.{length-words_of}
 use Rattle.capnp_layout.proofs.layouts.BlockLemmas.{length-put}
-use Rattle.capnp_wire.proofs.layouts.CopyLemmas.{fill_step, none_output}
-use Rattle.capnp_wire.proofs.layouts.FreeLemmas.{free_after, free_copied}
-use Rattle.capnp_wire.proofs.layouts.OpenLemmas.{room_output}
+use Rattle.capnp_wire.proofs.layouts.TreesCopyLemmas.{fill_step, none_output}
+use Rattle.capnp_wire.proofs.layouts.FreeBlockLemmas.{free_after, free_copied}
+use Rattle.capnp_wire.proofs.layouts.CopyPlanLemmas.{room_output}
 use Rattle.capnp_values.specs.Lists.{AreItems, HasRoomForItems, AreItemsWritten}
-use Rattle.capnp_values.proofs.values.PartLemmas.{part_total, more_total}
-use Rattle.capnp_values.proofs.lists.ItemLemmas.{from_here, none_left}
+use Rattle.capnp_values.proofs.values.ValuePartLemmas.{part_total, more_total}
+use Rattle.capnp_values.proofs.lists.ItemMeasureLemmas.{from_here, no_item_left}
 
 -- The first i of some values are written: what is left to be put into the block, with which all are written, and the room for it.
-pub record Left {V : Type 0} (h : V → Trees → Type 0) (c : Bool) (items : List V) (first i free : ℕ) (old block : List ℕ) (trees : Trees) : Type 0 where
+pub record ItemsLeft {V : Type 0} (h : V → Trees → Type 0) (c : Bool) (items : List V) (first i free : ℕ) (old block : List ℕ) (trees : Trees) : Type 0 where
   pub rest : Trees
   pub rest_is : AreItems h (drop i items) rest
   pub fills : fill (run first (length items)) (first + length items) (output c trees) old ≡ fill (run (first + i) (length items - i)) free (output c rest) block
@@ -25,7 +25,7 @@ pub record ItemsWritten {V : Type 0} (h : V → Trees → Type 0) (c : Bool) (it
   pub after : first + length items ≤ free
   pub free_from : IsFreeFrom free block
   pub room : (trees : Trees) × AreItems h (drop i items) trees × (free + total_words (output c trees) ≤ length (words_of block))
-  pub left : (trees : Trees) → AreItems h items trees → Left h c items first i free (words_of old) (words_of block) trees
+  pub left : (trees : Trees) → AreItems h items trees → ItemsLeft h c items first i free (words_of old) (words_of block) trees
 
 pub writing_begins : {V : Type 0} (h : V → Trees → Type 0) (c : Bool) (items : List V) (first : ℕ) (block : List ℕ)
     → HasRoomForItems (λ t. AreItems h items t) c (first + length items) (length (words_of block)) → IsFreeFrom (first + length items) block
@@ -81,8 +81,8 @@ fill_next c form children rest trees slot k n free now mid new copied whole n_is
     ∙ rw (put_is, words_are, pointer_is, next_is) refl
 
 left_next : {V : Type 0} (h : V → Trees → Type 0) (c : Bool) (items : List V) (first i free : ℕ) (v : V) (old block mid new : List ℕ) (copied : Copied) (trees : Trees) → i < length items
-    → v ≡ get_or items i v → ((t : Trees) → h v t → PutNext c (first + i) free t block mid new copied) → (l : Left h c items first i free (words_of old) (words_of block) trees)
-    → Left h c items first (i + 1) copied.next (words_of old) (words_of new) trees
+    → v ≡ get_or items i v → ((t : Trees) → h v t → PutNext c (first + i) free t block mid new copied) → (l : ItemsLeft h c items first i free (words_of old) (words_of block) trees)
+    → ItemsLeft h c items first (i + 1) copied.next (words_of old) (words_of new) trees
 left_next {V = V} h c items first i free v old block mid new copied trees within is put l =
     let front : AreItems h (v ∷ drop (i + 1) items) l.rest = subst (λ (x : List V). AreItems h x l.rest) (from_here items i v within is) l.rest_is in
     let p = put (tree front.form front.children none) front.part.tree_is in
@@ -124,7 +124,7 @@ writing_goes_on {V = V} h c items first i free v old block mid new copied within
 
 -- all are written
 no_items : {V : Type 0} (h : V → Trees → Type 0) (items : List V) (n : ℕ) (t : Trees) → length items ≤ n → AreItems h (drop n items) t → t ≡ none
-no_items {V = V} h items n t past is = subst (λ (l : List V). AreItems h l t) (none_left items n past) is
+no_items {V = V} h items n t past is = subst (λ (l : List V). AreItems h l t) (no_item_left items n past) is
 
 pub writing_ends : {V : Type 0} (h : V → Trees → Type 0) (c : Bool) (items : List V) (first i free : ℕ) (old block : List ℕ) → length items ≤ i → ItemsWritten h c items first i free old block
     → AreItemsWritten (λ t. AreItems h items t) c first (length items) (words_of old) (words_of block) free

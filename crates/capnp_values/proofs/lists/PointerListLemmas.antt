@@ -6,14 +6,14 @@ use Rattle.capnp_frame.specs.declared.error.ErrorKind.{ErrorKind}
 use Rattle.capnp_frame.specs.declared.error.ErrorKind.TheVariants.{AllocationTooLarge}
 use Rattle.capnp_layout.specs.Prelude.{pointers, Trees, none, tree, count, total_words, list_pointer, run, output, AllHaveRoom, fill}
 use Rattle.capnp_wire.specs.Prelude.{IsCopied, HasRoomAt}
-use Rattle.capnp_layout.proofs.trees.TrimLemmas.{count-trim}
-use Rattle.capnp_wire.proofs.layouts.OpenLemmas.{room_output}
+use Rattle.capnp_layout.proofs.trees.TrimmedTreeLemmas.{count-trim}
+use Rattle.capnp_wire.proofs.layouts.CopyPlanLemmas.{room_output}
 use Rattle.capnp_wire.proofs.views.PartWordLemmas.{same_tree_words}
-use Rattle.capnp_values.specs.Measured.{tree_words, Measures}
-use Rattle.capnp_values.specs.Lists.{AreItems, HasRoomForItems, IsPointerList, PointerListError}
+use Rattle.capnp_values.specs.Measured.{tree_words, MeasuresValue}
+use Rattle.capnp_values.specs.Lists.{AreItems, HasRoomForItems, IsPointerListTree, PointerListError}
 use Rattle.capnp_wire.specs.declared.traits.TreeWords.{TreeWords}
-use Rattle.capnp_values.proofs.lists.ItemLemmas.{items_settled, MeasuresItems}
-use Rattle.capnp_values.proofs.layouts.FilledLemmas.{list_filled}
+use Rattle.capnp_values.proofs.lists.ItemMeasureLemmas.{items_settled, MeasuresItems}
+use Rattle.capnp_values.proofs.layouts.ObjectFillLemmas.{list_filled}
 
 list_output : (c : Bool) (children : Trees) → output c (tree pointers children none) ≡ tree pointers (output c children) none
 list_output true children = refl
@@ -23,39 +23,39 @@ pub count_output : (c : Bool) (children : Trees) → count children ≡ count (o
 count_output true children = sym (count-trim children)
 count_output false children = refl
 
-pub list_total : (c : Bool) (children : Trees) → total_words (output c (tree pointers children none)) ≡ count children + total_words (output c children)
-list_total c children =
+pub pointer_list_total : (c : Bool) (children : Trees) → total_words (output c (tree pointers children none)) ≡ count children + total_words (output c children)
+pointer_list_total c children =
     let whole : total_words (output c (tree pointers children none)) ≡ count (output c children) + total_words (output c children) + 0 = ap total_words (list_output c children) in
     omega (arith, whole, count_output c children)
 
 -- the words of the list of some values, which has room
-pub values_total : {V : Type 0} (h : V → Trees → Type 0) (vs : List V) (c : Bool) (t : Trees) (is : IsPointerList h vs t) → total_words (output c t) ≡ length vs + total_words (output c is.children)
+pub values_total : {V : Type 0} (h : V → Trees → Type 0) (vs : List V) (c : Bool) (t : Trees) (is : IsPointerListTree h vs t) → total_words (output c t) ≡ length vs + total_words (output c is.children)
 values_total h vs c t is =
     let whole : total_words (output c t) ≡ total_words (output c (tree pointers is.children none)) = ap (λ (a : Trees). total_words (output c a)) is.whole in
-    omega (arith, whole, list_total c is.children, (items_settled h vs is.children is.children_is).many)
+    omega (arith, whole, pointer_list_total c is.children, (items_settled h vs is.children is.children_is).many)
 
-pub values_rooms : {V : Type 0} (h : V → Trees → Type 0) (vs : List V) (t : Trees) → IsPointerList h vs t → AllHaveRoom t
+pub values_rooms : {V : Type 0} (h : V → Trees → Type 0) (vs : List V) (t : Trees) → IsPointerListTree h vs t → AllHaveRoom t
 values_rooms h vs t is =
     let s = items_settled h vs is.children is.children_is in
     subst AllHaveRoom (sym is.whole) (omega (arith, s.many, is.few), s.rooms, tt)
 
-pub values_begin : {V : Type 0} (h : V → Trees → Type 0) (vs : List V) (c : Bool) (next room : ℕ) → HasRoomAt (λ t. IsPointerList h vs t) c next room
+pub values_begin : {V : Type 0} (h : V → Trees → Type 0) (vs : List V) (c : Bool) (next room : ℕ) → HasRoomAt (λ t. IsPointerListTree h vs t) c next room
     → HasRoomForItems (λ t. AreItems h vs t) c (next + length vs) room
 values_begin h vs c next room w =
     record { trees = w.tree_is.children; trees_are = w.tree_is.children_is; fits = omega (arith, w.fits, values_total h vs c w.trees w.tree_is) }
 
 -- what is measured of the list of some values
 list_words : (c : Bool) (n : ℕ) (children trees : Trees) (words : TreeWords) → trees ≡ tree pointers children none → count children ≡ n → words ≡ tree_words c children
-    → record { as_is = n + words.as_is; output = n + words.output } ≡ tree_words c trees
+    → record { untrimmed = n + words.untrimmed; output = n + words.output } ≡ tree_words c trees
 list_words c n children trees words whole many is =
-    same_tree_words (record { as_is = n + words.as_is; output = n + words.output }) (tree_words c (tree pointers children none))
-    (omega (arith, many, ap (λ (w : TreeWords). w.as_is) is)) (omega (arith, many, ap (λ (w : TreeWords). w.output) is, list_total c children))
+    same_tree_words (record { untrimmed = n + words.untrimmed; output = n + words.output }) (tree_words c (tree pointers children none))
+    (omega (arith, many, ap (λ (w : TreeWords). w.untrimmed) is)) (omega (arith, many, ap (λ (w : TreeWords). w.output) is, pointer_list_total c children))
     ∙ sym (ap (tree_words c) whole)
 
-pub list_measured : {V : Type 0} (h : V → Trees → Type 0) (r : V → ErrorKind → Type 0) (vs : List V) (c : Bool) (returned : Result TreeWords Error) (words : TreeWords) → length vs < 2 ^ 29
+pub pointer_list_measured : {V : Type 0} (h : V → Trees → Type 0) (r : V → ErrorKind → Type 0) (vs : List V) (c : Bool) (returned : Result TreeWords Error) (words : TreeWords) → length vs < 2 ^ 29
     → returned ≡ Ok words → MeasuresItems h r vs c returned
-    → Measures (λ t. IsPointerList h vs t) (λ k. PointerListError h r vs k) c (Ok (record { as_is = length vs + words.as_is; output = length vs + words.output }))
-list_measured h r vs c returned words few was m =
+    → MeasuresValue (λ t. IsPointerListTree h vs t) (λ k. PointerListError h r vs k) c (Ok (record { untrimmed = length vs + words.untrimmed; output = length vs + words.output }))
+pointer_list_measured h r vs c returned words few was m =
     let m_ok : MeasuresItems h r vs c (Ok words) = subst (λ (x : Result TreeWords Error). MeasuresItems h r vs c x) was m in
     let a = m_ok.returned in
     let s = items_settled h vs a.0 a.1 in
@@ -78,7 +78,7 @@ list_measured h r vs c returned words few was m =
 
 -- it fails: by its length, or by one of the values
 pub list_too_long : {V : Type 0} (h : V → Trees → Type 0) (r : V → ErrorKind → Type 0) (vs : List V) (c : Bool) (error : Error) → 2 ^ 29 ≤ length vs
-    → error.kind ≡ AllocationTooLarge (min (length vs) (2 ^ 32 - 1)) → Measures (λ t. IsPointerList h vs t) (λ k. PointerListError h r vs k) c (Err error)
+    → error.kind ≡ AllocationTooLarge (min (length vs) (2 ^ 32 - 1)) → MeasuresValue (λ t. IsPointerListTree h vs t) (λ k. PointerListError h r vs k) c (Err error)
 list_too_long h r vs c error many is = record {
   returned = inl (many, is);
   found = λ trees there. absurd (omega (arith, many, there.few));
@@ -88,9 +88,9 @@ list_too_long h r vs c error many is = record {
   ];
 }
 
-pub list_error : {V : Type 0} (h : V → Trees → Type 0) (r : V → ErrorKind → Type 0) (vs : List V) (c : Bool) (returned : Result TreeWords Error) (error : Error) → length vs < 2 ^ 29
-    → returned ≡ Err error → MeasuresItems h r vs c returned → Measures (λ t. IsPointerList h vs t) (λ k. PointerListError h r vs k) c (Err error)
-list_error h r vs c returned error few was m =
+pub pointer_list_error : {V : Type 0} (h : V → Trees → Type 0) (r : V → ErrorKind → Type 0) (vs : List V) (c : Bool) (returned : Result TreeWords Error) (error : Error) → length vs < 2 ^ 29
+    → returned ≡ Err error → MeasuresItems h r vs c returned → MeasuresValue (λ t. IsPointerListTree h vs t) (λ k. PointerListError h r vs k) c (Err error)
+pointer_list_error h r vs c returned error few was m =
     let m_err : MeasuresItems h r vs c (Err error) = subst (λ (x : Result TreeWords Error). MeasuresItems h r vs c x) was m in
     record {
       returned = inr (few, m_err.returned);
@@ -102,10 +102,10 @@ list_error h r vs c returned error few was m =
     }
 
 -- what is written of it
-pub list_copied : (c : Bool) (children trees : Trees) (gap next n free tag : ℕ) (old new : List ℕ) → trees ≡ tree pointers children none → n ≡ count children → AllHaveRoom trees → tag ≡ list_pointer gap 6 n
+pub pointer_list_copied : (c : Bool) (children trees : Trees) (gap next n free tag : ℕ) (old new : List ℕ) → trees ≡ tree pointers children none → n ≡ count children → AllHaveRoom trees → tag ≡ list_pointer gap 6 n
     → free ≤ length old → new ≡ fill (run next n) (next + n) (output c children) old → free ≡ next + n + total_words (output c children)
     → IsCopied (output c trees) gap next old new (record { pointer = tag; next = free })
-list_copied c children trees gap next n free tag old new whole n_is rooms tag_is fits new_is free_is =
+pointer_list_copied c children trees gap next n free tag old new whole n_is rooms tag_is fits new_is free_is =
     let x : Trees = output c children in
     let form_is : output c trees ≡ tree pointers (output c children) none = ap (output c) whole ∙ list_output c children in
     let all : AllHaveRoom (tree pointers (output c children) none) = subst AllHaveRoom form_is (room_output c trees rooms) in

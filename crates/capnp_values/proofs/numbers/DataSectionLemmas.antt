@@ -9,7 +9,7 @@ use Rattle.std.proofs.Common.{◌≡◌, ◌⊎◌, ℕ, zero, suc, ◌+◌, ◌
 use Rattle.std.specs.Prelude.{All}
 use Rattle.capnp_layout.specs.Prelude.{digits, number_of}
 use Rattle.capnp_wire.specs.Prelude.{field}
-use Rattle.capnp_layout.proofs.trees.RoomLemmas.{digits_below}
+use Rattle.capnp_layout.proofs.trees.FieldRoomLemmas.{digits_below}
 use Rattle.capnp_wire.proofs.words.BitLemmas.{field_in_word}
 use Rattle.capnp_layout.proofs.words.DigitLemmas.{length-digits, digits-number_of, number-digits, number_below, pow-mul}
 use Rattle.capnp_values.specs.DataSections.{with_bits, with_field}

@@ -4,8 +4,8 @@ use Rattle.std.specs.Prelude.{All}
 use Rattle.std.proofs.Math.Nat.{mul-le-mul_left}
 use Rattle.capnp_layout.specs.Prelude.{digits, number_of, words_of, width, words_for, put}
 use Rattle.capnp_layout.proofs.words.DigitLemmas.{length-digits}
-use Rattle.capnp_values.proofs.numbers.NumberListLemmas.{digit_at}
-use Rattle.capnp_values.proofs.structs.SectionLemmas.{next_put, all_put}
+use Rattle.capnp_values.proofs.numbers.NumberListLemmas.{number_digit_at}
+use Rattle.capnp_values.proofs.structs.StructSectionLemmas.{next_put, all_put}
 
 -- a number of words are full, and at most one more is not
 pub record IsParted (w each n : ℕ) : Type 0 where
@@ -45,7 +45,7 @@ full_put f code each m i word items block new old some known each_is m_is fit in
     let p = parted code each (length items) some known each_is in
     let long = length-digits (2 ^ 64) m (number_of (2 ^ width code) (map f items)) in
     let there : slice_get (digits (2 ^ 64) m (number_of (2 ^ width code) (map f items))) i ≡ Some word =
-    digit_at f code each m i (i * each + each) word items some known each_is (omega (arith, inside, p.full, m_is)) m_is (omega (arith, p.within i inside)) fit word_is in
+    number_digit_at f code each m i (i * each + each) word items some known each_is (omega (arith, inside, p.full, m_is)) m_is (omega (arith, p.within i inside)) fit word_is in
     next_put i word block new old (digits (2 ^ 64) m (number_of (2 ^ width code) (map f items))) there (omega (arith, inside, p.full, m_is, long)) (omega (arith, old_is, long)) is so_far
 
 pub last_put : {V : Type 0} (f : V → ℕ) (code each m word : ℕ) (items : List V) (block new old : List ℕ) → 0 < code → code < 6 → each ≡ 64 / width code → m ≡ words_for (length items) (width code)
@@ -56,7 +56,7 @@ last_put f code each m word items block new old some known each_is m_is fit insi
     let p = parted code each (length items) some known each_is in
     let long = length-digits (2 ^ 64) m (number_of (2 ^ width code) (map f items)) in
     let there : slice_get (digits (2 ^ 64) m (number_of (2 ^ width code) (map f items))) (length items / each) ≡ Some word =
-    digit_at f code each m (length items / each) (length items) word items some known each_is inside m_is (omega (arith, p.few)) fit word_is in
+    number_digit_at f code each m (length items / each) (length items) word items some known each_is inside m_is (omega (arith, p.few)) fit word_is in
     next_put (length items / each) word block new old (digits (2 ^ 64) m (number_of (2 ^ width code) (map f items))) there (omega (arith, inside, long)) (omega (arith, old_is, long)) is so_far
 
 pub numbers_end : (x m i : ℕ) (block : List ℕ) (old : List ℕ) → length old ≡ m → m ≤ i → words_of block ≡ put 0 (take i (digits (2 ^ 64) m x)) old → words_of block ≡ digits (2 ^ 64) m x

@@ -7,22 +7,22 @@ use Rattle.std.proofs.lemmas.List.{take-map, drop-map, length-map}
 use Rattle.std.proofs.lemmas.List.Elements.{All-cons, All-take, All-drop}
 use Rattle.capnp_layout.specs.Prelude.{digits, number_of, words_of, width, words_for, numbers, Trees, none, tree, total_words, own, output, AllHaveRoom, put}
 use Rattle.capnp_wire.specs.Prelude.{HasRoomAt}
-use Rattle.capnp_layout.proofs.words.WordLemmas.{length-words_of}
-use Rattle.capnp_layout.proofs.words.PutLemmas.{put_mid_words}
-use Rattle.capnp_wire.proofs.layouts.FreeLemmas.{numbers_total as numbers_total_of}
+use Rattle.capnp_layout.proofs.words.WordByteLemmas.{length-words_of}
+use Rattle.capnp_layout.proofs.words.PutBytesLemmas.{put_mid_words}
+use Rattle.capnp_wire.proofs.layouts.FreeBlockLemmas.{numbers_total as numbers_total_of}
 use Rattle.capnp_wire.proofs.views.OneValueLemmas.{IsOne}
-use Rattle.capnp_layout.proofs.objects.ElementLemmas.{low_digit, high_digits}
+use Rattle.capnp_layout.proofs.objects.ListWordLemmas.{low_digit, high_digits}
 use Rattle.capnp_layout.proofs.words.DigitLemmas.{number_below, pow-mul}
 use Rattle.capnp_values.specs.NumberLists.{IsNumberList, ManyNumbers}
-use Rattle.capnp_values.proofs.lists.ItemLemmas.{from_here}
+use Rattle.capnp_values.proofs.lists.ItemMeasureLemmas.{from_here}
 
 -- what is measured of a list
 numbers_total : (c : Bool) (code : ℕ) (bits : List ℕ) → words_for (length bits) (width code) ≡ total_words (output c (tree (numbers code bits) none none))
 numbers_total true code bits = omega arith
 numbers_total false code bits = omega arith
 
-pub one_of_numbers : (code : ℕ) (bits : List ℕ) (n : ℕ) → n ≡ length bits → IsOne (λ t. IsNumberList code bits t) (λ k. ManyNumbers n k)
-one_of_numbers code bits n n_is = record {
+pub one_of_number_list : (code : ℕ) (bits : List ℕ) (n : ℕ) → n ≡ length bits → IsOne (λ t. IsNumberList code bits t) (λ k. ManyNumbers n k)
+one_of_number_list code bits n n_is = record {
   same_tree = λ a b x y. x.1 ∙ sym y.1;
   same_error = λ a b x y. x.1 ∙ sym y.1;
   apart = λ kind trees x y. absurd (omega (arith, x.0, y.0, n_is));
@@ -106,14 +106,14 @@ each_of (suc (suc (suc (suc zero)))) each some known is = (omega (arith, is), om
 each_of (suc (suc (suc (suc (suc zero))))) each some known is = (omega (arith, is), omega (arith, is))
 each_of (suc (suc (suc (suc (suc (suc code)))))) each some known is = absurd (omega (arith, known))
 
-pub word_within : (code each n index : ℕ) → 0 < code → code < 6 → each ≡ 64 / width code → index < words_for n (width code) → index * each < n
-word_within zero each n index some known is within = absurd (omega (arith, some))
-word_within (suc zero) each n index some known is within = let e : each ≡ 64 = is in rw e (omega (arith, within))
-word_within (suc (suc zero)) each n index some known is within = let e : each ≡ 8 = is in rw e (omega (arith, within))
-word_within (suc (suc (suc zero))) each n index some known is within = let e : each ≡ 4 = is in rw e (omega (arith, within))
-word_within (suc (suc (suc (suc zero)))) each n index some known is within = let e : each ≡ 2 = is in rw e (omega (arith, within))
-word_within (suc (suc (suc (suc (suc zero))))) each n index some known is within = let e : each ≡ 1 = is in rw e (omega (arith, within))
-word_within (suc (suc (suc (suc (suc (suc code)))))) each n index some known is within = absurd (omega (arith, known))
+pub word_of_elements_within : (code each n index : ℕ) → 0 < code → code < 6 → each ≡ 64 / width code → index < words_for n (width code) → index * each < n
+word_of_elements_within zero each n index some known is within = absurd (omega (arith, some))
+word_of_elements_within (suc zero) each n index some known is within = let e : each ≡ 64 = is in rw e (omega (arith, within))
+word_of_elements_within (suc (suc zero)) each n index some known is within = let e : each ≡ 8 = is in rw e (omega (arith, within))
+word_of_elements_within (suc (suc (suc zero))) each n index some known is within = let e : each ≡ 4 = is in rw e (omega (arith, within))
+word_of_elements_within (suc (suc (suc (suc zero)))) each n index some known is within = let e : each ≡ 2 = is in rw e (omega (arith, within))
+word_of_elements_within (suc (suc (suc (suc (suc zero))))) each n index some known is within = let e : each ≡ 1 = is in rw e (omega (arith, within))
+word_of_elements_within (suc (suc (suc (suc (suc (suc code)))))) each n index some known is within = absurd (omega (arith, known))
 
 pub base_power : (code each : ℕ) → each * width code ≡ 64 → (2 ^ width code) ^ each ≡ 2 ^ 64
 base_power code each room = sym (pow-mul 2 (width code) each) ∙ ap (λ (n : ℕ). 2 ^ n) (let e : width code * each ≡ 64 = omega (arith, room) in e)
@@ -156,13 +156,13 @@ positive_base w =
     let one : 2 ^ 0 ≤ 2 ^ w = pow-le-pow_right positive least in
     omega (arith, one)
 
-pub digit_at : {V : Type 0} (f : V → ℕ) (code each m i last word : ℕ) (items : List V) → 0 < code → code < 6 → each ≡ 64 / width code → i < m → m ≡ words_for (length items) (width code)
+pub number_digit_at : {V : Type 0} (f : V → ℕ) (code each m i last word : ℕ) (items : List V) → 0 < code → code < 6 → each ≡ 64 / width code → i < m → m ≡ words_for (length items) (width code)
     → last ≡ min (i * each + each) (length items) → All (λ k. k < 2 ^ width code) (map f items)
     → word ≡ number_of (2 ^ width code) (map f (take (last - i * each) (drop (i * each) items)))
     → slice_get (digits (2 ^ 64) m (number_of (2 ^ width code) (map f items))) i ≡ Some word
-digit_at f code each m i last word items some known each_is within m_is last_is fit word_is =
+number_digit_at f code each m i last word items some known each_is within m_is last_is fit word_is =
     let room = each_of code each some known each_is in
-    let inside : i * each < length items = word_within code each (length items) i some known each_is (omega (arith, within, m_is)) in
+    let inside : i * each < length items = word_of_elements_within code each (length items) i some known each_is (omega (arith, within, m_is)) in
     digit_is (2 ^ width code) each (2 ^ 64) m i (map f items) (positive_base (width code)) fit (base_power code each room.0) within
     ∙ ap (λ (n : ℕ). Some n) (sym (chunk_is f (2 ^ width code) each (i * each) last items last_is (omega (arith, inside))) ∙ sym word_is)
 
@@ -178,6 +178,6 @@ list_room code f items c next room w =
     (omega (arith, w.tree_is.0, same), omega (arith, w.fits, total, ap (λ (k : ℕ). words_for k (width code)) same))
 
 -- the part of a block that some words take
-pub part_long : (next n : ℕ) (block : List ℕ) → next + n ≤ length (words_of block) → length (take (8 * (next + n) - 8 * next) (drop (8 * next) block)) ≡ 8 * n
-part_long next n block fits =
+pub block_part_long : (next n : ℕ) (block : List ℕ) → next + n ≤ length (words_of block) → length (take (8 * (next + n) - 8 * next) (drop (8 * next) block)) ≡ 8 * n
+block_part_long next n block fits =
     omega (arith, fits, length-words_of block, length-take (8 * (next + n) - 8 * next) (drop (8 * next) block), length-drop (8 * next) block)

@@ -3,8 +3,8 @@ use Rattle.std.proofs.Common.{◌≡◌, ℕ, ◌+◌, ◌<◌, ◌≤◌, true,
 use Rattle.capnp_layout.specs.Prelude.{Trees, count, cut_zeros, least_data, least_pointers, trim}
 use Rattle.capnp_values.specs.Fields.{IsSettled, kept_fields}
 use Rattle.capnp_values.specs.StructLists.{AreElements}
-use Rattle.capnp_values.proofs.lists.ItemLemmas.{from_here, none_left}
-use Rattle.capnp_values.proofs.struct_lists.StructListLemmas.{pointers_front}
+use Rattle.capnp_values.proofs.lists.ItemMeasureLemmas.{from_here, no_item_left}
+use Rattle.capnp_values.proofs.struct_lists.ElementTreeLemmas.{pointers_front}
 
 -- The first i of some structs need a number of data words and of pointers, and all of them what these or those after them do.
 pub record NeededSoFar {V : Type 0} (w : V → List ℕ) (h : V → Trees → Type 0) (p : ℕ) (items : List V) (i data_words pointers : ℕ) : Type 0 where
@@ -36,7 +36,7 @@ pub needing_ends : {V : Type 0} (w : V → List ℕ) (h : V → Trees → Type 0
     → (children : Trees) → AreElements h items children → (data_words ≡ least_data (map w items)) × (pointers ≡ least_pointers p (map w items) (trim children))
 needing_ends {V = V} w h p items i data_words pointers past so_far children is =
     let l = so_far.left children is in
-    let empty = none_left items i past in (
+    let empty = no_item_left items i past in (
       omega (arith, so_far.least_is, ap (λ (x : List V). least_data (map w x)) empty),
       omega (arith, l.2, ap (λ (x : List V). least_pointers p (map w x) (trim l.0)) empty),
     )

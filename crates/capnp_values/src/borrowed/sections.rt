@@ -23,8 +23,8 @@ impl<'a, F: Fields> Fields for Borrowed<'a, F> {
         self.value.measure(canonical)
     }
 
-    fn as_is(&self) -> Result<u64> {
-        self.value.as_is()
+    fn untrimmed(&self) -> Result<u64> {
+        self.value.untrimmed()
     }
 
     fn kept(&self, canonical: bool) -> u32 {

@@ -64,9 +64,9 @@ impl<T, V: SetterInput<T>, F: Fields> Fields for Field<T, V, F> {
         Ok(both(own, rest))
     }
 
-    fn as_is(&self) -> Result<u64> {
+    fn untrimmed(&self) -> Result<u64> {
         let own = self.value.measure(false)?;
-        let rest = self.rest.as_is()?;
+        let rest = self.rest.untrimmed()?;
         Ok(own as u64 + rest)
     }
 

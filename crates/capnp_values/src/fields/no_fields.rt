@@ -27,7 +27,7 @@ impl Fields for NoFields {
 
     fn measure(&self, _canonical: bool) -> Result<TreeWords> {
         Ok(TreeWords {
-            as_is: 0,
+            untrimmed: 0,
             output: 0,
         })
     }

@@ -5,10 +5,10 @@ use Rattle.capnp_layout.specs.Prelude.{pointer_kind, offset, struct_pointer, lis
 use Rattle.capnp_layout.specs.declared.place.Place.{Place}
 use Rattle.capnp_wire.specs.Prelude.{Padded}
 use Rattle.capnp_layout.proofs.words.SubsliceLemmas.{Holds, holds_none}
-use Rattle.capnp_layout.proofs.pointers.TagLemmas.{struct_fields, list_fields}
-use Rattle.capnp_layout.proofs.objects.ObjectLemmas.{null_lands_nowhere}
-use Rattle.capnp_layout.proofs.layouts.LayoutLemmas.{if_positive}
-use Rattle.capnp_wire.proofs.layouts.ExactLemmas.{Exactly, exactly}
+use Rattle.capnp_layout.proofs.pointers.PointerFieldLemmas.{struct_fields, list_fields}
+use Rattle.capnp_layout.proofs.objects.OneObjectLemmas.{null_lands_nowhere}
+use Rattle.capnp_layout.proofs.layouts.LayoutReadBackLemmas.{if_positive}
+use Rattle.capnp_wire.proofs.layouts.NextObjectLemmas.{Exactly, tag_exactly}
 use Rattle.capnp_layout.proofs.forms.PreorderLemmas.{local_object}
 
 -- the first of some trees at places, and the others
@@ -39,7 +39,7 @@ local_exactly segment word next tag form children traversed before small there p
     let at_next : n.start ≡ next = omega (arith, n.target) in
     let is_at : ShapeIsAt segment (record { segment = 0; word = next }) tag n.shape = subst (λ (x : ℕ). ShapeIsAt segment (record { segment = 0; word = x }) tag n.shape) at_next n.is_at in
     let exact : Exactly segment next n.shape.form n.shape.children (length children) =
-    exactly segment next tag n.shape (length children) is_at (ap (λ (l : List Place). length l) n.children_is) (subst (λ (f : Form). Padded segment next f) (sym n.form_is) padded) in
+    tag_exactly segment next tag n.shape (length children) is_at (ap (λ (l : List Place). length l) n.children_is) (subst (λ (f : Form). Padded segment next f) (sym n.form_is) padded) in
     subst (λ (f : Form). Exactly segment next f children (length children)) n.form_is (subst (λ (l : List Place). Exactly segment next n.shape.form l (length children)) n.children_is exact)
 
 struct_exactly : (segment : List ℕ) (word next : ℕ) (words : List ℕ) (children : List Place) (traversed : ℕ) → word < next → 0 < length words + length children → HasRoom (struct words) (length children)

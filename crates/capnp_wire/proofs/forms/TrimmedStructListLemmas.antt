@@ -3,9 +3,9 @@ use Rattle.std.proofs.Common.{◌≡◌, inl, inr, ℕ, zero, suc, ◌+◌, ◌*
 use Rattle.std.proofs.lemmas.Bool.{cases_lt}
 use Rattle.capnp_layout.specs.Prelude.{null, Trees, none, tree, count, first, following, cut_nulls, least_pointers}
 use Rattle.capnp_wire.specs.Prelude.{nth_form, EndsSome}
-use Rattle.capnp_layout.proofs.trees.ChunkLemmas.{least_pointers_within}
-use Rattle.capnp_layout.proofs.trees.NarrowLemmas.{elements_split}
-use Rattle.capnp_wire.proofs.forms.FullLemmas.{fewer, some_same}
+use Rattle.capnp_layout.proofs.trees.TreePartLemmas.{least_pointers_within}
+use Rattle.capnp_layout.proofs.trees.NarrowedPointerLemmas.{elements_split}
+use Rattle.capnp_wire.proofs.forms.TrimmedObjectLemmas.{fewer, some_same}
 use Rattle.std.specs.Prelude.{◌↔◌}
 
 nth-first : (n : ℕ) (trees : Trees) (k : ℕ) → k < n → nth_form (first n trees) k ≡ nth_form trees k

@@ -8,7 +8,7 @@ use Rattle.std.specs.Prelude.{◌↔◌}
 use Rattle.capnp_layout.specs.Prelude.{words_from, places, pointer_places, elements_from}
 use Rattle.capnp_wire.specs.Prelude.{EndsFull, NeedData, NeedPointers, links_at}
 use Rattle.capnp_layout.specs.declared.place.Place.{Place}
-use Rattle.capnp_layout.proofs.trees.RoomLemmas.{length-elements_from}
+use Rattle.capnp_layout.proofs.trees.FieldRoomLemmas.{length-elements_from}
 use Rattle.capnp_layout.proofs.forms.TruncatedLemmas.{drop_first, length-subslice}
 
 pub or_zero : (words : List ℕ) (i : ℕ) → slice_get words i ≡ None → slice_index_or words i 0 ≡ 0

@@ -2,8 +2,8 @@
 use Rattle.std.proofs.lemmas.List.{take-append-drop, drop-drop as drop_drop_std}
 use Rattle.std.proofs.Math.Seq.{take-append_seam as take_seam, drop-append_seam as drop_seam}
 use Rattle.std.proofs.lemmas.List.Elements.{All-head, All-tail}
-use Rattle.capnp_layout.proofs.pointers.SlotLemmas.{AllOf}
-use Rattle.capnp_layout.proofs.layouts.SizeLemmas.{length-woven}
+use Rattle.capnp_layout.proofs.pointers.SlotRunLemmas.{AllOf}
+use Rattle.capnp_layout.proofs.layouts.LayoutSizeLemmas.{length-woven}
 use Rattle.std.proofs.Common.{◌≡◌, ℕ, zero, suc, ◌+◌, ◌*◌, ◌≤◌, List, [], ◌∷◌, ◌++◌, length, take, drop, refl, sym, ◌∙◌, ap}
 use Rattle.std.proofs.Common.{arith, append_assoc, length-append, length-take, length-drop}
 use Rattle.capnp_layout.specs.Prelude.{run, element_runs, woven, put, put_data_sections, moved, section_slots}

@@ -1,15 +1,15 @@
 -- Lists that are copied: nothing is below numbers, and pointers have no other words.
 use Rattle.std.proofs.Common.{◌≡◌, ℕ, ◌+◌, ◌-◌, Bool, List, [], ◌∷◌, ◌<◌, ◌^◌, length, refl, sym, subst, arith}
 use Rattle.capnp_layout.specs.Prelude.{words_of, code_of, width, words_for, places, IsObject, run, slots_of, object_of, pointers_of, pointer_of_body}
-use Rattle.capnp_wire.specs.Prelude.{CanCopy, Copies, Begins, BeginsRun, put_own}
+use Rattle.capnp_wire.specs.Prelude.{CanCopy, Copies, BeginsCopy, BeginsRun, put_own}
 use Rattle.capnp_layout.specs.declared.place.Place.{Place}
 use Rattle.capnp_layout.specs.declared.number_list.NumberList.{NumberList}
 use Rattle.capnp_layout.specs.declared.pointer_run.PointerRun.{PointerRun}
 use Rattle.capnp_layout.specs.declared.object.Body.TheVariants.{Numbers, Pointers}
-use Rattle.capnp_wire.proofs.layouts.CopyLemmas.{copies_none}
-use Rattle.capnp_wire.proofs.layouts.CopiedLemmas.{opened_here, object_begins, in_run}
-use Rattle.capnp_layout.proofs.pointers.LocalLemmas.{list_output}
-use Rattle.capnp_wire.proofs.layouts.OpenLemmas.{Opened}
+use Rattle.capnp_wire.proofs.layouts.TreesCopyLemmas.{copies_none}
+use Rattle.capnp_wire.proofs.layouts.CopiedTargetLemmas.{opened_here, object_begins, in_run}
+use Rattle.capnp_layout.proofs.pointers.LocalObjectLemmas.{list_output}
+use Rattle.capnp_wire.proofs.layouts.CopyPlanLemmas.{Opened}
 
 pub number_list_opened : {m : List (List ℕ)} {place : Place} {nesting : ℕ} {c : Bool} {next room : ℕ} (list : NumberList) (can : CanCopy m (place ∷ []) nesting c next room)
     → IsObject m place (object_of list)
@@ -47,9 +47,9 @@ pointer_list_begins {m} {place} {nesting} {c} {gap} {next} {following} {pointer}
     let b = object_begins can (pointer_list_opened list can is) refl refl pointer_is in
     let r = in_run list.first (Pointers list.count) (Pointers list.count) next list.count refl refl in
     record {
-      begins = subst (λ (f : ℕ). Begins m place (places list.first.segment list.first.word list.count) (run next list.count) nesting c gap next f old old pointer) (sym following_is)
-          (subst (λ (s : List ℕ). Begins m place (places list.first.segment list.first.word list.count) s nesting c gap next (next + list.count) old old pointer) r.slots_are
-          (subst (λ (l : List Place). Begins m place l (slots_of next (Pointers list.count)) nesting c gap next (next + list.count) old old pointer) r.places_are b));
+      begins = subst (λ (f : ℕ). BeginsCopy m place (places list.first.segment list.first.word list.count) (run next list.count) nesting c gap next f old old pointer) (sym following_is)
+          (subst (λ (s : List ℕ). BeginsCopy m place (places list.first.segment list.first.word list.count) s nesting c gap next (next + list.count) old old pointer) r.slots_are
+          (subst (λ (l : List Place). BeginsCopy m place l (slots_of next (Pointers list.count)) nesting c gap next (next + list.count) old old pointer) r.places_are b));
       content = is.content;
       bound = bound;
       before = omega (arith, following_is);

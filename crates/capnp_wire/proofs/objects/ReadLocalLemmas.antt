@@ -7,11 +7,11 @@ use Rattle.capnp_layout.specs.declared.place.Place.{Place}
 use Rattle.capnp_layout.specs.declared.object.Body.{Body}
 use Rattle.capnp_layout.specs.declared.object.Body.TheVariants.{Struct, Numbers, Pointers, Structs}
 use Rattle.capnp_layout.specs.declared.object.Object.{Object as ReadObject}
-use Rattle.capnp_layout.proofs.objects.FieldLemmas.{length-places}
-use Rattle.capnp_layout.proofs.trees.RoomLemmas.{length-elements_from}
-use Rattle.capnp_layout.proofs.pointers.NextLemmas.{lead_start}
-use Rattle.capnp_wire.proofs.pointers.NextLemmas.{next_room}
-use Rattle.capnp_layout.proofs.objects.OwnWordLemmas.{own_words_are}
+use Rattle.capnp_layout.proofs.objects.StructFieldLemmas.{length-places}
+use Rattle.capnp_layout.proofs.trees.FieldRoomLemmas.{length-elements_from}
+use Rattle.capnp_layout.proofs.pointers.NextFreeWordLemmas.{point_start}
+use Rattle.capnp_wire.proofs.pointers.NextFreeWordLemmas.{next_room}
+use Rattle.capnp_layout.proofs.objects.ObjectWordLemmas.{own_words_are}
 use Rattle.capnp_layout.proofs.forms.TruncatedLemmas.{length-subslice}
 use Rattle.capnp_layout.proofs.objects.ReadLocalLemmas.{ReadLocal, shape_as}
 
@@ -34,7 +34,7 @@ padded_of_is : (segment : List ℕ) (start : Place) (body : Body) (pointer word 
     → NextOf pointer word next body → PaddedOf segment next body ↔ Padded segment next (shape_of segment start body).form
 padded_of_is segment start (Struct size) pointer word next before target is = (λ t. tt, λ t. tt)
 padded_of_is segment start (Numbers size count) pointer word next before target is =
-    let at : start.word ≡ next = lead_start word next start.word (offset pointer) before is target in (
+    let at : start.word ≡ next = point_start word next start.word (offset pointer) before is target in (
       λ t. subst (λ (s : ℕ). Padded segment next (numbers (code_of size) (elements segment s (code_of size) count))) (sym at) t,
       λ t. subst (λ (s : ℕ). Padded segment next (numbers (code_of size) (elements segment s (code_of size) count))) at t,
     )

@@ -4,14 +4,14 @@ use Rattle.std.proofs.lemmas.List.Elements.{All-nil}
 use Rattle.capnp_layout.specs.Prelude.{struct, Trees, none, tree, total_words, is_null as null_there, nowhere, at, body, pointer_to, output, put, empty_struct, IsNullOrEmptyStruct}
 use Rattle.capnp_wire.specs.Prelude.{Walked, Copies}
 use Rattle.capnp_layout.specs.declared.place.Place.{Place}
-use Rattle.capnp_layout.proofs.pointers.LocalLemmas.{word_there}
+use Rattle.capnp_layout.proofs.pointers.LocalObjectLemmas.{word_there}
 use Rattle.capnp_layout.proofs.trees.TreeCountLemmas.{within_none, less_none}
 use Rattle.capnp_wire.proofs.trees.TreeCountLemmas.{counts_none}
 use Rattle.capnp_layout.proofs.layouts.BlockLemmas.{put_none}
-use Rattle.capnp_wire.proofs.layouts.CopyLemmas.{none_at}
-use Rattle.capnp_wire.proofs.layouts.OpenLemmas.{under}
-use Rattle.capnp_wire.proofs.layouts.CopiedLemmas.{null_is_copied}
-use Rattle.capnp_wire.proofs.walks.ProgressLemmas.{walked_null}
+use Rattle.capnp_wire.proofs.layouts.TreesCopyLemmas.{none_at}
+use Rattle.capnp_wire.proofs.layouts.CopyPlanLemmas.{under}
+use Rattle.capnp_wire.proofs.layouts.CopiedTargetLemmas.{null_is_copied}
+use Rattle.capnp_wire.proofs.walks.WalkProgressLemmas.{walked_null}
 use Rattle.capnp_layout.proofs.pointers.EmptyStructLemmas.{empty_output, empty_shape, empty_struct_is_at, empty_tree}
 
 -- a walk over it counts nothing

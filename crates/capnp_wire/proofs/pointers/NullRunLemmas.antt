@@ -8,13 +8,13 @@ use Rattle.capnp_layout.specs.declared.place.Place.{Place}
 use Rattle.capnp_layout.specs.declared.fast_path.LocalStruct.{LocalStruct}
 use Rattle.capnp_layout.specs.declared.pointer.StructSize.{StructSize}
 use Rattle.capnp_layout.specs.declared.object.Body.TheVariants.{Struct}
-use Rattle.capnp_layout.proofs.words.WordLemmas.{length-words_of}
+use Rattle.capnp_layout.proofs.words.WordByteLemmas.{length-words_of}
 use Rattle.capnp_layout.proofs.layouts.BlockLemmas.{put_both, length-put}
-use Rattle.capnp_layout.proofs.objects.ObjectLemmas.{one_tree}
-use Rattle.capnp_wire.proofs.layouts.CopiedLemmas.{opened_here, object_begins}
+use Rattle.capnp_layout.proofs.objects.OneObjectLemmas.{one_tree}
+use Rattle.capnp_wire.proofs.layouts.CopiedTargetLemmas.{opened_here, object_begins}
 use Rattle.capnp_layout.proofs.trees.TreeCountLemmas.{within_none, less_none}
 use Rattle.capnp_wire.proofs.trees.TreeCountLemmas.{counts_none}
-use Rattle.capnp_layout.proofs.pointers.NullRunLemmas.{no_words, none_or_whole, nulls, nulls_filled, nulls_output, nulls_are_at, roomy_nulls, seam, shallow_nulls}
+use Rattle.capnp_layout.proofs.pointers.NullRunLemmas.{nulls_have_no_words, none_or_whole, nulls, nulls_filled, nulls_output, nulls_are_at, roomy_nulls, seam, shallow_nulls}
 
 -- a walk over them meets nothing
 pub nulls_walked : {m : List (List ℕ)} {c : Bool} {nesting : ℕ} {left counted_now : Option ℕ} (segment : ℕ) (words : List ℕ) (start n : ℕ)
@@ -27,7 +27,7 @@ nulls_walked {m} {c} {nesting} {left} {counted_now = b} segment words start n th
     are_at = nulls_are_at m segment words start n there room are;
     shallow = shallow_nulls nesting n;
     rooms = roomy_nulls n;
-    words_are = ap total_words (nulls_output c n) ∙ no_words n;
+    words_are = ap total_words (nulls_output c n) ∙ nulls_have_no_words n;
   };
   within = within_none left;
   left_is = sym (less_none left);
@@ -79,5 +79,5 @@ struct_of_nulls {m} {place} {found} {size} {nesting} {c} {gap} {next} {free} {po
       words_are = λ trees traversed are_at.
           filled ∙ ap (λ (l : List ℕ). fill l (next + (e + q)) (nulls q) (put next own old)) (sym (append-nil (run (next + e) q)))
           ∙ ap (λ (t : Trees). fill (run (next + e) q ++ []) (next + (e + q)) t (put next own old)) (sym (children_is trees traversed are_at));
-      next_is = λ trees traversed are_at. omega (arith, free_is, ap total_words (children_is trees traversed are_at), no_words size.pointers);
+      next_is = λ trees traversed are_at. omega (arith, free_is, ap total_words (children_is trees traversed are_at), nulls_have_no_words size.pointers);
     })

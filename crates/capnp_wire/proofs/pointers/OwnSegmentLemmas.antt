@@ -18,7 +18,7 @@ places_within m words segment first (suc n) zero there place is =
 places_within m words segment first (suc n) (suc index) there place is = places_within m words segment (first + 1) n index there place is
 
 -- a struct holds the segment of its pointers, if it has any
-pub pointers_within : (m : List (List ℕ)) (words : List ℕ) (segment first n index : ℕ) → (0 < n → slice_get m segment ≡ Some words)
+pub struct_pointers_within : (m : List (List ℕ)) (words : List ℕ) (segment first n index : ℕ) → (0 < n → slice_get m segment ≡ Some words)
     → (place : Place) → slice_get (places segment first n) index ≡ Some place → slice_get m place.segment ≡ Some words
-pointers_within m words segment first zero index holds place is = cc
-pointers_within m words segment first (suc n) index holds place is = places_within m words segment first (suc n) index (holds (omega arith)) place is
+struct_pointers_within m words segment first zero index holds place is = cc
+struct_pointers_within m words segment first (suc n) index holds place is = places_within m words segment first (suc n) index (holds (omega arith)) place is

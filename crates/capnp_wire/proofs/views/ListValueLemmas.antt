@@ -5,26 +5,26 @@ use Rattle.std.specs.Prelude.{All}
 use Rattle.capnp_frame.specs.declared.error.Error.{Error}
 use Rattle.capnp_frame.specs.declared.error.ErrorKind.TheVariants.{InvalidSegmentId}
 use Rattle.capnp_layout.specs.Prelude.{Form, pointers, Trees, none, tree, count, total_words, places, pointer_places, elements_from, At, WalkError, no_word, no_segment, at_pointer, run, output, struct_pointer, list_pointer, HasRoom, AllHaveRoom, put, put_data_sections, fill, least_size, kept_places, section_slots, too_large}
-use Rattle.capnp_wire.specs.Prelude.{WalkedAll, CanCopy, CopiesAll, IsCopied, HasWords, WordsError, HasRoomAt, HoldsPointers, PointerList, IsListTree, WalkErrorInList, pointers_along, pointers_of_structs, structs_along}
+use Rattle.capnp_wire.specs.Prelude.{WalkedAll, CanCopy, CopiesAll, IsCopied, HasWords, WordsError, HasRoomAt, HasPointersSegment, PointerList, IsListTree, WalkErrorInList, pointers_along, pointers_of_structs, structs_along}
 use Rattle.capnp_wire.specs.declared.layout.copy.Copied.{Copied}
 use Rattle.capnp_layout.specs.declared.place.Place.{Place}
 use Rattle.capnp_layout.specs.declared.pointer.Elements.{Elements}
 use Rattle.capnp_layout.specs.declared.pointer.StructSize.{StructSize}
 use Rattle.capnp_layout.specs.declared.object.Body.TheVariants.{Pointers}
-use Rattle.capnp_layout.proofs.objects.ObjectLemmas.{one_tree}
-use Rattle.capnp_layout.proofs.trees.RoomLemmas.{length-elements_from, length-pointer_places, elements_below}
+use Rattle.capnp_layout.proofs.objects.OneObjectLemmas.{one_tree}
+use Rattle.capnp_layout.proofs.trees.FieldRoomLemmas.{length-elements_from, length-pointer_places, elements_below}
 use Rattle.capnp_layout.proofs.trees.TreeCountLemmas.{count_at}
-use Rattle.capnp_layout.proofs.trees.KeptLemmas.{long_places}
-use Rattle.capnp_layout.proofs.trees.TrimLemmas.{count-trim, room_trim}
+use Rattle.capnp_layout.proofs.trees.TrimmedPlaceLemmas.{long_places}
+use Rattle.capnp_layout.proofs.trees.TrimmedTreeLemmas.{count-trim, room_trim}
 use Rattle.capnp_layout.proofs.trees.TreeSizeLemmas.{structs_total}
 use Rattle.capnp_wire.proofs.walks.WalkErrorLemmas.{walk_error_has_no_trees, one_walk_error}
-use Rattle.capnp_wire.proofs.walks.ProgressLemmas.{progress_begins, progress_done}
-use Rattle.capnp_layout.proofs.pointers.PointerSlotLemmas.{kept_nothing}
-use Rattle.capnp_wire.proofs.layouts.CopyLemmas.{split_first}
-use Rattle.capnp_layout.proofs.layouts.CopiedLemmas.{error_no_tree}
-use Rattle.capnp_wire.proofs.layouts.CopiedLemmas.{in_run}
-use Rattle.capnp_wire.proofs.layouts.OpenLemmas.{Opened, OpenedElements, pointers_open, room_output}
-use Rattle.capnp_wire.proofs.layouts.OpenedLemmas.{elements_plain, elements_trimmed}
+use Rattle.capnp_wire.proofs.walks.WalkProgressLemmas.{progress_begins, progress_done}
+use Rattle.capnp_layout.proofs.pointers.PointersInOrderLemmas.{kept_nothing}
+use Rattle.capnp_wire.proofs.layouts.TreesCopyLemmas.{split_first}
+use Rattle.capnp_layout.proofs.layouts.CopiedTargetLemmas.{error_no_tree}
+use Rattle.capnp_wire.proofs.layouts.CopiedTargetLemmas.{in_run}
+use Rattle.capnp_wire.proofs.layouts.CopyPlanLemmas.{Opened, OpenedElements, pointers_open, room_output}
+use Rattle.capnp_wire.proofs.layouts.ObjectCopyLemmas.{elements_plain, elements_trimmed}
 use Rattle.capnp_wire.proofs.views.OneValueLemmas.{IsOne}
 
 -- a list is one tree
@@ -144,7 +144,7 @@ pointers_written {m} {first} {n} {nesting} {c} {gap} {next} {room} {trees} {old}
 abbrev pub kept_size : Bool → List ℕ → Place → Elements → StructSize
 kept_size c words first elements = if c then least_size words first.word elements.size elements.count else elements.size
 
-elements_total : (m : List (List ℕ)) (words : List ℕ) (first : Place) (elements : Elements) (c : Bool) (children : Trees) (inside : ℕ) → HoldsPointers m words first elements.size
+elements_total : (m : List (List ℕ)) (words : List ℕ) (first : Place) (elements : Elements) (c : Bool) (children : Trees) (inside : ℕ) → HasPointersSegment m words first elements.size
     → At m (pointer_places first.segment first.word elements.size.data_words elements.size.pointers elements.count) children inside → AllHaveRoom children
     → 1 + elements.count * ((kept_size c words first elements).data_words + (kept_size c words first elements).pointers) + total_words (output c children)
     ≡ total_words (output c (tree (structs_along words first elements) children none))
@@ -153,7 +153,7 @@ elements_total m words first elements true children inside content are_at rooms 
 elements_total m words first elements false children inside content are_at rooms =
     omega (arith, ap (λ (k : ℕ). 1 + k * (elements.size.data_words + elements.size.pointers)) (length-elements_from words first.word elements.size.data_words elements.size.pointers elements.count))
 
-pub own_structs : (m : List (List ℕ)) (words : List ℕ) (first : Place) (elements : Elements) (c : Bool) → HoldsPointers m words first elements.size
+pub own_structs : (m : List (List ℕ)) (words : List ℕ) (first : Place) (elements : Elements) (c : Bool) → HasPointersSegment m words first elements.size
     → first.word + elements.count * (elements.size.data_words + elements.size.pointers) ≤ length words → All (λ w. w < 2 ^ 64) words
     → elements.size.data_words < 2 ^ 16 → elements.size.pointers < 2 ^ 16 → elements.count < 2 ^ 30 → elements.count * (elements.size.data_words + elements.size.pointers) < 2 ^ 29
     → OwnWords (structs_along words first elements) m (pointer_places first.segment first.word elements.size.data_words elements.size.pointers elements.count) c
@@ -175,7 +175,7 @@ own_structs m words first elements c content room all few_data few_pointers few 
       );
     }
 
-elements_opened_as : (m : List (List ℕ)) (words : List ℕ) (first : Place) (elements : Elements) (nesting : ℕ) (limit : Option ℕ) (c : Bool) (next room : ℕ) → HoldsPointers m words first elements.size
+elements_opened_as : (m : List (List ℕ)) (words : List ℕ) (first : Place) (elements : Elements) (nesting : ℕ) (limit : Option ℕ) (c : Bool) (next room : ℕ) → HasPointersSegment m words first elements.size
     → first.word + elements.count * (elements.size.data_words + elements.size.pointers) ≤ length words
     → (w : HasRoomAt (IsListTree (structs_along words first elements) (pointers_of_structs m first elements nesting limit)) c next room)
     → OpenedElements m words first.segment first.word elements.size (kept_size c words first elements) elements.count nesting c next room w.trees
@@ -188,7 +188,7 @@ elements_opened_as m words first elements nesting limit true next room content t
     (room_trim w.trees w.rooms) there w.fits
 
 pub elements_opened : {m : List (List ℕ)} {words : List ℕ} {first : Place} {elements kept : Elements} {nesting : ℕ} {limit : Option ℕ} {c : Bool} {next room : ℕ}
-    → HoldsPointers m words first elements.size → first.word + elements.count * (elements.size.data_words + elements.size.pointers) ≤ length words
+    → HasPointersSegment m words first elements.size → first.word + elements.count * (elements.size.data_words + elements.size.pointers) ≤ length words
     → kept.size ≡ kept_size c words first elements → kept.count ≡ elements.count
     → (w : HasRoomAt (IsListTree (structs_along words first elements) (pointers_of_structs m first elements nesting limit)) c next room)
     → OpenedElements m words first.segment first.word elements.size kept.size kept.count nesting c next room w.trees
@@ -218,7 +218,7 @@ elements_written {m} {words} {segment} {begin} {from} {size} {n} {nesting} {c} {
     }
 
 -- structs that have pointers to keep are in a segment of the message
-pub elements_children : (m : List (List ℕ)) (words : List ℕ) (first : Place) (size : StructSize) (q n : ℕ) → HoldsPointers m words first size → q ≤ size.pointers
+pub elements_children : (m : List (List ℕ)) (words : List ℕ) (first : Place) (size : StructSize) (q n : ℕ) → HasPointersSegment m words first size → q ≤ size.pointers
     → kept_places first.segment first.word size.data_words size.pointers q n ≢ [] → slice_get m first.segment ≡ Some words
 elements_children m words first size zero n holds le some = absurd (some (kept_nothing {B = ℕ} first.segment first.word size.data_words size.pointers 0 n (inl refl)))
 elements_children m words first size (suc q) n holds le some = holds (omega arith)

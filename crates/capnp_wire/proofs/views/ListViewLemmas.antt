@@ -11,9 +11,9 @@ use Rattle.capnp_layout.specs.declared.object.Body.TheVariants.{Struct, Numbers,
 use Rattle.capnp_layout.specs.declared.pointer.Elements.{Elements}
 use Rattle.capnp_layout.specs.declared.object.Object.{Object as ReadObject}
 use Rattle.capnp_layout.proofs.words.DigitLemmas.{length-digits}
-use Rattle.capnp_layout.proofs.objects.FieldLemmas.{length-places}
-use Rattle.capnp_layout.proofs.trees.RoomLemmas.{length-elements_from}
-use Rattle.capnp_wire.proofs.views.ViewLemmas.{Decides, wrong_kind_once, wrong_kind_unlimited}
+use Rattle.capnp_layout.proofs.objects.StructFieldLemmas.{length-places}
+use Rattle.capnp_layout.proofs.trees.FieldRoomLemmas.{length-elements_from}
+use Rattle.capnp_wire.proofs.views.ViewErrorLemmas.{Decides, wrong_kind_once, wrong_kind_unlimited}
 
 pub structs_decide : Decides TakesStructs StructsFormError
 structs_decide = record {
@@ -150,8 +150,8 @@ few_numbers p object size n entered body =
     subst (λ (k : ℕ). k < 2 ^ 29) long room.1
 
 -- and its pointers lie within its segment
-pub pointers_within : (p : Pointer) (object : ReadObject) (n : ℕ) → IsEntered p object → object.body ≡ Pointers n → length object.segment.now < 2 ^ 64 → object.start.word + n < 2 ^ 61
-pointers_within p object n entered body small =
+pub list_pointers_within : (p : Pointer) (object : ReadObject) (n : ℕ) → IsEntered p object → object.body ≡ Pointers n → length object.segment.now < 2 ^ 64 → object.start.word + n < 2 ^ 61
+list_pointers_within p object n entered body small =
     let room = entered.object_is.room in
     let all : room_of object.body ≡ n = ap room_of body in
     omega (arith, room, all)

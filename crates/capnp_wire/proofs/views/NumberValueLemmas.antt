@@ -9,8 +9,8 @@ use Rattle.capnp_layout.specs.declared.element_size.ElementSize.{ElementSize}
 use Rattle.capnp_layout.specs.declared.element_size.ElementSize.TheVariants.{Void, Bit, Byte, TwoBytes, FourBytes, EightBytes}
 use Rattle.std.proofs.lemmas.Nat.{pow_pos}
 use Rattle.capnp_layout.proofs.words.DigitLemmas.{length-digits}
-use Rattle.capnp_layout.proofs.trees.RoomLemmas.{digits_below}
-use Rattle.capnp_wire.proofs.layouts.FreeLemmas.{numbers_total}
+use Rattle.capnp_layout.proofs.trees.FieldRoomLemmas.{digits_below}
+use Rattle.capnp_wire.proofs.layouts.FreeBlockLemmas.{numbers_total}
 use Rattle.capnp_wire.proofs.views.OneValueLemmas.{IsOne}
 
 -- a list of numbers is one tree

@@ -8,8 +8,8 @@ use Rattle.capnp_wire.specs.Prelude.{Pointer, IsViewOf, Accepts, ViewError, Obje
 use Rattle.capnp_wire.specs.declared.any_object.reader.Reader.{Reader}
 use Rattle.capnp_layout.specs.declared.object.Body.{Body}
 use Rattle.capnp_layout.specs.declared.object.Object.{Object as ReadObject}
-use Rattle.capnp_wire.proofs.views.FormLemmas.{entered_shows}
-use Rattle.capnp_wire.proofs.views.ViewLemmas.{Decides, is_view_of}
+use Rattle.capnp_wire.proofs.views.ShownFormLemmas.{entered_shows}
+use Rattle.capnp_wire.proofs.views.ViewErrorLemmas.{Decides, is_view_of}
 
 -- the kind of an object that was entered, by its body
 pub entered_kind : (p : Pointer) (object : ReadObject) (body : Body) (kind : Form → Type 0) → IsEntered p object → object.body ≡ body

@@ -4,11 +4,11 @@ use Rattle.std.specs.Result.{IsErrAnd}
 use Rattle.capnp_frame.specs.declared.error.Error.{Error}
 use Rattle.capnp_frame.specs.declared.error.ErrorKind.{ErrorKind}
 use Rattle.capnp_layout.specs.Prelude.{null, struct, Trees, none, tree, total_words, output, WalkError, too_large}
-use Rattle.capnp_wire.specs.Prelude.{Pointer, Struct, TreeAt, HasWords, WordsError, LeadsToTree, WalkErrorFrom, IsTreeOf, WalkErrorInside}
+use Rattle.capnp_wire.specs.Prelude.{Pointer, Struct, TreeAt, HasWords, WordsError, PointsToTree, WalkErrorFrom, IsTreeOf, WalkErrorInside}
 use Rattle.capnp_layout.specs.declared.place.Place.{Place}
-use Rattle.capnp_layout.proofs.objects.ObjectLemmas.{one_tree}
+use Rattle.capnp_layout.proofs.objects.OneObjectLemmas.{one_tree}
 use Rattle.capnp_wire.proofs.walks.WalkErrorLemmas.{walk_error_has_no_trees, one_walk_error}
-use Rattle.capnp_wire.proofs.views.SetterLemmas.{from_tree}
+use Rattle.capnp_wire.proofs.views.TargetValueLemmas.{from_tree}
 
 pub record IsOne (has_tree : Trees → Type 0) (fails : ErrorKind → Type 0) : Type 0 where
   pub same_tree : (a b : Trees) → has_tree a → has_tree b → a ≡ b
@@ -59,16 +59,16 @@ one_way p a b x y =
     let same : y.0 ≡ x.0 = cc in
     one_walk_error p.message (x.0 ∷ []) p.nesting p.limit a b x.2 (subst (λ (place : Place). WalkError p.message (place ∷ []) p.nesting p.limit b) same y.2)
 
-error_or_leads : (p : Pointer) (kind : ErrorKind) (trees : Trees) → WalkErrorFrom p kind → LeadsToTree p trees → ⊥
-error_or_leads p kind trees walk_error leads =
-    let t = from_tree p walk_error.0 trees walk_error.1 leads in
+error_or_points : (p : Pointer) (kind : ErrorKind) (trees : Trees) → WalkErrorFrom p kind → PointsToTree p trees → ⊥
+error_or_points p kind trees walk_error points_to =
+    let t = from_tree p walk_error.0 trees walk_error.1 points_to in
     walk_error_has_no_trees p.message (walk_error.0 ∷ []) p.nesting t.traversed p.limit kind trees walk_error.2 t.are_at t.shallow t.within
 
-pub one_of_pointer : (p : Pointer) → IsOne (LeadsToTree p) (WalkErrorFrom p)
+pub one_of_pointer : (p : Pointer) → IsOne (PointsToTree p) (WalkErrorFrom p)
 one_of_pointer p = record {
   same_tree = one_there p.place p.message p.nesting p.limit;
   same_error = one_way p;
-  apart = error_or_leads p;
+  apart = error_or_points p;
 }
 
 -- the tree of a struct

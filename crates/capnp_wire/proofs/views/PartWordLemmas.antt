@@ -5,19 +5,19 @@ use Rattle.std.specs.Result.{result_unwrap_or}
 use Rattle.capnp_frame.specs.declared.error.Error.{Error}
 use Rattle.capnp_layout.specs.Tree.{is_null}
 use Rattle.capnp_layout.specs.Prelude.{null, Trees, none, tree, total_words, Shape, ShapeIsAt, a_struct, some_numbers, some_pointers, some_structs, PointsTo, is_null as null_there, is_object, nothing, At, nowhere as nothing_more, at, output, AllHaveRoom}
-use Rattle.capnp_wire.specs.Prelude.{Pointer, Denotes, nowhere, at_place, HasWords, HasPart, LeadsToTree, TreeAt, starts_with_null}
+use Rattle.capnp_wire.specs.Prelude.{Pointer, Denotes, nowhere, at_place, HasWords, HasPart, PointsToTree, TreeAt, starts_with_null}
 use Rattle.capnp_layout.specs.declared.place.Place.{Place}
 use Rattle.capnp_wire.specs.declared.traits.TreeWords.{TreeWords}
-use Rattle.capnp_layout.proofs.objects.ObjectLemmas.{one_object}
-use Rattle.capnp_layout.proofs.trees.TrimLemmas.{total-trim}
+use Rattle.capnp_layout.proofs.objects.OneObjectLemmas.{one_object}
+use Rattle.capnp_layout.proofs.trees.TrimmedTreeLemmas.{total-trim}
 
 -- a part, by its words as it is, and in the form that is written
 pub output_less : (c : Bool) (trees : Trees) → AllHaveRoom trees → total_words (output c trees) ≤ total_words trees
 output_less true trees rooms = total-trim trees rooms
 output_less false trees rooms = omega arith
 
-pub as_is_words : (h : Trees → Type 0) (c : Bool) (words : TreeWords) → HasPart h c words → HasWords h false words.as_is
-as_is_words h c words p = record { trees = p.trees; tree_is = p.tree_is; rooms = p.rooms; words_are = p.as_is_same; few = p.few }
+pub untrimmed_words : (h : Trees → Type 0) (c : Bool) (words : TreeWords) → HasPart h c words → HasWords h false words.untrimmed
+untrimmed_words h c words p = record { trees = p.trees; tree_is = p.tree_is; rooms = p.rooms; words_are = p.untrimmed_same; few = p.few }
 
 pub output_words : (h : Trees → Type 0) (c : Bool) (words : TreeWords) → HasPart h c words → HasWords h c words.output
 output_words h c words p = record {
@@ -25,16 +25,16 @@ output_words h c words p = record {
   tree_is = p.tree_is;
   rooms = p.rooms;
   words_are = p.output_is;
-  few = omega (arith, p.output_is, p.as_is_same, p.few, output_less c p.trees p.rooms);
+  few = omega (arith, p.output_is, p.untrimmed_same, p.few, output_less c p.trees p.rooms);
 }
 
-pub part_words : (h : Trees → Type 0) (c : Bool) (words : ℕ) → (w : HasWords h false words) → HasPart h c (record { as_is = words; output = total_words (output c w.trees) })
-part_words h c words w = record { trees = w.trees; tree_is = w.tree_is; rooms = w.rooms; as_is_same = w.words_are; output_is = refl; few = w.few }
+pub part_words : (h : Trees → Type 0) (c : Bool) (words : ℕ) → (w : HasWords h false words) → HasPart h c (record { untrimmed = words; output = total_words (output c w.trees) })
+part_words h c words w = record { trees = w.trees; tree_is = w.tree_is; rooms = w.rooms; untrimmed_same = w.words_are; output_is = refl; few = w.few }
 
-pub same_tree_words : (a b : TreeWords) → a.as_is ≡ b.as_is → a.output ≡ b.output → a ≡ b
+pub same_tree_words : (a b : TreeWords) → a.untrimmed ≡ b.untrimmed → a.output ≡ b.output → a ≡ b
 same_tree_words a b s f =
-    let p : ℕ → ℕ → TreeWords = λ x y. record { as_is = x; output = y } in
-    ap (λ (x : ℕ). p x a.output) s ∙ ap (λ (y : ℕ). p b.as_is y) f
+    let p : ℕ → ℕ → TreeWords = λ x y. record { untrimmed = x; output = y } in
+    ap (λ (x : ℕ). p x a.output) s ∙ ap (λ (y : ℕ). p b.untrimmed y) f
 
 same_ok : (r : Result ℕ Error) (x y : ℕ) → r ≡ Ok x → r ≡ Ok y → x ≡ y
 same_ok r x y a b = cc
@@ -43,38 +43,38 @@ unwrapped : (r : Result ℕ Error) (other x y : ℕ) → r ≡ Ok x → y ≡ re
 unwrapped r other x y a b = b ∙ ap (λ (e : Result ℕ Error). result_unwrap_or e other) a
 
 -- what is returned of it: where no canonical form is written, its words once; else both
-pub as_is_found : (h : Trees → Type 0) (c : Bool) (returned : Result ℕ Error) (as_is : ℕ) (words : TreeWords) → returned ≡ Ok as_is → ((n : ℕ) → HasWords h false n → returned ≡ Ok n)
-    → c ≡ false → HasPart h c words → record { as_is = as_is; output = as_is } ≡ words
-as_is_found h c returned as_is words was found plain p =
-    let same : as_is ≡ words.as_is = same_ok returned as_is words.as_is was (found words.as_is (as_is_words h c words p)) in
-    let output_is : words.output ≡ words.as_is = p.output_is ∙ ap (λ (b : Bool). total_words (output b p.trees)) plain ∙ sym p.as_is_same in
-    same_tree_words (record { as_is = as_is; output = as_is }) words same (same ∙ sym output_is)
+pub untrimmed_found : (h : Trees → Type 0) (c : Bool) (returned : Result ℕ Error) (untrimmed : ℕ) (words : TreeWords) → returned ≡ Ok untrimmed → ((n : ℕ) → HasWords h false n → returned ≡ Ok n)
+    → c ≡ false → HasPart h c words → record { untrimmed = untrimmed; output = untrimmed } ≡ words
+untrimmed_found h c returned untrimmed words was found plain p =
+    let same : untrimmed ≡ words.untrimmed = same_ok returned untrimmed words.untrimmed was (found words.untrimmed (untrimmed_words h c words p)) in
+    let output_is : words.output ≡ words.untrimmed = p.output_is ∙ ap (λ (b : Bool). total_words (output b p.trees)) plain ∙ sym p.untrimmed_same in
+    same_tree_words (record { untrimmed = untrimmed; output = untrimmed }) words same (same ∙ sym output_is)
 
-pub both_returned : (h : Trees → Type 0) (c : Bool) (as_is output_words_are : ℕ) (other : Result ℕ Error) → c ≡ true → HasWords h false as_is → ((n : ℕ) → HasWords h true n → other ≡ Ok n)
-    → output_words_are ≡ result_unwrap_or other 0 → HasPart h c (record { as_is = as_is; output = output_words_are })
-both_returned h c as_is output_words_are other canonical w found is =
+pub both_returned : (h : Trees → Type 0) (c : Bool) (untrimmed output_words_are : ℕ) (other : Result ℕ Error) → c ≡ true → HasWords h false untrimmed → ((n : ℕ) → HasWords h true n → other ≡ Ok n)
+    → output_words_are ≡ result_unwrap_or other 0 → HasPart h c (record { untrimmed = untrimmed; output = output_words_are })
+both_returned h c untrimmed output_words_are other canonical w found is =
     let n : ℕ = total_words (output true w.trees) in
-    let there = found n (output_words h true (record { as_is = as_is; output = n }) (part_words h true as_is w)) in
+    let there = found n (output_words h true (record { untrimmed = untrimmed; output = n }) (part_words h true untrimmed w)) in
     let output_is : output_words_are ≡ n = unwrapped other 0 n output_words_are there is in
     record {
       trees = w.trees;
       tree_is = w.tree_is;
       rooms = w.rooms;
-      as_is_same = w.words_are;
+      untrimmed_same = w.words_are;
       output_is = output_is ∙ ap (λ (b : Bool). total_words (output b w.trees)) (sym canonical);
       few = w.few;
     }
 
-pub both_found : (h : Trees → Type 0) (c : Bool) (returned other : Result ℕ Error) (as_is output_words_are : ℕ) (words : TreeWords) → returned ≡ Ok as_is
+pub both_found : (h : Trees → Type 0) (c : Bool) (returned other : Result ℕ Error) (untrimmed output_words_are : ℕ) (words : TreeWords) → returned ≡ Ok untrimmed
     → ((n : ℕ) → HasWords h false n → returned ≡ Ok n) → c ≡ true → ((n : ℕ) → HasWords h true n → other ≡ Ok n) → output_words_are ≡ result_unwrap_or other 0 → HasPart h c words
-    → record { as_is = as_is; output = output_words_are } ≡ words
-both_found h c returned other as_is output_words_are words was found canonical found_output is p =
-    let same : as_is ≡ words.as_is = same_ok returned as_is words.as_is was (found words.as_is (as_is_words h c words p)) in
+    → record { untrimmed = untrimmed; output = output_words_are } ≡ words
+both_found h c returned other untrimmed output_words_are words was found canonical found_output is p =
+    let same : untrimmed ≡ words.untrimmed = same_ok returned untrimmed words.untrimmed was (found words.untrimmed (untrimmed_words h c words p)) in
     let there = found_output words.output (subst (λ (b : Bool). HasWords h b words.output) canonical (output_words h c words p)) in
-    same_tree_words (record { as_is = as_is; output = output_words_are }) words same (unwrapped other 0 words.output output_words_are there is)
+    same_tree_words (record { untrimmed = untrimmed; output = output_words_are }) words same (unwrapped other 0 words.output output_words_are there is)
 
 -- where a pointer has no place, its tree is null
-pub null_there_tree : (p : Pointer) (trees : Trees) → p.place ≡ None → LeadsToTree p trees → trees ≡ tree null none none
+pub null_there_tree : (p : Pointer) (trees : Trees) → p.place ≡ None → PointsToTree p trees → trees ≡ tree null none none
 null_there_tree p trees e t =
     subst (λ (o : Option Place). MatchOption o (trees ≡ tree null none none) (λ there. TreeAt p.message there p.nesting p.limit trees)) e t
 
@@ -113,5 +113,5 @@ null_at (Some place) p trees result e told is =
     ])
     (λ null_is. told.1 (at_place e (null_is_there p.message place trees is.traversed is.are_at null_is) (λ not. absurd (cc))))
 
-pub null_reported : (p : Pointer) (trees : Trees) (result : Bool) → (IsTrue result ↔ Denotes p nothing) → LeadsToTree p trees → result ≡ starts_with_null trees
+pub null_reported : (p : Pointer) (trees : Trees) (result : Bool) → (IsTrue result ↔ Denotes p nothing) → PointsToTree p trees → result ≡ starts_with_null trees
 null_reported p trees result told is = null_at p.place p trees result refl told is

@@ -4,8 +4,8 @@ use Rattle.std.proofs.Common.{◌≡◌, ℕ, zero, suc, ◌+◌, ◌*◌, ◌/�
 use Rattle.capnp_layout.specs.Prelude.{words_from, width, Form, null, struct, numbers, pointers, structs, elements_from}
 use Rattle.capnp_wire.specs.Prelude.{Pointer, Accepts, Reads, first_fields, ReadsAsNumbers, TakesFields, FieldsFormError}
 use Rattle.capnp_layout.proofs.objects.StructElementLemmas.{struct_within}
-use Rattle.capnp_layout.proofs.trees.RoomLemmas.{length-elements_from}
-use Rattle.capnp_wire.proofs.views.ViewLemmas.{Decides, wrong_kind_once, wrong_kind_unlimited}
+use Rattle.capnp_layout.proofs.trees.FieldRoomLemmas.{length-elements_from}
+use Rattle.capnp_wire.proofs.views.ViewErrorLemmas.{Decides, wrong_kind_once, wrong_kind_unlimited}
 
 pub fields_decide : (code : ℕ) → Decides (TakesFields code) (FieldsFormError code)
 fields_decide code = record {

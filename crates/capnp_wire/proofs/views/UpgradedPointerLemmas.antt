@@ -10,10 +10,10 @@ use Rattle.capnp_layout.specs.declared.object.Body.{Body}
 use Rattle.capnp_layout.specs.declared.object.Body.TheVariants.{Struct, Numbers, Pointers, Structs}
 use Rattle.capnp_layout.specs.declared.pointer.Elements.{Elements}
 use Rattle.capnp_layout.specs.declared.object.Object.{Object as ReadObject}
-use Rattle.capnp_layout.proofs.objects.FieldLemmas.{length-places}
-use Rattle.capnp_layout.proofs.trees.RoomLemmas.{length-elements_from}
-use Rattle.capnp_wire.proofs.views.FormLemmas.{entered_shown, entered_shows}
-use Rattle.capnp_wire.proofs.views.ViewLemmas.{Decides, wrong_kind_once, wrong_kind_unlimited}
+use Rattle.capnp_layout.proofs.objects.StructFieldLemmas.{length-places}
+use Rattle.capnp_layout.proofs.trees.FieldRoomLemmas.{length-elements_from}
+use Rattle.capnp_wire.proofs.views.ShownFormLemmas.{entered_shown, entered_shows}
+use Rattle.capnp_wire.proofs.views.ViewErrorLemmas.{Decides, wrong_kind_once, wrong_kind_unlimited}
 
 pub first_pointers_decide : Decides TakesFirstPointers FirstPointersFormError
 first_pointers_decide = record {

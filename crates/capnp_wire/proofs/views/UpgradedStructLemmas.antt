@@ -15,9 +15,9 @@ use Rattle.capnp_layout.specs.declared.pointer.Elements.{Elements}
 use Rattle.capnp_layout.specs.declared.pointer.StructSize.{StructSize}
 use Rattle.capnp_layout.specs.declared.object.Object.{Object as ReadObject}
 use Rattle.capnp_layout.proofs.words.DigitLemmas.{length-digits}
-use Rattle.capnp_layout.proofs.objects.FieldLemmas.{length-places}
-use Rattle.capnp_wire.proofs.views.FormLemmas.{entered_shown, entered_shows}
-use Rattle.capnp_wire.proofs.views.ViewLemmas.{Decides, wrong_kind_once, wrong_kind_unlimited}
+use Rattle.capnp_layout.proofs.objects.StructFieldLemmas.{length-places}
+use Rattle.capnp_wire.proofs.views.ShownFormLemmas.{entered_shown, entered_shows}
+use Rattle.capnp_wire.proofs.views.ViewErrorLemmas.{Decides, wrong_kind_once, wrong_kind_unlimited}
 
 pub elements_decide : Decides TakesAsStructs ElementsFormError
 elements_decide = record {

@@ -3,7 +3,7 @@ use Rattle.std.proofs.Common.{◌≡◌, List, ℕ, inl, inr, sym, ◌∙◌}
 use Rattle.capnp_frame.specs.declared.error.ErrorKind.{ErrorKind}
 use Rattle.capnp_frame.specs.declared.message.segments.ReaderSegments.{Ghosts}
 use Rattle.capnp_layout.specs.Prelude.{code_of, Trees, pointers}
-use Rattle.capnp_wire.specs.Prelude.{struct_list_of, structs_of, pointers_in, upgraded_pointers_of, IsElementsValue, ElementsValueError, numbers_in_structs, IsPointerListValue, PointerListValueError}
+use Rattle.capnp_wire.specs.Prelude.{struct_list_of, structs_form, pointers_in, upgraded_pointers_of, IsElementsValue, ElementsValueError, numbers_in_structs, IsPointerListValue, PointerListValueError}
 use Rattle.capnp_wire.specs.declared.upgraded.pointer_list.PointerList.{PointerList}
 use Rattle.capnp_wire.specs.declared.upgraded.struct_list.StructElements.{StructElements}
 use Rattle.capnp_wire.specs.declared.upgraded.struct_list.StructElements.TheVariants.{InPlace, Numbers}
@@ -13,7 +13,7 @@ use Rattle.capnp_wire.proofs.views.NumberValueLemmas.{one_of_numbers}
 
 -- one that is read as a list of structs is one tree
 pub one_of_elements : {S : Type 0} {ghosts : Ghosts S} (segments : S → List (List ℕ)) (elements : StructElements S ghosts) → IsOne (IsElementsValue segments elements) (ElementsValueError segments elements)
-one_of_elements segments (InPlace list) = one_of_list (structs_of segments list) (pointers_in (struct_list_of segments list))
+one_of_elements segments (InPlace list) = one_of_list (structs_form segments list) (pointers_in (struct_list_of segments list))
 one_of_elements segments (Numbers elements) = one_of_numbers (code_of elements.size) (numbers_in_structs elements)
 
 -- and so is one that is read as a list of pointers

@@ -5,11 +5,11 @@ use Rattle.capnp_frame.specs.declared.error.ErrorKind.{ErrorKind}
 use Rattle.capnp_layout.specs.Prelude.{object_size, total_words, Shape, Within, less}
 use Rattle.capnp_wire.specs.Prelude.{IsLaidOut, MeetsObject, Passes, fails_with, not_canonical, Ends, far, at_pointer, over_limit, elsewhere, inside, later}
 use Rattle.capnp_layout.specs.declared.place.Place.{Place}
-use Rattle.capnp_layout.proofs.objects.ObjectLemmas.{one_object, one_tree}
-use Rattle.capnp_layout.proofs.pointers.PointerErrorLemmas.{invalid_pointer_has_no_object}
+use Rattle.capnp_layout.proofs.objects.OneObjectLemmas.{one_object, one_tree}
+use Rattle.capnp_layout.proofs.pointers.InvalidPointerLemmas.{invalid_pointer_has_no_object}
 use Rattle.capnp_wire.proofs.walks.WalkErrorLemmas.{walk_error_has_no_trees, one_walk_error}
-use Rattle.capnp_wire.proofs.layouts.LaidOutLemmas.{laid_room}
-use Rattle.capnp_wire.proofs.walks.EndLemmas.{AllBefore, ends_error, ends_not, children_before, before_later, in_first}
+use Rattle.capnp_wire.proofs.layouts.TestedObjectLemmas.{laid_room}
+use Rattle.capnp_wire.proofs.walks.EarlyEndLemmas.{AllBefore, ends_error, ends_not, children_before, before_later, in_first}
 
 -- a walk that fails does not pass
 pub error_passes : (segment : List ℕ) (places : List Place) (nesting traversed next start after : ℕ) (limit : Option ℕ) (kind : ErrorKind) → Ends segment places nesting limit next (fails_with kind)

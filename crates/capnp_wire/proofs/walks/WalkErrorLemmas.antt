@@ -5,9 +5,9 @@ use Rattle.capnp_frame.specs.declared.error.ErrorKind.TheVariants.{ReadLimitExce
 use Rattle.capnp_layout.specs.Tree.{is_null}
 use Rattle.capnp_layout.specs.Prelude.{Trees, none, tree, depth, total_words, Shape, PointsTo, places, is_null as null_there, is_object, At, nowhere, at, Within, IsPastLimit, less, TreesAt, WalkError, at_pointer, over_limit, inside, later}
 use Rattle.capnp_layout.specs.declared.place.Place.{Place}
-use Rattle.capnp_layout.proofs.objects.ObjectLemmas.{one_object, one_tree}
-use Rattle.capnp_layout.proofs.pointers.PointerErrorLemmas.{invalid_pointer_has_no_object, not_null}
-use Rattle.capnp_layout.proofs.pointers.OneErrorLemmas.{one_error}
+use Rattle.capnp_layout.proofs.objects.OneObjectLemmas.{one_object, one_tree}
+use Rattle.capnp_layout.proofs.pointers.InvalidPointerLemmas.{invalid_pointer_has_no_object, not_null}
+use Rattle.capnp_layout.proofs.pointers.OnePointerErrorLemmas.{one_error}
 use Rattle.capnp_layout.proofs.trees.TreeCountLemmas.{less_none, within_first, within_rest, less_both}
 
 -- a walk that stops at the first of some places stops

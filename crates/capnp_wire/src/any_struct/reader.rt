@@ -2,7 +2,7 @@
 ghost use Rattle.std.specs.Prelude.{◌≡◌, ◌≢◌, ◌+◌, ◌/◌, ◌≤◌, length, slice_index, None, MatchResult};
 ghost use Rattle.std.specs.Option.{ForSome};
 ghost use Rattle.capnp_layout.specs.Prelude.{words_of, message_of};
-ghost use Rattle.capnp_wire.specs.Values.{HoldsPointers};
+ghost use Rattle.capnp_wire.specs.Values.{HasPointersSegment};
 
 use crate::any_pointer;
 use crate::any_pointer::ObjectKind;
@@ -30,7 +30,7 @@ pub struct StructReader<'a, S: ReaderSegments> {
     /// own.
     pub(crate) part: Option<WordPart>,
     ghost room: { start.word + (size.data_words + size.pointers) ≤ length segment.now / 8 },
-    ghost content: { HoldsPointers (message_of (S.segments segments.now)) (words_of segment.now)
+    ghost content: { HasPointersSegment (message_of (S.segments segments.now)) (words_of segment.now)
         start size },
     ghost own: { part ≢ None → (size.data_words ≡ 1) × (size.pointers ≡ 0) },
 }

@@ -18,18 +18,18 @@ pub(crate) fn is_next(pointer: u64, word: usize, next: usize, body: Body) -> boo
 {
     let offset = Offset::read(pointer);
     let ahead = next - (word + 1);
-    let leads_there = offset.0 as usize == ahead && ahead < MAX_SEGMENT_WORDS as usize;
+    let points_there = offset.0 as usize == ahead && ahead < MAX_SEGMENT_WORDS as usize;
     match body {
         Body::Struct(size) => {
             if size.words() == 0 {
                 offset.is_minus_one()
             } else {
-                leads_there
+                points_there
             }
         }
-        Body::Numbers(_, _) => leads_there,
-        Body::Pointers(_) => leads_there,
-        Body::Structs(elements, _) => leads_there && list_count(pointer) == elements.words(),
+        Body::Numbers(_, _) => points_there,
+        Body::Pointers(_) => points_there,
+        Body::Structs(elements, _) => points_there && list_count(pointer) == elements.words(),
     }
 }
 

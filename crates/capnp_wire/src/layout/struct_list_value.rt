@@ -2,7 +2,7 @@
 ghost use Rattle.std.specs.Prelude.{◌≡◌, if◌then◌else◌, ◌+◌, ◌-◌, ◌*◌, ◌/◌, ◌^◌, ◌<◌, ◌≤◌, ℕ, Option, length, MatchResult};
 ghost use Rattle.capnp_layout.specs.Prelude.{words_of, Trees, message_of, output, least_size};
 ghost use Rattle.capnp_wire.specs.Copy.{IsCopied};
-ghost use Rattle.capnp_wire.specs.Values.{HasWords, WordsError, HasRoomAt, HoldsPointers};
+ghost use Rattle.capnp_wire.specs.Values.{HasWords, WordsError, HasRoomAt, HasPointersSegment};
 ghost use Rattle.capnp_wire.specs.ListValues.{IsListTree, WalkErrorInList, pointers_of_structs, structs_along};
 
 use crate::layout::copy::{Copied, CopySource, Destination};
@@ -41,7 +41,7 @@ pub(crate) fn measure<S: ReaderSegments>(
     requires room { list.first.word
         + list.elements.count * (list.elements.size.data_words + list.elements.size.pointers)
         ≤ length list.segment.now / 8 }
-    requires content { HoldsPointers (message_of (S.segments segments.now))
+    requires content { HasPointersSegment (message_of (S.segments segments.now))
         (words_of list.segment.now) list.first list.elements.size }
     requires few { list.elements.count < 2 ^ 30 }
     requires few_words { list.elements.count
@@ -74,7 +74,7 @@ pub(crate) fn write<S: ReaderSegments>(
     requires room { list.first.word
         + list.elements.count * (list.elements.size.data_words + list.elements.size.pointers)
         ≤ length list.segment.now / 8 }
-    requires content { HoldsPointers (message_of (S.segments source.now.segments.now))
+    requires content { HasPointersSegment (message_of (S.segments source.now.segments.now))
         (words_of list.segment.now) list.first list.elements.size }
     requires value { (limit : Option ℕ) × HasRoomAt
         (IsListTree (structs_along (words_of list.segment.now) list.first list.elements)

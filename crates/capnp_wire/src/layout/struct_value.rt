@@ -2,7 +2,7 @@
 ghost use Rattle.std.specs.Prelude.{◌≡◌, ◌+◌, ◌-◌, ◌/◌, ◌^◌, ◌<◌, ◌≤◌, ℕ, Option, length, MatchResult};
 ghost use Rattle.capnp_layout.specs.Prelude.{words_of, Trees, message_of, output};
 ghost use Rattle.capnp_wire.specs.Copy.{IsCopied};
-ghost use Rattle.capnp_wire.specs.Values.{HasWords, WordsError, HasRoomAt, IsTreeOf, WalkErrorInside, HoldsPointers, fields_at};
+ghost use Rattle.capnp_wire.specs.Values.{HasWords, WordsError, HasRoomAt, IsTreeOf, WalkErrorInside, HasPointersSegment, fields_at};
 
 use crate::layout::copy::{Copied, CopySource, Destination};
 use crate::layout::copy_pointers::copy_pointers;
@@ -27,7 +27,7 @@ pub(crate) fn measure<S: ReaderSegments>(
 ) -> Result<u32>
     requires room { fields.start.word + (fields.size.data_words + fields.size.pointers)
         ≤ length fields.segment.now / 8 }
-    requires content { HoldsPointers (message_of (S.segments segments.now))
+    requires content { HasPointersSegment (message_of (S.segments segments.now))
         (words_of fields.segment.now) fields.start fields.size }
     ensures { let shown = fields_at (message_of (S.segments segments.now))
         (words_of fields.entry.segment.now) fields.entry.start fields.entry.size nesting limit in
@@ -64,7 +64,7 @@ pub(crate) fn write<S: ReaderSegments>(
 ) -> Copied
     requires room { fields.start.word + (fields.size.data_words + fields.size.pointers)
         ≤ length fields.segment.now / 8 }
-    requires content { HoldsPointers (message_of (S.segments source.now.segments.now))
+    requires content { HasPointersSegment (message_of (S.segments source.now.segments.now))
         (words_of fields.segment.now) fields.start fields.size }
     requires value { (limit : Option ℕ) × HasRoomAt (IsTreeOf
         (fields_at (message_of (S.segments source.now.segments.now))

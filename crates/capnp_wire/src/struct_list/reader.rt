@@ -2,7 +2,7 @@
 ghost use Rattle.std.specs.Prelude.{◌≡◌, ◌+◌, ◌*◌, ◌/◌, ◌^◌, ◌<◌, ◌≤◌, length, MatchResult};
 ghost use Rattle.std.specs.Option.{ForSome};
 ghost use Rattle.capnp_layout.specs.Prelude.{words_of, message_of};
-ghost use Rattle.capnp_wire.specs.Values.{HoldsPointers};
+ghost use Rattle.capnp_wire.specs.Values.{HasPointersSegment};
 
 use crate::any_pointer;
 use crate::any_pointer::ObjectKind;
@@ -29,7 +29,7 @@ pub struct Reader<'a, S: ReaderSegments> {
     pub(crate) nesting: u32,
     ghost room: { first.word + elements.count * (elements.size.data_words + elements.size.pointers)
         ≤ length segment.now / 8 },
-    ghost content: { HoldsPointers (message_of (S.segments segments.now)) (words_of segment.now)
+    ghost content: { HasPointersSegment (message_of (S.segments segments.now)) (words_of segment.now)
         first elements.size },
     ghost few: { elements.count < 2 ^ 30 },
     ghost few_words: { elements.count * (elements.size.data_words + elements.size.pointers)

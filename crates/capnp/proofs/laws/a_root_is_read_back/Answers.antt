@@ -1,6 +1,6 @@
 -- Both formats part streams in one way.
-use Rattle.capnp.proofs.AppendedLemmas.{root_is_read}
+use Rattle.capnp.proofs.MessageSequenceLemmas.{appended_root_is_read}
 use Rattle.capnp.proofs.laws.a_root_is_read_back.Goals as goal
 
 pub returns : goal.returns
-returns c = root_is_read
+returns c = appended_root_is_read

@@ -2,7 +2,7 @@
 use Rattle.std.proofs.Common.{length}
 use Rattle.std.specs.List.{concat}
 use Rattle.capnp_frame.specs.Prelude.{Outgrows, TakesMemory}
-use Rattle.capnp_frame.proofs.sources.ResultLemmas.{reads_with_less}
+use Rattle.capnp_frame.proofs.sources.AllocatingReaderLemmas.{reads_with_less}
 use Rattle.capnp_pack.specs.Prelude.{Unpacks, packed_rules}
 use Rattle.capnp.specs.Prelude.{IsPlainSource}
 use Rattle.capnp.proofs.FormatLemmas.{plain_reads_reusing, Outgrows-none}

@@ -2,7 +2,7 @@
 use Rattle.std.proofs.Common.{sym, ap, ◌∙◌, rules}
 use Rattle.std.specs.Prelude.{option_copied}
 use Rattle.capnp_frame.specs.Prelude.{kind_number}
-use Rattle.capnp_c.proofs.FrontLemmas.{one_front, segment_words, segment_there, no_segment_there}
+use Rattle.capnp_c.proofs.OneFrontMessageLemmas.{one_front, segment_words, segment_there, returned_segment_is_there}
 use Rattle.capnp_c.proofs.framed.count_segment.Goals as goal
 
 pub returns-in-Some : goal.returns-in-Some
@@ -27,7 +27,7 @@ returns-in-None c =
     let none = sym c.get_segment.ensures ∙ ap option_copied c.in-None.is in
     record {
       words_are = search rules;
-      accepted = λ segments rest front inside. absurd (no_segment_there segments own c.args.id
+      accepted = λ segments rest front inside. absurd (returned_segment_is_there segments own c.args.id
           (one_front c.args.options c.args.bytes.now found.0 rest own segments found.1 front) none inside);
       none = search rules;
       errors = λ kind errors. absurd (c.in-Ok.ensures.reads.exact kind errors);

@@ -1,8 +1,8 @@
 -- The last word of a list is put again, without the bits after its elements.
 use Rattle.std.proofs.Common.{◌≡◌, ℕ, ◌*◌, ◌%◌, ◌<◌, sym, ◌∙◌, ap, arith}
 use Rattle.capnp_layout.specs.Prelude.{words_of, code_of, width, words_for, put}
-use Rattle.capnp_layout.proofs.words.WordLemmas.{length-words_of}
-use Rattle.capnp_layout.proofs.objects.PaddingLemmas.{whole_words, part_word, shifted, any_below}
+use Rattle.capnp_layout.proofs.words.WordByteLemmas.{length-words_of}
+use Rattle.capnp_layout.proofs.objects.ListPaddingLemmas.{no_bits_left, part_word, shifted, any_below}
 use Rattle.capnp_layout.proofs.block.put_elements.Goals as goal
 
 pub returns-then-following-ne0-clause-words : goal.returns-then-following-ne0-clause-words
@@ -27,5 +27,5 @@ returns-else-following-ne0-clause-words g c =
     let code : ℕ = code_of list.size in
     let none : list.count * width code % 64 ≡ 0 = rw (← list.bits_are) (omega arith) in
     let put_all = rw c.words-words.ensures at c.put_words.ensures.words in
-    put_all ∙ ap (λ l. put c.args.at l (g.T.BlockItem.as_words c.args.block.now)) (sym (whole_words words list.start.word code list.count (any_below words c.words_fit.ensures.words)
+    put_all ∙ ap (λ l. put c.args.at l (g.T.BlockItem.as_words c.args.block.now)) (sym (no_bits_left words list.start.word code list.count (any_below words c.words_fit.ensures.words)
     (omega (arith, c.requires.there, length-words_of list.segment.now)) none))

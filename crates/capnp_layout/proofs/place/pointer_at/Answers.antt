@@ -2,7 +2,7 @@
 use Rattle.std.proofs.Common.{sym, subst}
 use Rattle.std.proofs.lemmas.Result.{err_from_is_err_and}
 use Rattle.capnp_layout.specs.Prelude.{message_of, NoWord, no_segment, past_segment}
-use Rattle.capnp_layout.proofs.words.MessageLemmas.{segment_is_there, no_segment_is_there, word_is_there}
+use Rattle.capnp_layout.proofs.words.MessageWordLemmas.{segment_is_there, no_segment_is_there, word_is_in_message}
 use Rattle.capnp_layout.proofs.place.pointer_at.Goals as goal
 
 pub returns-in_err-segment : goal.returns-in_err-segment
@@ -18,4 +18,4 @@ returns-in_err-word g c =
     rw (p.1, p.2) (subst (NoWord m c.args.place) (sym c.in_err-word.ensures.1) (past_segment (segment_is_there _ c.args.place.segment _ c.in_ok-segment.ensures) c.in_err-word.ensures.0))
 
 pub returns : goal.returns
-returns g c = word_is_there _ c.args.place _ c.in_ok-word.word c.in_ok-segment.ensures c.in_ok-word.ensures.0
+returns g c = word_is_in_message _ c.args.place _ c.in_ok-word.word c.in_ok-segment.ensures c.in_ok-word.ensures.0

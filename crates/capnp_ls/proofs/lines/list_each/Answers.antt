@@ -1,13 +1,13 @@
 -- Each turn prints one more line, or ends the run.
 use Rattle.std.proofs.Common.{rules, refl, inl, inr, length}
 use Rattle.capnp.specs.Prelude.{default_limit}
-use Rattle.capnp.proofs.Passed.{IfKnown-join, Advances-join, Fails-join, Grows-join}
-use Rattle.capnp.proofs.EndLemmas.{writes_each}
+use Rattle.capnp.proofs.PassedOn.{IfKnown-join, Advances-join, Fails-join, Grows-join}
+use Rattle.capnp.proofs.RunEndLemmas.{writes_each}
 use Rattle.capnp.proofs.FormatLemmas.{skipping_error}
 use Rattle.capnp.proofs.RunLemmas.{HasWritten-next, written_next, all_written, most_written, failed_reading, failed_at_message, left_as_written, message_run_error}
 use Rattle.capnp_ls.specs.declared.command.Command.TheVariants.{Listing}
 use Rattle.capnp_ls.specs.Output.{Prints, PrintedErrors}
-use Rattle.capnp_ls.proofs.MessageLemmas.{few_lengths, line_written, line_left, line_error, line_untouched}
+use Rattle.capnp_ls.proofs.MessageLineLemmas.{few_lengths, line_written, message_line_left, line_error, line_untouched}
 use Rattle.capnp_ls.proofs.lines.list_each.Goals as goal
 
 pub print_line-requires : goal.print_line-requires
@@ -48,7 +48,7 @@ returns-in-Err-print_line g c =
     (failed_at_message c.args.padding c.args.format default_limit (Prints command g.W.Write.appends) writing_errors
     (record { message = c.loop-message.message; error = c.in-Err-print_line.error }) m _ _ _ _ _ _
     reads.within reads.whole c.loop-message.invariant.written reads.found errors
-    (line_left g.W.Write.leaves c.loop-message.message m c.in-Ok-Some.lengths _ _ same printed.left)
+    (message_line_left g.W.Write.leaves c.loop-message.message m c.in-Ok-Some.lengths _ _ same printed.left)
     (left_as_written g.W.Write.written writing_errors c.loop-message.message m kind _ _
     (line_untouched g.W.Write.appends g.W.Write.leaves g.W.Write.refuses c.args.format c.args.padding c.loop-message.message m c.in-Ok-Some.lengths kind _ same printed.untouched)))
     (inr (message_run_error default_limit writing_errors c.loop-message.message m kind reads.within reads.whole errors))

@@ -1,6 +1,6 @@
--- The law, as StableLemmas proves it.
-use Rattle.capnp_message.proofs.StableLemmas.{own_form}
+-- The law, as FormOfFormLemmas proves it.
+use Rattle.capnp_message.proofs.FormOfFormLemmas.{is_its_own_form}
 use Rattle.capnp_message.proofs.laws.a_canonical_form_is_its_own.Goals as goal
 
 pub returns : goal.returns
-returns c = own_form
+returns c = is_its_own_form

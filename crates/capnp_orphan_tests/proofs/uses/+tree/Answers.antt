@@ -5,7 +5,7 @@ use Rattle.capnp_orphans.specs.Orphans.{IsOrphan}
 use Rattle.capnp_orphans.specs.Segments.{body_of}
 use Rattle.capnp_orphans.specs.OrphanLaws.{struct_value, keeps_on}
 use Rattle.capnp_orphan_tests.specs.Uses.{IsBinary, binary, node_words}
-use Rattle.capnp_orphan_tests.proofs.TreeLemmas.{in_front}
+use Rattle.capnp_orphan_tests.proofs.BinaryTreeLemmas.{binary_in_front}
 use Rattle.capnp_orphan_tests.proofs.uses.+tree.Goals as goal
 
 pub returns-then-depth-eq0 : goal.returns-then-depth-eq0
@@ -30,7 +30,7 @@ returns t c =
     let left_stays = c.in_ok-right.ensures.keeps c.in_ok-left.left.word left.0 left.1 left.3 in
     let children : Trees = tree left.0 left.1 (tree right.0 right.1 none) in
     let children_is : tree left.0 left.1 (tree right.0 right.1 none) ≡ binary d n (binary d n none) =
-    ap (λ (rest : Trees). tree left.0 left.1 rest) right.2 ∙ in_front d n left.0 left.1 (binary d n none) left.2 in
+    ap (λ (rest : Trees). tree left.0 left.1 rest) right.2 ∙ binary_in_front d n left.0 left.1 (binary d n none) left.2 in
     let whole : IsBinary c.args.depth n (tree (struct (node_words n)) children none) =
     ap (λ (inner : Trees). tree (struct (node_words n)) inner none) children_is ∙ ap (λ (e : ℕ). binary e n none) deeper in
     let two = keeps_on c.args.objects.now c.tree.new.objects c.tree-2.new.objects c.in_ok-left.ensures.keeps c.in_ok-right.ensures.keeps in

@@ -71,7 +71,7 @@ const OTHER_MEMBER: &[u8] = &[
 
 // A `title` that is no list, and a `payload` past the end of the segment.
 #[rattlefmt::skip]
-const SPOILT: &[u8] = &[
+const CORRUPT: &[u8] = &[
     0, 0, 0, 0, 1, 0, 2, 0,
     0, 0, 0, 0, 0, 0, 0, 0,
     252, 255, 255, 255, 0, 0, 0, 0,
@@ -85,7 +85,7 @@ const LINES: [(&[u8], u32, &str); 9] = [
     (NESTED, 3, "(balance = -5, ratio = 0, color = red, size = (width = 0), inner = (balance = 1, ratio = 0, color = red, size = (width = 0), inner = (balance = -5, ratio = 0.1, color = red, size = (width = 0), nothing = void)))"),
     (UNNAMED, 1, r#"(balance = -5, ratio = 0, color = (5), size = (width = 7), label = "none")"#),
     (OTHER_MEMBER, 1, "(balance = -5, ratio = 0, color = red, size = (width = 0))"),
-    (SPOILT, 1, "(balance = -5, ratio = 0, color = red, title = <WrongPointerKind>, payload = <PointerOutOfBounds>, size = (width = 0), nothing = void)"),
+    (CORRUPT, 1, "(balance = -5, ratio = 0, color = red, title = <WrongPointerKind>, payload = <PointerOutOfBounds>, size = (width = 0), nothing = void)"),
     (FILLED, 2, r#"(balance = 12, ratio = -2.5, color = deepBlue, title = "A \"title\"\n", payload = "\001A\377", points = [(..), (..)], colors = [red, deepBlue], any = <opaque pointer>, size = (width = 80), label = "here")"#),
     (FILLED, 1, r#"(balance = 12, ratio = -2.5, color = deepBlue, title = "A \"title\"\n", payload = "\001A\377", points = [..], colors = [..], any = <opaque pointer>, size = (width = 80), label = "here")"#),
     (NESTED, 2, "(balance = -5, ratio = 0, color = red, size = (width = 0), inner = (balance = 1, ratio = 0, color = red, size = (width = 0), inner = (..)))"),

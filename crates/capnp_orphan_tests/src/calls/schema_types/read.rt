@@ -94,7 +94,7 @@ fn window<S: ReaderSegments>(read: &sample::Reader<'_, S>) -> (u16, u16) {
 }
 
 #[test]
-fn pointers_lead_to_what_was_set(rt: HostRuntime) -> Result<()> {
+fn pointers_point_to_what_was_set(rt: HostRuntime) -> Result<()> {
     let segments = [FILLED];
     let arena = arena_of(&segments);
     let read = sample_in(&arena)?;

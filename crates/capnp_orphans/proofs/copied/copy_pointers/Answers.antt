@@ -2,7 +2,7 @@
 use Rattle.std.proofs.Common.{◌≡◌, ℕ, length, arith, refl, sym, subst}
 use Rattle.capnp_wire.specs.Prelude.{struct_of, pointer_of}
 use Rattle.capnp_orphans.specs.Holds.{word_of}
-use Rattle.capnp_orphans.proofs.CopyingLemmas.{IsCopied, one_copied, all_copied, copy_failed, same_failure}
+use Rattle.capnp_orphans.proofs.PointersCopyLemmas.{ArePointersCopied, one_copied, all_copied, copy_failed, same_failure}
 use Rattle.capnp_orphans.proofs.copied.copy_pointers.Goals as goal
 
 pub returns-in_err-copy : goal.returns-in_err-copy
@@ -21,4 +21,4 @@ pub returns : goal.returns
 returns g c =
     let at_end : length c.args.pointers.now ≡ c.loop-index.index = omega (arith, c.loop-index-test.false, c.loop-index.auto.index-end) in
     all_copied (struct_of g.R.ReaderSegments.segments c.args.fields.now) (length c.args.pointers.now) c.args.objects.now c.loop-index.objects c.loop-index.pointers _ _ c.loop-index.auto.pointers refl
-    (subst (λ (n : ℕ). IsCopied (struct_of g.R.ReaderSegments.segments c.args.fields.now) n c.args.objects.now c.loop-index.objects c.loop-index.pointers) (sym at_end) c.loop-index.invariant)
+    (subst (λ (n : ℕ). ArePointersCopied (struct_of g.R.ReaderSegments.segments c.args.fields.now) n c.args.objects.now c.loop-index.objects c.loop-index.pointers) (sym at_end) c.loop-index.invariant)

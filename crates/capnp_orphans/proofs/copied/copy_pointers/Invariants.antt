@@ -1,7 +1,7 @@
 -- The first pointers are copied.
 use Rattle.capnp_wire.specs.Prelude.{struct_of}
-use Rattle.capnp_orphans.proofs.CopyingLemmas.{IsCopied}
+use Rattle.capnp_orphans.proofs.PointersCopyLemmas.{ArePointersCopied}
 use Rattle.capnp_orphans.proofs.copied.copy_pointers.Given as goal
 
 abbrev pub invariant-loop-index : goal.invariant-loop-index
-invariant-loop-index g l = IsCopied (struct_of g.R.ReaderSegments.segments l.fields) l.index l.fn.objects l.objects l.pointers
+invariant-loop-index g l = ArePointersCopied (struct_of g.R.ReaderSegments.segments l.fields) l.index l.fn.objects l.objects l.pointers

@@ -1,7 +1,7 @@
 -- One word more.
 use Rattle.std.proofs.Common.{length, arith}
 use Rattle.capnp_wire.specs.Prelude.{struct_of}
-use Rattle.capnp_orphans.proofs.CopyLemmas.{next_word}
+use Rattle.capnp_orphans.proofs.OnePointerCopyLemmas.{next_word}
 use Rattle.capnp_orphans.proofs.copied.copy_words.Goals as goal
 
 pub loop-index-preserved : goal.loop-index-preserved

@@ -1,11 +1,11 @@
 -- Each group returns a part of what the ones before it left of the request.
 use Rattle.std.proofs.Common.{rules, inr, ◌≡◌, ◌+◌, ◌-◌, ◌≤◌, arith, ◌∙◌, sym, subst, length}
 use Rattle.capnp_pack.specs.Prelude.{Unpacks, PackedError}
-use Rattle.capnp_frame.proofs.sources.SourceLemmas.{Advances-join, ReturnsPart-fill, not_empty_before, ends}
-use Rattle.capnp_frame.proofs.sources.AskLemmas.{passed_on, Asked-err}
+use Rattle.capnp_frame.proofs.sources.RequestSequenceLemmas.{Advances-join, ReturnsPart-fill, not_empty_before, ends}
+use Rattle.capnp_frame.proofs.sources.SourceCallLemmas.{passed_on, Asked-err}
 use Rattle.capnp_pack.proofs.errors.OverrunLemmas.{over_after}
-use Rattle.capnp_pack.proofs.unpacking.ProgressLemmas.{more_taken}
-use Rattle.capnp_pack.proofs.errors.ChunkLemmas.{group_failed, group_missing, first_missing, chunk_taken, none_taken, end_before}
+use Rattle.capnp_pack.proofs.unpacking.TakenGroupLemmas.{more_taken}
+use Rattle.capnp_pack.proofs.errors.ChunkErrorLemmas.{group_failed, group_missing, first_missing, chunk_taken, no_chunk_taken, end_before}
 use Rattle.capnp_pack.proofs.group.read_chunk.Goals as goal
 
 pub returns-in_err-count-clause-errors : goal.returns-in_err-count-clause-errors
@@ -44,7 +44,7 @@ returns-in-None-2-clause-errors g c =
     so_far.1 (search rules) so_far.0 c.requires (so_far.3 (search rules)) so_far.5 (search rules) (rw c.in-None.is at c.in_ok-count.ensures.takes.none)))
 
 pub returns-in-None-clause-taken : goal.returns-in-None-clause-taken
-returns-in-None-clause-taken g c = none_taken _ _ _ _ (c.loop-filled.invariant.4 c.if-filled-eq0.true) (rw c.in-None.is at c.in_ok-count.ensures.takes.none) c.read_groups.ensures.takes.asked.advances.tail
+returns-in-None-clause-taken g c = no_chunk_taken _ _ _ _ (c.loop-filled.invariant.4 c.if-filled-eq0.true) (rw c.in-None.is at c.in_ok-count.ensures.takes.none) c.read_groups.ensures.takes.asked.advances.tail
 
 pub returns-in-None-clause-spent : goal.returns-in-None-clause-spent
 returns-in-None-clause-spent g c =

@@ -1,7 +1,7 @@
 -- The bytes so far are those of the tag, and the others those of the bits that are left.
 use Rattle.std.proofs.Common.{take}
 use Rattle.capnp_frame.specs.Prelude.{IfKnown, Advances}
-use Rattle.capnp_pack.proofs.words.WordLemmas.{MarksTo}
+use Rattle.capnp_pack.proofs.words.TaggedWordLemmas.{MarksTo}
 use Rattle.capnp_pack.proofs.group.read_marked.Given as goal
 
 abbrev pub invariant-loop-byte : goal.invariant-loop-byte

@@ -1,18 +1,18 @@
 -- The count after the tag is the length of the run.
 use Rattle.std.proofs.Common.{rules, arith, ◌+◌, ◌*◌, refl}
 use Rattle.std.proofs.lemmas.Grind.{common_steps}
-use Rattle.capnp_pack.proofs.packing.CallLemmas.{takes_own}
-use Rattle.capnp_frame.proofs.sources.AskLemmas.{passed_on}
+use Rattle.capnp_pack.proofs.packing.CallSequenceLemmas.{takes_own}
+use Rattle.capnp_frame.proofs.sources.SourceCallLemmas.{passed_on}
 use Rattle.capnp_pack.proofs.errors.OverrunLemmas.{device_is_other, zeros_over}
-use Rattle.capnp_pack.proofs.errors.GroupErrorLemmas.{run_error, count_error}
-use Rattle.capnp_pack.proofs.unpacking.GroupLemmas.{zeros_found}
+use Rattle.capnp_pack.proofs.errors.GroupErrorLemmas.{group_run_error, count_error}
+use Rattle.capnp_pack.proofs.unpacking.FrontGroupLemmas.{zeros_found}
 use Rattle.capnp_pack.proofs.group.read_zeros.Goals as goal
 
 pub returns-then-count-buffer-clause-takes : goal.returns-then-count-buffer-clause-takes
 returns-then-count-buffer-clause-takes g c =
     let found = rw c.in-Some.is at c.in_ok-further.ensures.found in
     takes_own g.R.Read _ _ _ _ _ _ c.from_kind-then-count-buffer.ensures (λ device. cc)
-    (run_error _ c.in-Some.further _ _ (search rules) (search rules) (search rules) found) c.next_byte.ensures.asked.advances
+    (group_run_error _ c.in-Some.further _ _ (search rules) (search rules) (search rules) found) c.next_byte.ensures.asked.advances
 
 pub returns-clause-takes : goal.returns-clause-takes
 returns-clause-takes g c =

@@ -1,5 +1,5 @@
 -- Counted group by group.
-use Rattle.capnp_pack.proofs.packing.SizeBound.{Packs-short}
+use Rattle.capnp_pack.proofs.packing.SizeBoundLemmas.{Packs-short}
 use Rattle.capnp_pack.proofs.laws.packed_encoding_is_short.Goals as goal
 
 pub returns : goal.returns

@@ -1,16 +1,16 @@
 -- The buffer is handed on, or the group of the next word.
 use Rattle.std.proofs.Common.{[], take}
 use Rattle.std.proofs.lemmas.Bool.{false≢true}
-use Rattle.capnp_pack.proofs.packing.BufferedLemmas.{handed_next, none_taken}
-use Rattle.capnp_pack.proofs.packing.CallLemmas.{hands_ok, hands_passed}
-use Rattle.capnp_pack.proofs.packing.GrantingLemmas.{granted_flushed, granted_next, group_granted}
-use Rattle.capnp_pack.proofs.packing.LeavingLemmas.{left_buffer, left_group}
-use Rattle.capnp_pack.proofs.packing.PackingLemmas.{next_words, other_words}
+use Rattle.capnp_pack.proofs.packing.BufferedGroupLemmas.{handed_next, no_words_packed}
+use Rattle.capnp_pack.proofs.packing.CallSequenceLemmas.{hands_ok, hands_passed}
+use Rattle.capnp_pack.proofs.packing.PackerGrantLemmas.{granted_flushed, group_granted_next, group_granted}
+use Rattle.capnp_pack.proofs.packing.FailedPackLemmas.{left_buffer, left_group}
+use Rattle.capnp_pack.proofs.packing.WholeChunkLemmas.{next_words, other_words}
 use Rattle.capnp_pack.proofs.packed_write.pack_next.Goals as goal
 
 pub returns-in_err-flush-clause-hands : goal.returns-in_err-flush-clause-hands
 returns-in_err-flush-clause-hands g c =
-    let taken = none_taken c.args.words.now (take c.args.used c.args.bytes.now) in
+    let taken = no_words_packed c.args.words.now (take c.args.used c.args.bytes.now) in
     hands_passed g.W.Write _ _ _ _ _ _ _ _ c.from_residual.ensures.1 (left_buffer _ _ c.args.words.now 0 _ _ _ _ c.told-words taken) c.in_err-flush.ensures.hands
 
 pub returns-in_err-flush-clause-granted : goal.returns-in_err-flush-clause-granted
@@ -28,7 +28,7 @@ returns-then-used-gt-MOST_USED-clause-granted g c encoding more packs granted =
 pub returns-in_err-literal-clause-hands : goal.returns-in_err-literal-clause-hands
 returns-in_err-literal-clause-hands g c =
     let front = next_words c.args.words.now 0 c.requires.some in
-    let taken = none_taken c.args.words.now (take c.args.used c.args.bytes.now) in
+    let taken = no_words_packed c.args.words.now (take c.args.used c.args.bytes.now) in
     hands_passed g.W.Write _ _ _ _ _ _ _ _ c.from_residual-in_err-literal.ensures.1
     (left_group _ _ c.args.words.now 0 _ _ _ _ _ _ c.told-words front taken) c.in_err-literal.ensures.hands
 
@@ -49,5 +49,5 @@ pub returns-clause-granted : goal.returns-clause-granted
 returns-clause-granted g c encoding more packs granted =
     let words = c.args.words.now in
     let front = next_words words 0 c.requires.some in
-    granted_next (g.W.Write.grants c.args.sink.now) (g.W.Write.grants c.pack_literal.new.sink) words c.in_ok-literal.literal.words c.args.used _ more _ _ _ c.told-words front
+    group_granted_next (g.W.Write.grants c.args.sink.now) (g.W.Write.grants c.pack_literal.new.sink) words c.in_ok-literal.literal.words c.args.used _ more _ _ _ c.told-words front
     (other_words words 0) c.in_ok-literal.ensures.hands.handed (encoding, packs, granted) c.in_ok-literal.ensures.granted

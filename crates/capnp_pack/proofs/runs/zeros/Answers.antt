@@ -2,8 +2,8 @@
 use Rattle.std.proofs.Common.{rules, arith, ◌≡◌, ap, ◌∙◌, length}
 use lib.Count.{ones}
 use Rattle.capnp_pack.specs.Prelude.{nonzero}
-use Rattle.capnp_pack.proofs.tables.MarkLemmas.{ones_tag}
-use Rattle.capnp_pack.proofs.packing.SizeBound.{nonzero_len}
+use Rattle.capnp_pack.proofs.tables.MarkedByteLemmas.{ones_tag}
+use Rattle.capnp_pack.proofs.packing.SizeBoundLemmas.{nonzero_len}
 use Rattle.capnp_pack.proofs.runs.zeros.Goals as goal
 
 pub returns : goal.returns

@@ -1,8 +1,8 @@
 -- Each bit is a lane's.
 use Rattle.std.proofs.Common.{rules, ◌≡◌}
 use Rattle.std.specs.List.{flat_map}
-use Rattle.capnp_pack.proofs.words.Chunks.{each_word}
-use Rattle.capnp_pack.proofs.words.EightLemmas.{zeros_eight}
+use Rattle.capnp_pack.proofs.words.WholeWordLemmas.{each_word}
+use Rattle.capnp_pack.proofs.words.EightWordLemmas.{zeros_eight}
 use Rattle.capnp_pack.proofs.runs.zeros_of_eight.Goals as goal
 
 pub returns : goal.returns

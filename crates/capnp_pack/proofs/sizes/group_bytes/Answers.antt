@@ -1,6 +1,6 @@
 -- The table's entry for the tag.
 use Rattle.std.proofs.Common.{arith, ◌≤◌, ◌<◌, ◌∙◌, sym, subst}
-use Rattle.capnp_pack.proofs.tables.SizeLemmas.{size_at, size_few, size_tagged}
+use Rattle.capnp_pack.proofs.tables.GroupSizeLemmas.{size_at, size_few, size_tagged}
 use Rattle.capnp_pack.proofs.sizes.group_bytes.Goals as goal
 
 pub returns-clause-few : goal.returns-clause-few

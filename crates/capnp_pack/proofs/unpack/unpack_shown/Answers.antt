@@ -1,6 +1,6 @@
 -- Where no group is shown, none is taken.
-use Rattle.capnp_pack.proofs.tables.SingleWordLemmas.{none_unpacked}
+use Rattle.capnp_pack.proofs.tables.SingleWordLemmas.{no_group_unpacked}
 use Rattle.capnp_pack.proofs.unpack.unpack_shown.Goals as goal
 
 pub returns : goal.returns
-returns c = none_unpacked c.args.shown.now c.args.buffer.now
+returns c = no_group_unpacked c.args.shown.now c.args.buffer.now

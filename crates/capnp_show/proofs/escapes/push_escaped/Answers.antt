@@ -2,9 +2,9 @@
 use Rattle.std.proofs.Common.{rules, ◌≡◌, ℕ, List, [], ◌∷◌, ◌++◌, refl, sym, subst, ap, ◌∙◌, string_bytes, append-nil}
 use Rattle.std.specs.Str.{chars}
 use Rattle.std.proofs.lemmas.Result.{on_ok_weaker}
-use Rattle.capnp_show.specs.Output.{AreEscaped, none_shown, escaped}
-use Rattle.capnp_show.proofs.EscapeLemmas.{added_after, ended, pushed}
-use Rattle.capnp_show.proofs.RunLemmas.{escaped_more, escaped_last, characters_more}
+use Rattle.capnp_show.specs.Output.{AreJsonEscaped, none_shown, json_escaped}
+use Rattle.capnp_show.proofs.AddedCharacterLemmas.{added_after, ended, pushed}
+use Rattle.capnp_show.proofs.UnescapedRunLemmas.{escaped_more, escaped_last, characters_more}
 use Rattle.capnp_show.proofs.escapes.push_escaped.Goals as goal
 
 pub loop-plain-init : goal.loop-plain-init
@@ -13,7 +13,7 @@ loop-plain-init c = ([], [], sym (append-nil _), none_shown, refl, c.utf8.shown)
 pub loop-plain-preserved : goal.loop-plain-preserved
 loop-plain-preserved c =
     let before = c.loop-plain.invariant in
-    let added = escaped c.in-Some.character c.escape_of.result in (
+    let added = json_escaped c.in-Some.character c.escape_of.result in (
       (before.0 ++ chars c.in-Some.plain.now) ++ c.in-Some.character ∷ [],
       (before.1 ++ c.in-Some.plain.now) ++ added,
       added_after _ (before.1 ++ c.in-Some.plain.now) _ _ added (added_after _ before.1 _ _ c.in-Some.plain.now before.2 c.in_ok-push_run.ensures) c.in_ok-push_escape.ensures,
@@ -29,5 +29,5 @@ returns c =
     on_ok_weaker c.push_str.result (λ is. (
       before.1 ++ c.loop-plain.rest.now,
       ended _ (before.1 ++ c.loop-plain.rest.now) _ (added_after _ before.1 _ _ c.loop-plain.rest.now before.2 is),
-      subst (λ (characters : List ℕ). AreEscaped characters (before.1 ++ c.loop-plain.rest.now)) (sym before.4) all,
+      subst (λ (characters : List ℕ). AreJsonEscaped characters (before.1 ++ c.loop-plain.rest.now)) (sym before.4) all,
     )) (pushed c.push_str.result _ c.loop-plain.rest.now _ c.push_str.ensures.bytes)

@@ -3,8 +3,8 @@ use Rattle.std.proofs.Common.{rules, ◌≡◌, ℕ, List, [], ◌∷◌, ◌++�
 use Rattle.std.specs.Str.{chars}
 use Rattle.std.proofs.lemmas.Result.{on_ok_weaker}
 use Rattle.capnp_show.specs.Output.{AreMarked, none_marked}
-use Rattle.capnp_show.proofs.EscapeLemmas.{added_after, ended, pushed}
-use Rattle.capnp_show.proofs.RunLemmas.{marked_more, marked_last, characters_more}
+use Rattle.capnp_show.proofs.AddedCharacterLemmas.{added_after, ended, pushed}
+use Rattle.capnp_show.proofs.UnescapedRunLemmas.{marked_more, marked_last, characters_more}
 use Rattle.capnp_show.proofs.markup.push_markup.Goals as goal
 
 pub loop-plain-init : goal.loop-plain-init

@@ -2,7 +2,7 @@
 use Rattle.std.proofs.Common.{arith, ◌≡◌, ◌⊎◌, ⊎_elim, ℕ, ◌<◌, ◌≤◌, List, ◌++◌, length, sym, ap, subst, ◌∙◌, slice_index}
 use Rattle.std.specs.Char.{encode_utf8}
 use Rattle.std.specs.Str.{IsCharBoundary}
-use Rattle.capnp_show.proofs.RunLemmas.{cut_before}
+use Rattle.capnp_show.proofs.UnescapedRunLemmas.{cut_before}
 use Rattle.capnp_show.proofs.runs.next_run.Goals as goal
 
 pub returns-clause-rest : goal.returns-clause-rest

@@ -1,7 +1,7 @@
 -- The root that is read is the list.
 use Rattle.capnp_orphans.specs.OrphanLaws.{root_of_value}
 use Rattle.capnp_uses.specs.AccountLists.{IsAccountList}
-use Rattle.capnp_uses.proofs.WrittenLemmas.{tree_again}
+use Rattle.capnp_uses.proofs.WriteAndReadLemmas.{tree_again}
 use Rattle.capnp_uses.proofs.account_list.accounts_are_read_back.Goals as goal
 
 pub returns-clause-back : goal.returns-clause-back

@@ -4,7 +4,7 @@ use Rattle.std.proofs.lemmas.List.{length-map}
 use Rattle.std.proofs.lemmas.Result.{err_from_is_err_and}
 use Rattle.capnp_frame.specs.declared.serialize.segment_table.Padding.TheVariants.{Zero}
 use Rattle.capnp.specs.Prelude.{IsEncodingOf, AppendsEach}
-use Rattle.capnp_uses.proofs.AppendedLemmas.{appended_alone, appending_memory, read_encodings, read_same, none_left, memory_only}
+use Rattle.capnp_uses.proofs.AppendedLemmas.{appended_alone, appending_memory, read_encodings, read_same, no_message_left, memory_only}
 use Rattle.capnp_uses.proofs.appended.write_and_read_back.Goals as goal
 
 pub returns-in_err-write_messages : goal.returns-in_err-write_messages
@@ -53,7 +53,7 @@ returns g c =
       read = rw (← c.deref-source.ensures.value) (rw (← same.0) at encodings);
       back = same.0;
       options_are = c.in_ok-readers.ensures.options_are;
-      ends = none_left Zero c.args.format limit (λ reader. reader.segments) c.in_ok-end.end _ _ _ (ap Some same.1) c.in_ok-end.ensures.reads;
+      ends = no_message_left Zero c.args.format limit (λ reader. reader.segments) c.in_ok-end.end _ _ _ (ap Some same.1) c.in_ok-end.ensures.reads;
       few = c.in_ok-write_messages.ensures.few;
       errors = tt;
     }

@@ -1,7 +1,7 @@
 -- The fields that are read are at the root.
 use Rattle.std.proofs.Common.{rules, refl, [], ◌∷◌}
 use Rattle.capnp_wire.specs.Prelude.{struct, TakesStruct}
-use Rattle.capnp_uses.proofs.RootLemmas.{root_is_shown, root_accepts}
+use Rattle.capnp_uses.proofs.BuiltRootViewLemmas.{root_is_shown, root_accepts}
 use Rattle.capnp_uses.proofs.building.a_struct_is_read_back.Goals as goal
 
 pub returns : goal.returns

@@ -1,7 +1,7 @@
 -- The data that is read is at the root.
 use Rattle.std.proofs.Common.{rules, refl}
 use Rattle.capnp_wire.specs.Prelude.{numbers, IsData, TakesNumbers}
-use Rattle.capnp_uses.proofs.RootLemmas.{root_is_read, root_accepts}
+use Rattle.capnp_uses.proofs.BuiltRootViewLemmas.{root_is_read, root_accepts}
 use Rattle.capnp_uses.proofs.building.data_is_read_back.Goals as goal
 
 pub returns : goal.returns

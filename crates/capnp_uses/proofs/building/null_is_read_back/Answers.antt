@@ -1,7 +1,7 @@
 -- The root that is asked is the null one.
 use Rattle.std.proofs.Common.{rules, sym, subst}
 use Rattle.capnp_wire.specs.Prelude.{nothing, Denotes}
-use Rattle.capnp_uses.proofs.RootLemmas.{null_is_read}
+use Rattle.capnp_uses.proofs.BuiltRootViewLemmas.{null_is_read}
 use Rattle.capnp_uses.proofs.building.null_is_read_back.Goals as goal
 
 pub returns : goal.returns

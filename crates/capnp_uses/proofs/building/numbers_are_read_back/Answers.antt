@@ -2,7 +2,7 @@
 use Rattle.std.proofs.Common.{◌≡◌, ◌∙◌, ◌∷◌, [], take, arith, refl}
 use Rattle.std.proofs.lemmas.List.{take_all}
 use Rattle.capnp_wire.specs.Prelude.{numbers, IsNumbers, numbers_of, TakesNumbers}
-use Rattle.capnp_uses.proofs.RootLemmas.{root_is_read, root_accepts}
+use Rattle.capnp_uses.proofs.BuiltRootViewLemmas.{root_is_read, root_accepts}
 use Rattle.capnp_uses.proofs.building.numbers_are_read_back.Goals as goal
 
 pub returns : goal.returns

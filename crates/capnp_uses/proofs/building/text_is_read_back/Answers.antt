@@ -1,7 +1,7 @@
 -- The text that is read is the one that is at the root.
 use Rattle.std.proofs.Common.{rules, ◌++◌, ◌∷◌, [], refl}
 use Rattle.capnp_wire.specs.Prelude.{numbers, IsText, TakesText}
-use Rattle.capnp_uses.proofs.RootLemmas.{root_is_read, root_accepts}
+use Rattle.capnp_uses.proofs.BuiltRootViewLemmas.{root_is_read, root_accepts}
 use Rattle.std.proofs.lemmas.List.{append_cancel_right}
 use Rattle.capnp_uses.proofs.building.text_is_read_back.Goals as goal
 

@@ -4,9 +4,9 @@ use Rattle.std.proofs.lemmas.List.{length-map}
 use Rattle.std.proofs.lemmas.Result.{err_from_is_err_and}
 use Rattle.capnp_frame.specs.declared.error.ErrorKind.TheVariants.{DeviceFailed, OutOfMemory}
 use Rattle.capnp_frame.specs.declared.serialize.segment_table.Padding.TheVariants.{Zero}
-use Rattle.capnp_frame.proofs.sources.SourceLemmas.{Fails-join}
-use Rattle.capnp.proofs.AppendedLemmas.{encodings_next, AllByRecursion-push}
-use Rattle.capnp_uses.proofs.DeviceLemmas.{reads_all, fails_after, fails_to_list, fails_past_full}
+use Rattle.capnp_frame.proofs.sources.RequestSequenceLemmas.{Fails-join}
+use Rattle.capnp.proofs.MessageSequenceLemmas.{encodings_next, AllByRecursion-append-one}
+use Rattle.capnp_uses.proofs.KnownDeviceLemmas.{reads_all, device_fails_after, fails_to_list, fails_past_full}
 use Rattle.capnp_uses.proofs.devices.all_of_source.Goals as goal
 
 pub loop-count-preserved : goal.loop-count-preserved
@@ -15,7 +15,7 @@ loop-count-preserved g c =
     record {
       encodings = encodings_next Zero c.args.format c.args.options.traversal_limit_in_words (λ reader. reader.segments) c.loop-count.messages.items
           c.push.new.self.items c.in-Some.message _ _ _ c.in_ok-push-in-Some.ensures.items c.loop-count.invariant.encodings (reads.encodings tt).found;
-      options = AllByRecursion-push (λ reader. reader.options ≡ c.args.options) c.loop-count.messages.items c.push.new.self.items c.in-Some.message
+      options = AllByRecursion-append-one (λ reader. reader.options ≡ c.args.options) c.loop-count.messages.items c.push.new.self.items c.in-Some.message
           c.in_ok-push-in-Some.ensures.items c.loop-count.invariant.options reads.options_are;
       many = omega (arith, c.loop-count.invariant.many, ap length c.in_ok-push-in-Some.ensures.items, length-append c.loop-count.messages.items (c.in-Some.message ∷ []));
       counted = omega (arith, c.loop-count.invariant.counted, reads.reads.advances.counted);
@@ -30,7 +30,7 @@ returns-in-None-clause-all g c =
 pub returns-in_err-message-clause-all : goal.returns-in_err-message-clause-all
 returns-in_err-message-clause-all g c =
     let p = err_from_is_err_and c.from_residual.result c.from_residual.ensures.1 in
-    rw (p.1, p.2) (fails_after c.args.format c.args.options.traversal_limit_in_words _ c.in_err-message.field-0.0
+    rw (p.1, p.2) (device_fails_after c.args.format c.args.options.traversal_limit_in_words _ c.in_err-message.field-0.0
     (map (λ reader. reader.segments) c.loop-count.messages.items) _ _ _ _ c.loop-count.invariant.encodings c.in_err-message.ensures.reads.end
     c.in_err-message.ensures.reads.errors)
 

@@ -1,5 +1,5 @@
 -- What is read was written.
-use Rattle.capnp_uses.proofs.SetLemmas.{root_has_segment}
+use Rattle.capnp_uses.proofs.SetTreeLemmas.{root_has_segment}
 use Rattle.capnp_uses.proofs.PackedStructLemmas.{shown_encoding, packed_struct_error}
 use Rattle.capnp_uses.proofs.packed_struct.a_struct_is_read_packed.Goals as goal
 

@@ -1,7 +1,7 @@
 -- Bytes that begin with such an encoding are unpacked.
 use Rattle.std.proofs.Common.{length, ap, sym, subst}
 use Rattle.capnp_pack.specs.Prelude.{Unpacks}
-use Rattle.capnp_uses.proofs.PackingLemmas.{unpack_succeeds}
+use Rattle.capnp_uses.proofs.PackAndUnpackLemmas.{unpack_succeeds}
 use Rattle.capnp_uses.proofs.packing.unpack_words.Goals as goal
 
 pub returns-clause-found : goal.returns-clause-found

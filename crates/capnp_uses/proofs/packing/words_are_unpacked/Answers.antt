@@ -1,6 +1,6 @@
 -- What is unpacked was packed.
 use Rattle.std.proofs.Common.{◌≡◌, [], length, arith}
-use Rattle.capnp_uses.proofs.PackingLemmas.{filled_same, unpacks_whole}
+use Rattle.capnp_uses.proofs.PackAndUnpackLemmas.{filled_same, unpacks_whole}
 use Rattle.capnp_uses.proofs.packing.words_are_unpacked.Goals as goal
 
 pub returns-clause-back : goal.returns-clause-back

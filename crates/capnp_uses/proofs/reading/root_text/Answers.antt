@@ -1,7 +1,7 @@
 -- The text that is read is the one that is at the root.
 use Rattle.std.proofs.Common.{refl}
 use Rattle.capnp_message.specs.Seen.{root_of}
-use Rattle.capnp_uses.proofs.RootLemmas.{root_text_is, text_meets_limit}
+use Rattle.capnp_uses.proofs.BuiltRootViewLemmas.{root_text_is, text_meets_limit}
 use Rattle.capnp_uses.proofs.reading.root_text.Goals as goal
 
 pub returns : goal.returns

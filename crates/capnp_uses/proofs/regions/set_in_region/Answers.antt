@@ -4,7 +4,7 @@ use Rattle.std.proofs.lemmas.Bool.{cases_lt}
 use Rattle.std.proofs.lemmas.Result.{err_from_is_err_and}
 use Rattle.capnp_message.specs.Region.{GrantsRegion, RegionError, IsOutAlone}
 use Rattle.capnp_message.specs.declared.single_segment.SingleSegmentAllocator.{SingleSegmentAllocator}
-use Rattle.capnp_uses.proofs.RegionLemmas.{available_alone, first_error, further_error}
+use Rattle.capnp_uses.proofs.AvailableRegionLemmas.{available_alone, root_word_error, further_error}
 use Rattle.capnp_uses.proofs.regions.set_in_region.Goals as goal
 
 pub returns-in_err-set_root-clause-fits : goal.returns-in_err-set_root-clause-fits
@@ -29,7 +29,7 @@ returns-in_err-set_root-clause-errors g c =
     let kind = c.in_err-set_root.field-0.0.kind in
     rw (p.1, p.2) (elim reported.kind [
       | inl room_error ↦ inl room_error
-      | inr (inl first) ↦ inr (inl (first_error c.new.result.region c.new.result.size (length c.args.region.now) kind c.new.ensures.available c.new.ensures.size
+      | inr (inl first) ↦ inr (inl (root_word_error c.new.result.region c.new.result.size (length c.args.region.now) kind c.new.ensures.available c.new.ensures.size
           (subst (λ (a : SingleSegmentAllocator). RegionError a.region a.size 1 kind) own first.1.1.0)))
       | inr (inr no_room) ↦ (
           let words = no_room.words in

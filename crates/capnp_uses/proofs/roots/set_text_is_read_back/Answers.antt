@@ -1,11 +1,11 @@
 -- The text that is read is the one that was set.
 use Rattle.std.proofs.Common.{refl, sym, ◌∙◌}
-use Rattle.capnp_uses.proofs.BackLemmas.{text_accepted, text_read, bytes_same}
+use Rattle.capnp_uses.proofs.SetTextLemmas.{set_text_accepted, text_read, bytes_same}
 use Rattle.capnp_uses.proofs.roots.set_text_is_read_back.Goals as goal
 
 pub returns-in_err-view-clause-cleared : goal.returns-in_err-view-clause-cleared
 returns-in_err-view-clause-cleared g c =
-    let never = c.in_err-view.ensures.found refl (text_accepted _ _ c.in_ok-set_root.ensures.set) in
+    let never = c.in_err-view.ensures.found refl (set_text_accepted _ _ c.in_ok-set_root.ensures.set) in
     absurd (cc)
 
 pub returns-clause-back : goal.returns-clause-back
@@ -15,5 +15,5 @@ returns-clause-back g c =
 
 pub returns-in_err-view-clause-errors : goal.returns-in_err-view-clause-errors
 returns-in_err-view-clause-errors g c =
-    let never = c.in_err-view.ensures.found refl (text_accepted _ _ c.in_ok-set_root.ensures.set) in
+    let never = c.in_err-view.ensures.found refl (set_text_accepted _ _ c.in_ok-set_root.ensures.set) in
     absurd (cc)

@@ -2,8 +2,8 @@
 use Rattle.std.proofs.Common.{inl, inr, refl, Ok, Err}
 use Rattle.std.proofs.lemmas.Result.{err_from_is_err_and}
 use Rattle.capnp_frame.specs.declared.serialize.segment_table.Padding.TheVariants.{Zero}
-use Rattle.capnp.proofs.ChunkLemmas.{format_memory}
-use Rattle.capnp_uses.proofs.WrittenLemmas.{added_alone, written_and_read}
+use Rattle.capnp.proofs.MessageChunkLemmas.{format_memory}
+use Rattle.capnp_uses.proofs.WriteAndReadLemmas.{added_alone, written_and_read}
 use Rattle.capnp_uses.proofs.roots.write_and_read_back.Goals as goal
 
 pub returns-in_err-write_message : goal.returns-in_err-write_message

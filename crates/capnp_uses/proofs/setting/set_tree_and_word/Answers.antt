@@ -3,7 +3,7 @@ use Rattle.std.proofs.Common.{rules, inl, inr, refl, sym, subst, arith}
 use Rattle.std.proofs.lemmas.Result.{err_from_is_err_and}
 use Rattle.capnp_wire.specs.Prelude.{struct, Root, pointer_of}
 use Rattle.capnp_build.specs.Prelude.{Built, message}
-use Rattle.capnp_uses.proofs.SetLemmas.{root_has_segment, set_form, word_set, word_kept, form_error_tree}
+use Rattle.capnp_uses.proofs.SetTreeLemmas.{root_has_segment, set_form, word_set, set_word_kept, form_error_tree}
 use Rattle.capnp_uses.proofs.setting.set_tree_and_word.Goals as goal
 
 pub returns-then-data_words-gt0 : goal.returns-then-data_words-gt0
@@ -17,8 +17,8 @@ returns-then-data_words-gt0 g c = record {
       let taken = c.in_ok-fields.ensures.gets.taken set.0 set.1 set.2 there in
       let after = word_set pointer c.args.word _ _ _ set.0 set.1 set.2 set.3 there taken (c.data_words.ensures.count set.0 set.1 set.2 there) (omega arith) c.set_word.ensures.set in
       search rules;
-  set = λ words children some leads.
-      let was_set = c.in_ok-set_tree.ensures.set (struct words) children leads in
+  set = λ words children some points_to.
+      let was_set = c.in_ok-set_tree.ensures.set (struct words) children points_to in
       let same = c.in_ok-fields.ensures.gets.looked.stays (root_has_segment _ _ _ _ was_set.1) in
       let there = subst (λ (b : Built _). Root (message b.spaces) (struct words) children was_set.0) (sym same) was_set.1 in
       let after = c.set_word.ensures.set words children was_set.0 there in
@@ -34,10 +34,10 @@ returns-else-data_words-gt0 g c = record {
       let same = c.in_ok-fields.ensures.gets.looked.stays (root_has_segment _ set.0 set.1 set.2 set.4) in
       let there = subst (λ (b : Built _). Root (message b.spaces) set.0 set.1 set.2) (sym same) set.4 in
       let taken = c.in_ok-fields.ensures.gets.taken set.0 set.1 set.2 there in
-      let kept = word_kept pointer c.args.word _ _ set.0 set.1 set.2 set.3 there taken (c.data_words.ensures.count set.0 set.1 set.2 there) (omega arith) in
+      let kept = set_word_kept pointer c.args.word _ _ set.0 set.1 set.2 set.3 there taken (c.data_words.ensures.count set.0 set.1 set.2 there) (omega arith) in
       search rules;
-  set = λ words children some leads.
-      let was_set = c.in_ok-set_tree.ensures.set (struct words) children leads in
+  set = λ words children some points_to.
+      let was_set = c.in_ok-set_tree.ensures.set (struct words) children points_to in
       let same = c.in_ok-fields.ensures.gets.looked.stays (root_has_segment _ _ _ _ was_set.1) in
       let there = subst (λ (b : Built _). Root (message b.spaces) (struct words) children was_set.0) (sym same) was_set.1 in
       let counted = c.data_words.ensures.count (struct words) children was_set.0 there words refl in

@@ -5,8 +5,8 @@ use Rattle.capnp_frame.specs.declared.message.options.TheConstants.{DEFAULT_READ
 use Rattle.capnp_frame.specs.Prelude.{default_limit}
 use Rattle.capnp_uses.proofs.AppendedLemmas.{memory_only}
 use Rattle.capnp.proofs.FormatLemmas.{found_next}
-use Rattle.capnp.proofs.StreamLemmas.{slice_error}
-use Rattle.capnp_uses.proofs.TwoLemmas.{reads_new, reads_second, none_at_all, fails_at_once, none_after, fails_after, both}
+use Rattle.capnp.proofs.SliceStreamLemmas.{slice_reader_error}
+use Rattle.capnp_uses.proofs.FirstTwoMessagesLemmas.{reads_new, reads_second, none_at_all, fails_at_once, none_after, second_fails_after, both}
 use Rattle.capnp_uses.proofs.streaming.first_two.Goals as goal
 
 pub returns-in-None-clause-two : goal.returns-in-None-clause-two
@@ -22,7 +22,7 @@ returns-in-Some-Err-clause-two c =
     let reads = reads_new _ _ _ stream.result _ _ c.args.format Zero DEFAULT_READER_OPTIONS _ steps stream.ensures.source stream.ensures.begins in
     let kind = c.in-Some-Err.error.kind in
     fails_at_once c.args.format c.args.stream.now _ c.in-Some-Err.error reads.failed reads.end
-    (slice_error Zero c.args.format default_limit kind _ _ reads.failed reads.errors)
+    (slice_reader_error Zero c.args.format default_limit kind _ _ reads.failed reads.errors)
     (λ message rest here. memory_only kind (reads.accepted message rest (here.encoding, here.is_encoding, here.spelled) here.within) reads.failed)
 
 pub returns-in-None-next-clause-two : goal.returns-in-None-next-clause-two
@@ -39,8 +39,8 @@ returns-in-Some-Err-next-clause-two c =
     let steps = rw c.in-Some-Err-next.field-0-is at c.in-Some-Err-next.ensures.steps in
     let second = reads_second _ _ _ stream.result _ _ _ _ c.args.format Zero DEFAULT_READER_OPTIONS _ first stream.ensures.source stream.ensures.begins steps in
     let kind = c.in-Some-Err-next.error.kind in
-    fails_after c.args.format c.args.stream.now _ _ c.in-Some-Ok.first c.in-Some-Err-next.error second.0
-    (slice_error Zero c.args.format default_limit kind _ _ second.1.failed second.1.errors)
+    second_fails_after c.args.format c.args.stream.now _ _ c.in-Some-Ok.first c.in-Some-Err-next.error second.0
+    (slice_reader_error Zero c.args.format default_limit kind _ _ second.1.failed second.1.errors)
     (λ message rest here. memory_only kind (second.1.accepted message rest (here.encoding, here.is_encoding, here.spelled) here.within) second.1.failed)
 
 pub returns-in-Some-Ok-next-clause-two : goal.returns-in-Some-Ok-next-clause-two

@@ -3,15 +3,15 @@ use Rattle.std.proofs.Common.{rules, ◌≡◌, ◌+◌, Err, Result, false, sub
 use Rattle.capnp_frame.specs.declared.error.Error.{Error}
 use Rattle.capnp_wire.proofs.views.PartWordLemmas.{output_words}
 use Rattle.capnp_wire.specs.declared.traits.TreeWords.{TreeWords}
-use Rattle.capnp_values.proofs.lists.ItemLemmas.{MeasuresItems, ItemsMeasured, measuring_begins, measuring_goes_on, measuring_fails, measuring_ends}
-use Rattle.capnp_values.proofs.values.SourceLemmas.{part_declared, part_made, words_error_declared, words_error_made}
+use Rattle.capnp_values.proofs.lists.ItemMeasureLemmas.{MeasuresItems, ItemsMeasured, measuring_begins, measuring_goes_on, measuring_fails, measuring_ends}
+use Rattle.capnp_values.proofs.values.LazyValueLemmas.{part_declared, part_made, words_error_declared, words_error_made}
 use Rattle.capnp_values.proofs.items.measure_items.Goals as goal
 
 pub loop-index-init : goal.loop-index-init
 loop-index-init g c = measuring_begins (g.S.ValueSource.has_tree c.args.items.now) (g.S.ValueSource.fails c.args.items.now) c.args.canonical (g.S.ValueSource.items c.args.items.now)
 
-pub both-words-requires-clause-as_is : goal.both-words-requires-clause-as_is
-both-words-requires-clause-as_is g c = omega (arith, c.loop-index.invariant.as_is_few, c.in_ok-own.ensures.returned.few, c.loop-index-test.true, c.len-count.ensures, c.requires)
+pub both-words-requires-clause-untrimmed : goal.both-words-requires-clause-untrimmed
+both-words-requires-clause-untrimmed g c = omega (arith, c.loop-index.invariant.untrimmed_few, c.in_ok-own.ensures.returned.few, c.loop-index-test.true, c.len-count.ensures, c.requires)
 
 pub both-words-requires-clause-output : goal.both-words-requires-clause-output
 both-words-requires-clause-output g c =

@@ -1,5 +1,5 @@
 -- What is measured of the values so far.
-use Rattle.capnp_values.proofs.lists.ItemLemmas.{ItemsMeasured}
+use Rattle.capnp_values.proofs.lists.ItemMeasureLemmas.{ItemsMeasured}
 use Rattle.capnp_values.proofs.items.measure_items.Given as goal
 
 abbrev pub invariant-loop-index : goal.invariant-loop-index

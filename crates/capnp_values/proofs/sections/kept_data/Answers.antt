@@ -1,7 +1,7 @@
 -- No more are kept than there are.
 use Rattle.std.proofs.Common.{arith}
-use Rattle.capnp_layout.proofs.words.CutLemmas.{length-cut}
+use Rattle.capnp_layout.proofs.words.ZeroCutLemmas.{length-cut_zeros}
 use Rattle.capnp_values.proofs.sections.kept_data.Goals as goal
 
 pub returns-then-canonical-clause-bound : goal.returns-then-canonical-clause-bound
-returns-then-canonical-clause-bound c = omega (arith, c.used.ensures, length-cut c.args.words.now)
+returns-then-canonical-clause-bound c = omega (arith, c.used.ensures, length-cut_zeros c.args.words.now)

@@ -3,20 +3,20 @@ use Rattle.std.specs.Prelude.{All}
 use Rattle.std.proofs.Common.{rules, ◌≡◌, ◌+◌, ◌<◌, ◌^◌, ◌∙◌, ℕ, List, length, Ok, Err, Result, subst, sym, ap, arith}
 use Rattle.capnp_frame.specs.declared.error.Error.{Error}
 use Rattle.capnp_wire.specs.declared.traits.TreeWords.{TreeWords}
-use Rattle.capnp_values.specs.Measured.{Measures}
+use Rattle.capnp_values.specs.Measured.{MeasuresValue}
 use Rattle.capnp_values.specs.StructLists.{MeasuresElements}
-use Rattle.capnp_values.proofs.struct_lists.ElementMeasureLemmas.{ElementsMeasured, measuring_begins, sum_few, measuring_goes_on, measuring_fails, measuring_ends}
-use Rattle.capnp_values.proofs.values.SourceLemmas.{fields_measured}
+use Rattle.capnp_values.proofs.struct_lists.ElementMeasureLemmas.{ElementsMeasured, structs_measuring_begins, sum_few, structs_measuring_goes_on, structs_measuring_fails, structs_measuring_ends}
+use Rattle.capnp_values.proofs.values.LazyValueLemmas.{declared_fields_measured}
 use Rattle.capnp_values.proofs.struct_elements.measure_elements.Goals as goal
 
 pub loop-index-init : goal.loop-index-init
-loop-index-init g c = measuring_begins (g.S.StructSource.words c.args.items.now) (g.S.StructSource.has_trees c.args.items.now) (g.S.StructSource.fails c.args.items.now) c.args.canonical g.S.Value.Element.data_words g.S.Value.Fields.size (g.S.StructSource.items c.args.items.now)
+loop-index-init g c = structs_measuring_begins (g.S.StructSource.words c.args.items.now) (g.S.StructSource.has_trees c.args.items.now) (g.S.StructSource.fails c.args.items.now) c.args.canonical g.S.Value.Element.data_words g.S.Value.Fields.size (g.S.StructSource.items c.args.items.now)
 
-pub both-words-requires-clause-as_is : goal.both-words-requires-clause-as_is
-both-words-requires-clause-as_is g c =
+pub both-words-requires-clause-untrimmed : goal.both-words-requires-clause-untrimmed
+both-words-requires-clause-untrimmed g c =
     let few =
-    let m : Measures (g.S.StructSource.has_trees c.args.items.now c.get-item.ensures.0) (g.S.StructSource.fails c.args.items.now c.get-item.ensures.0) c.args.canonical (Ok c.in_ok-own.own) =
-    subst (λ (x : Result TreeWords Error). Measures (g.S.StructSource.has_trees c.args.items.now c.get-item.ensures.0) (g.S.StructSource.fails c.args.items.now c.get-item.ensures.0) c.args.canonical x) c.in_ok-own.was (fields_measured c.get-item.ensures.3 c.args.canonical c.measure.result c.measure.ensures) in
+    let m : MeasuresValue (g.S.StructSource.has_trees c.args.items.now c.get-item.ensures.0) (g.S.StructSource.fails c.args.items.now c.get-item.ensures.0) c.args.canonical (Ok c.in_ok-own.own) =
+    subst (λ (x : Result TreeWords Error). MeasuresValue (g.S.StructSource.has_trees c.args.items.now c.get-item.ensures.0) (g.S.StructSource.fails c.args.items.now c.get-item.ensures.0) c.args.canonical x) c.in_ok-own.was (declared_fields_measured c.get-item.ensures.3 c.args.canonical c.measure.result c.measure.ensures) in
     sum_few (g.S.StructSource.words c.args.items.now) (g.S.StructSource.has_trees c.args.items.now) (g.S.StructSource.fails c.args.items.now) c.args.canonical g.S.Value.Element.data_words g.S.Value.Fields.size (g.met.S.StructSource.settled c.args.items.now) (g.S.StructSource.items c.args.items.now) c.loop-index.index _ c.in_ok-own.own c.get-item.ensures.0
     (omega (arith, c.loop-index-test.true, c.len-count.ensures)) c.requires.few c.requires.pointers m c.loop-index.invariant in
     few.0
@@ -24,29 +24,29 @@ both-words-requires-clause-as_is g c =
 pub both-words-requires-clause-output : goal.both-words-requires-clause-output
 both-words-requires-clause-output g c =
     let few =
-    let m : Measures (g.S.StructSource.has_trees c.args.items.now c.get-item.ensures.0) (g.S.StructSource.fails c.args.items.now c.get-item.ensures.0) c.args.canonical (Ok c.in_ok-own.own) =
-    subst (λ (x : Result TreeWords Error). Measures (g.S.StructSource.has_trees c.args.items.now c.get-item.ensures.0) (g.S.StructSource.fails c.args.items.now c.get-item.ensures.0) c.args.canonical x) c.in_ok-own.was (fields_measured c.get-item.ensures.3 c.args.canonical c.measure.result c.measure.ensures) in
+    let m : MeasuresValue (g.S.StructSource.has_trees c.args.items.now c.get-item.ensures.0) (g.S.StructSource.fails c.args.items.now c.get-item.ensures.0) c.args.canonical (Ok c.in_ok-own.own) =
+    subst (λ (x : Result TreeWords Error). MeasuresValue (g.S.StructSource.has_trees c.args.items.now c.get-item.ensures.0) (g.S.StructSource.fails c.args.items.now c.get-item.ensures.0) c.args.canonical x) c.in_ok-own.was (declared_fields_measured c.get-item.ensures.3 c.args.canonical c.measure.result c.measure.ensures) in
     sum_few (g.S.StructSource.words c.args.items.now) (g.S.StructSource.has_trees c.args.items.now) (g.S.StructSource.fails c.args.items.now) c.args.canonical g.S.Value.Element.data_words g.S.Value.Fields.size (g.met.S.StructSource.settled c.args.items.now) (g.S.StructSource.items c.args.items.now) c.loop-index.index _ c.in_ok-own.own c.get-item.ensures.0
     (omega (arith, c.loop-index-test.true, c.len-count.ensures)) c.requires.few c.requires.pointers m c.loop-index.invariant in
     few.1
 
 pub loop-index-preserved : goal.loop-index-preserved
 loop-index-preserved g c =
-    let m : Measures (g.S.StructSource.has_trees c.args.items.now c.get-item.ensures.0) (g.S.StructSource.fails c.args.items.now c.get-item.ensures.0) c.args.canonical (Ok c.in_ok-own.own) =
-    subst (λ (x : Result TreeWords Error). Measures (g.S.StructSource.has_trees c.args.items.now c.get-item.ensures.0) (g.S.StructSource.fails c.args.items.now c.get-item.ensures.0) c.args.canonical x) c.in_ok-own.was (fields_measured c.get-item.ensures.3 c.args.canonical c.measure.result c.measure.ensures) in
+    let m : MeasuresValue (g.S.StructSource.has_trees c.args.items.now c.get-item.ensures.0) (g.S.StructSource.fails c.args.items.now c.get-item.ensures.0) c.args.canonical (Ok c.in_ok-own.own) =
+    subst (λ (x : Result TreeWords Error). MeasuresValue (g.S.StructSource.has_trees c.args.items.now c.get-item.ensures.0) (g.S.StructSource.fails c.args.items.now c.get-item.ensures.0) c.args.canonical x) c.in_ok-own.was (declared_fields_measured c.get-item.ensures.3 c.args.canonical c.measure.result c.measure.ensures) in
     subst (λ (x : TreeWords). ElementsMeasured (g.S.StructSource.words c.args.items.now) (g.S.StructSource.has_trees c.args.items.now) (g.S.StructSource.fails c.args.items.now) c.args.canonical g.S.Value.Element.data_words g.S.Value.Fields.size (g.S.StructSource.items c.args.items.now) (c.loop-index.index + 1) x) (sym c.both-words.ensures)
-    (measuring_goes_on (g.S.StructSource.words c.args.items.now) (g.S.StructSource.has_trees c.args.items.now) (g.S.StructSource.fails c.args.items.now) c.args.canonical g.S.Value.Element.data_words g.S.Value.Fields.size (g.met.S.StructSource.settled c.args.items.now) (g.S.StructSource.items c.args.items.now) c.loop-index.index _ c.in_ok-own.own c.get-item.ensures.0
+    (structs_measuring_goes_on (g.S.StructSource.words c.args.items.now) (g.S.StructSource.has_trees c.args.items.now) (g.S.StructSource.fails c.args.items.now) c.args.canonical g.S.Value.Element.data_words g.S.Value.Fields.size (g.met.S.StructSource.settled c.args.items.now) (g.S.StructSource.items c.args.items.now) c.loop-index.index _ c.in_ok-own.own c.get-item.ensures.0
     (omega (arith, c.loop-index-test.true, c.len-count.ensures)) c.get-item.ensures.1 m (ap (λ (l : List ℕ). length l) (sym c.get-item.ensures.2) ∙ c.words-data_words.ensures.long)
     (subst (λ (l : List ℕ). All (λ k. k < 2 ^ 64) l) c.get-item.ensures.2 c.words-data_words.ensures.fit) c.loop-index.invariant)
 
 pub returns-in_err-own : goal.returns-in_err-own
 returns-in_err-own g c =
-    let m : Measures (g.S.StructSource.has_trees c.args.items.now c.get-item.ensures.0) (g.S.StructSource.fails c.args.items.now c.get-item.ensures.0) c.args.canonical (Err c.in_err-own.field-0.0) =
-    subst (λ (x : Result TreeWords Error). Measures (g.S.StructSource.has_trees c.args.items.now c.get-item.ensures.0) (g.S.StructSource.fails c.args.items.now c.get-item.ensures.0) c.args.canonical x) c.in_err-own.was (fields_measured c.get-item.ensures.3 c.args.canonical c.measure.result c.measure.ensures) in
+    let m : MeasuresValue (g.S.StructSource.has_trees c.args.items.now c.get-item.ensures.0) (g.S.StructSource.fails c.args.items.now c.get-item.ensures.0) c.args.canonical (Err c.in_err-own.field-0.0) =
+    subst (λ (x : Result TreeWords Error). MeasuresValue (g.S.StructSource.has_trees c.args.items.now c.get-item.ensures.0) (g.S.StructSource.fails c.args.items.now c.get-item.ensures.0) c.args.canonical x) c.in_err-own.was (declared_fields_measured c.get-item.ensures.3 c.args.canonical c.measure.result c.measure.ensures) in
     let was : c.from_residual.result ≡ Err c.in_err-own.field-0.0 = search rules in
     subst (λ (x : Result TreeWords Error). MeasuresElements (g.S.StructSource.words c.args.items.now) (g.S.StructSource.has_trees c.args.items.now) (g.S.StructSource.fails c.args.items.now) c.args.canonical g.S.Value.Element.data_words (g.S.StructSource.items c.args.items.now) x) (sym was)
-    (measuring_fails (g.S.StructSource.words c.args.items.now) (g.S.StructSource.has_trees c.args.items.now) (g.S.StructSource.fails c.args.items.now) c.args.canonical g.S.Value.Element.data_words g.S.Value.Fields.size (g.S.StructSource.items c.args.items.now) c.loop-index.index _ c.get-item.ensures.0 c.in_err-own.field-0.0 (omega (arith, c.loop-index-test.true, c.len-count.ensures)) c.get-item.ensures.1 m
+    (structs_measuring_fails (g.S.StructSource.words c.args.items.now) (g.S.StructSource.has_trees c.args.items.now) (g.S.StructSource.fails c.args.items.now) c.args.canonical g.S.Value.Element.data_words g.S.Value.Fields.size (g.S.StructSource.items c.args.items.now) c.loop-index.index _ c.get-item.ensures.0 c.in_err-own.field-0.0 (omega (arith, c.loop-index-test.true, c.len-count.ensures)) c.get-item.ensures.1 m
     c.loop-index.invariant)
 
 pub returns : goal.returns
-returns g c = measuring_ends (g.S.StructSource.words c.args.items.now) (g.S.StructSource.has_trees c.args.items.now) (g.S.StructSource.fails c.args.items.now) c.args.canonical g.S.Value.Element.data_words g.S.Value.Fields.size (g.S.StructSource.items c.args.items.now) c.loop-index.index _ (omega (arith, c.loop-index-test.false)) c.loop-index.invariant
+returns g c = structs_measuring_ends (g.S.StructSource.words c.args.items.now) (g.S.StructSource.has_trees c.args.items.now) (g.S.StructSource.fails c.args.items.now) c.args.canonical g.S.Value.Element.data_words g.S.Value.Fields.size (g.S.StructSource.items c.args.items.now) c.loop-index.index _ (omega (arith, c.loop-index-test.false)) c.loop-index.invariant

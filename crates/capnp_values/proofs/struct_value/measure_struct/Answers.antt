@@ -1,11 +1,11 @@
 -- A struct has the words that are kept of it, a word for each pointer, and those of its fields.
 use Rattle.std.proofs.Common.{rules, ◌≡◌, false, Err, IsTrue, Result, length, subst, sym, arith}
 use Rattle.capnp_frame.specs.declared.error.Error.{Error}
-use Rattle.capnp_values.specs.Measured.{Measures}
-use Rattle.capnp_values.specs.Structs.{IsStruct, StructError}
+use Rattle.capnp_values.specs.Measured.{MeasuresValue}
+use Rattle.capnp_values.specs.Structs.{IsStructTree, StructError}
 use Rattle.capnp_wire.specs.declared.traits.TreeWords.{TreeWords}
-use Rattle.capnp_values.proofs.lists.ItemLemmas.{measured_few}
-use Rattle.capnp_values.proofs.structs.StructLemmas.{not_fitting, struct_too_large, struct_error, struct_measured}
+use Rattle.capnp_values.proofs.lists.ItemMeasureLemmas.{measured_few}
+use Rattle.capnp_values.proofs.structs.StructTreeLemmas.{not_fitting, struct_too_large, struct_error, struct_value_measured}
 use Rattle.capnp_values.proofs.struct_value.measure_struct.Goals as goal
 
 pub returns-then-not-fits : goal.returns-then-not-fits
@@ -21,11 +21,11 @@ returns-in_err-children g c =
     let hs = g.F.Fields.has_trees c.args.fields.now in
     let rs = g.F.Fields.fails c.args.fields.now in
     let was : c.from_residual.result ≡ Err c.in_err-children.field-0.0 = search rules in
-    subst (λ (x : Result TreeWords Error). Measures (λ t. IsStruct c.args.words.now g.F.Fields.size hs t) (λ k. StructError (length c.args.words.now) g.F.Fields.size rs k) c.args.canonical x) (sym was)
+    subst (λ (x : Result TreeWords Error). MeasuresValue (λ t. IsStructTree c.args.words.now g.F.Fields.size hs t) (λ k. StructError (length c.args.words.now) g.F.Fields.size rs k) c.args.canonical x) (sym was)
     (struct_error c.args.canonical c.args.words.now g.F.Fields.size hs rs c.measure.result c.in_err-children.field-0.0 c.in_err-children.was c.measure.ensures small.0 (omega (arith, small.1, c.count.ensures)))
 
-pub overflow_add-as_is-2 : goal.overflow_add-as_is-2
-overflow_add-as_is-2 g c =
+pub overflow_add-untrimmed-2 : goal.overflow_add-untrimmed-2
+overflow_add-untrimmed-2 g c =
     let yes : IsTrue c.fits.result = search rules in
     let small = c.fits.ensures.0 yes in
     let few = measured_few (g.F.Fields.has_trees c.args.fields.now) c.args.canonical g.F.Fields.size c.in_ok-children.children (g.met.F.Fields.settled c.args.fields.now) c.in_ok-children.ensures.returned in
@@ -48,6 +48,6 @@ pub returns : goal.returns
 returns g c =
     let yes : IsTrue c.fits.result = search rules in
     let small = c.fits.ensures.0 yes in
-    struct_measured c.args.canonical c.args.words.now g.F.Fields.size (g.F.Fields.has_trees c.args.fields.now) (g.F.Fields.fails c.args.fields.now) c.measure.result c.in_ok-children.children
+    struct_value_measured c.args.canonical c.args.words.now g.F.Fields.size (g.F.Fields.has_trees c.args.fields.now) (g.F.Fields.fails c.args.fields.now) c.measure.result c.in_ok-children.children
     c.kept-pointers.result _ _ (g.met.F.Fields.settled c.args.fields.now) c.in_ok-children.was c.measure.ensures c.kept-pointers.ensures.kept small.0 (omega (arith, small.1, c.count.ensures)) c.words_fit.ensures
     (omega (arith, c.count-2.ensures, small.1, c.count.ensures)) (omega (arith, c.kept_data-data.ensures.value))

@@ -1,6 +1,6 @@
 -- A tree is written as it is copied; null is no words.
 use Rattle.capnp_wire.specs.Prelude.{pointer_of}
-use Rattle.capnp_wire.proofs.layouts.FreeLemmas.{null_copied}
+use Rattle.capnp_wire.proofs.layouts.FreeBlockLemmas.{null_copied}
 use Rattle.capnp_wire.proofs.views.PartWordLemmas.{null_there_tree}
 use Rattle.capnp_wire.proofs.any_pointer.write_into.Goals as goal
 

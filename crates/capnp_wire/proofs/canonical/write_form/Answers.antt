@@ -1,9 +1,9 @@
 -- The pointer and the body after it are the canonical form.
 use Rattle.std.proofs.Common.{◌≡◌, ◌-◌, ◌*◌, ◌∙◌, ◌+◌, ℕ, List, true, length, take, drop, arith, length-take, length-drop}
-use Rattle.capnp_wire.specs.Prelude.{pointer_of, LeadsToTree}
-use Rattle.capnp_layout.proofs.words.WordLemmas.{length-words_of}
-use Rattle.capnp_wire.proofs.layouts.FreeLemmas.{free_part, zero_part, has_room}
-use Rattle.capnp_wire.proofs.views.SetterLemmas.{whole_form}
+use Rattle.capnp_wire.specs.Prelude.{pointer_of, PointsToTree}
+use Rattle.capnp_layout.proofs.words.WordByteLemmas.{length-words_of}
+use Rattle.capnp_wire.proofs.layouts.FreeBlockLemmas.{free_part, zero_part, has_room}
+use Rattle.capnp_wire.proofs.views.TargetValueLemmas.{whole_form}
 use Rattle.capnp_wire.proofs.canonical.write_form.Goals as goal
 
 -- the block after the pointer
@@ -14,7 +14,7 @@ pub write-copied-requires-clause-value : goal.write-copied-requires-clause-value
 write-copied-requires-clause-value g c =
     let w = c.requires.words in
     let bytes = c.args.bytes.now in
-    has_room (LeadsToTree (pointer_of g.S.ReaderSegments.segments c.args.reader.now)) true w.0 _ w.1
+    has_room (PointsToTree (pointer_of g.S.ReaderSegments.segments c.args.reader.now)) true w.0 _ w.1
     (omega (arith, w.2, children_long w.0 bytes w.2, length-words_of (take (length bytes - 8) (drop 8 bytes))))
 
 pub write-copied-requires-clause-free : goal.write-copied-requires-clause-free

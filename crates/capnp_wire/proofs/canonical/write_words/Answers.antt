@@ -1,17 +1,17 @@
 -- The pointer and the body after it are the canonical form.
 use Rattle.std.proofs.Common.{◌-◌, true, length, take, drop, arith, length-take, length-drop}
-use Rattle.capnp_wire.specs.Prelude.{pointer_of, LeadsToTree}
-use Rattle.capnp_layout.proofs.words.PutLemmas.{length-numbers_of}
-use Rattle.capnp_wire.proofs.layouts.FreeLemmas.{has_room}
-use Rattle.capnp_wire.proofs.views.SetterLemmas.{words_form}
+use Rattle.capnp_wire.specs.Prelude.{pointer_of, PointsToTree}
+use Rattle.capnp_layout.proofs.words.PutBytesLemmas.{length-word_numbers}
+use Rattle.capnp_wire.proofs.layouts.FreeBlockLemmas.{has_room}
+use Rattle.capnp_wire.proofs.views.TargetValueLemmas.{words_form}
 use Rattle.capnp_wire.proofs.canonical.write_words.Goals as goal
 
 pub write_into-copied-requires-clause-value : goal.write_into-copied-requires-clause-value
 write_into-copied-requires-clause-value g c =
     let words = c.args.words.now in
     let rest = take (length words - 1) (drop 1 words) in
-    has_room (LeadsToTree (pointer_of g.S.ReaderSegments.segments c.args.reader.now)) true c.requires.0 _ c.requires.1
-    (omega (arith, c.requires.2, length-numbers_of rest, length-take (length words - 1) (drop 1 words), length-drop 1 words))
+    has_room (PointsToTree (pointer_of g.S.ReaderSegments.segments c.args.reader.now)) true c.requires.0 _ c.requires.1
+    (omega (arith, c.requires.2, length-word_numbers rest, length-take (length words - 1) (drop 1 words), length-drop 1 words))
 
 pub returns : goal.returns
 returns g c =

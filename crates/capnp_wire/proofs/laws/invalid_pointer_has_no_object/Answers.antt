@@ -1,5 +1,5 @@
 -- The law, as PointerErrorLemmas proves it.
-use Rattle.capnp_layout.proofs.pointers.PointerErrorLemmas as law
+use Rattle.capnp_layout.proofs.pointers.InvalidPointerLemmas as law
 use Rattle.capnp_wire.proofs.laws.invalid_pointer_has_no_object.Goals as goal
 
 pub returns : goal.returns

@@ -1,5 +1,5 @@
--- The law, as LayoutLemmas proves it.
-use Rattle.capnp_wire.proofs.layouts.LayoutLemmas.{root_of_layout}
+-- The law, as LayoutReadBackLemmas proves it.
+use Rattle.capnp_wire.proofs.layouts.LayoutReadBackLemmas.{root_of_layout}
 use Rattle.capnp_wire.proofs.laws.root_of_a_layout.Goals as goal
 
 pub returns : goal.returns

@@ -1,5 +1,5 @@
--- The law, as ExactnessLemmas proves it.
-use Rattle.capnp_wire.proofs.forms.ExactnessLemmas as law
+-- The law, as TestExactnessLemmas proves it.
+use Rattle.capnp_wire.proofs.forms.TestExactnessLemmas as law
 use Rattle.capnp_wire.proofs.laws.tests_are_exact.Goals as goal
 
 pub returns : goal.returns

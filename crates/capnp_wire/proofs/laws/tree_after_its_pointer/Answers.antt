@@ -1,5 +1,5 @@
 -- The law, as PlacedLemmas proves it.
-use Rattle.capnp_layout.proofs.trees.PlacedLemmas.{local_tree}
+use Rattle.capnp_layout.proofs.trees.TreeReadBackLemmas.{local_tree}
 use Rattle.capnp_wire.proofs.laws.tree_after_its_pointer.Goals as goal
 
 pub returns : goal.returns

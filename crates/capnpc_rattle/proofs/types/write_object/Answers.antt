@@ -1,15 +1,15 @@
 -- What is measured has room in a block of just its words, which is zero, and with the pointer to it is its layout.
 use Rattle.std.proofs.Common.{◌≡◌, ◌∙◌, false, ap, arith}
-use Rattle.capnp_wire.specs.Prelude.{words_of, pointer_of, Trees, total_words, Pointer, LeadsToTree}
-use Rattle.capnp_layout.proofs.words.WordLemmas.{length-words_of}
-use Rattle.capnp_wire.proofs.layouts.FreeLemmas.{free_block, has_room, whole_written}
+use Rattle.capnp_wire.specs.Prelude.{words_of, pointer_of, Trees, total_words, Pointer, PointsToTree}
+use Rattle.capnp_layout.proofs.words.WordByteLemmas.{length-words_of}
+use Rattle.capnp_wire.proofs.layouts.FreeBlockLemmas.{free_block, has_room, whole_written}
 use Rattle.capnp_wire.proofs.views.OneValueLemmas.{one_there}
 use Rattle.capnpc_rattle.proofs.types.write_object.Goals as goal
 
 pub write-requires-clause-value : goal.write-requires-clause-value
 write-requires-clause-value g c =
     let w = c.requires.words in
-    let h : Trees → Type 0 = LeadsToTree (pointer_of g.S.ReaderSegments.segments c.args.pointer.now) in
+    let h : Trees → Type 0 = PointsToTree (pointer_of g.S.ReaderSegments.segments c.args.pointer.now) in
     has_room h false w.0 _ w.1 (omega (arith, w.2, length-words_of c.args.block.now))
 
 pub write-requires-clause-free : goal.write-requires-clause-free

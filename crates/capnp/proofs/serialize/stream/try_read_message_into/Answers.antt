@@ -1,7 +1,7 @@
 -- What is read by requests, by encodings.
 use Rattle.std.proofs.Common.{length}
 use Rattle.capnp.specs.Prelude.{framed}
-use Rattle.capnp.proofs.ReaderLemmas.{framed_read, reads_message_into}
+use Rattle.capnp.proofs.SourceEncodingLemmas.{framed_read, reads_message_into}
 use Rattle.capnp.proofs.serialize.stream.try_read_message_into.Goals as goal
 
 pub returns : goal.returns

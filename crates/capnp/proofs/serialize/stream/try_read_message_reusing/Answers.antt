@@ -1,6 +1,6 @@
 -- What is read by requests, by encodings.
 use Rattle.capnp.specs.Prelude.{framed_reusing}
-use Rattle.capnp.proofs.ReaderLemmas.{framed_read, reads_message}
+use Rattle.capnp.proofs.SourceEncodingLemmas.{framed_read, reads_message}
 use Rattle.capnp.proofs.serialize.stream.try_read_message_reusing.Goals as goal
 
 pub returns : goal.returns

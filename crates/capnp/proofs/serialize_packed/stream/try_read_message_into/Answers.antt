@@ -1,7 +1,7 @@
 -- What is read by requests, by encodings.
 use Rattle.std.proofs.Common.{length}
 use Rattle.capnp.specs.Prelude.{packed}
-use Rattle.capnp.proofs.ReaderLemmas.{packed_read, reads_message_into}
+use Rattle.capnp.proofs.SourceEncodingLemmas.{packed_read, reads_message_into}
 use Rattle.capnp.proofs.serialize_packed.stream.try_read_message_into.Goals as goal
 
 pub returns : goal.returns

@@ -1,6 +1,6 @@
 -- What is read by requests, by encodings.
 use Rattle.capnp.specs.Prelude.{packed_reusing}
-use Rattle.capnp.proofs.ReaderLemmas.{packed_read, reads_message}
+use Rattle.capnp.proofs.SourceEncodingLemmas.{packed_read, reads_message}
 use Rattle.capnp.proofs.serialize_packed.stream.try_read_message_reusing.Goals as goal
 
 pub returns : goal.returns

@@ -2,10 +2,10 @@
 use Rattle.std.proofs.Common.{◌≡◌, ◌+◌, ◌<◌, ◌++◌, ◌∷◌, [], inl, length, map, arith, ap, refl, sym, ◌∙◌}
 use Rattle.std.proofs.lemmas.List.{length-map, length_push}
 use Rattle.std.proofs.lemmas.Result.{err_from_is_err_and}
-use Rattle.capnp_frame.proofs.sources.SourceLemmas.{Advances-join}
+use Rattle.capnp_frame.proofs.sources.RequestSequenceLemmas.{Advances-join}
 use Rattle.capnp_frame.specs.declared.serialize.segment_table.Padding.TheVariants.{Zero}
 use Rattle.capnp_frame.specs.declared.error.ErrorKind.TheVariants.{DeviceFailed, OutOfMemory}
-use Rattle.capnp.proofs.AppendedLemmas.{encodings_next, fails_reading, accepted_at_memory, AllByRecursion-push}
+use Rattle.capnp.proofs.MessageSequenceLemmas.{encodings_next, fails_reading, accepted_at_memory, AllByRecursion-append-one}
 use Rattle.capnp.proofs.streams.appended.read_messages.Goals as goal
 
 pub returns-in_err-reader : goal.returns-in_err-reader
@@ -51,7 +51,7 @@ loop-index-preserved g c = record {
   encodings = encodings_next Zero c.args.format c.args.options.traversal_limit_in_words (λ reader. reader.segments) c.loop-index.readers.items
       c.push.new.self.items c.in_ok-reader.reader _ _ _ c.in_ok-push.ensures.items c.loop-index.invariant.encodings
       (c.in_ok-reader.ensures.encodings tt).found;
-  options = AllByRecursion-push (λ reader. reader.options ≡ c.args.options) c.loop-index.readers.items c.push.new.self.items c.in_ok-reader.reader
+  options = AllByRecursion-append-one (λ reader. reader.options ≡ c.args.options) c.loop-index.readers.items c.push.new.self.items c.in_ok-reader.reader
       c.in_ok-push.ensures.items c.loop-index.invariant.options c.in_ok-reader.ensures.options_are;
   advances = Advances-join _ _ _ (g.met.R.Read.keeps.transitive _ _ _) c.loop-index.invariant.advances c.in_ok-reader.ensures.reads.advances;
 }

@@ -2,10 +2,10 @@
 use Rattle.std.proofs.Common.{arith}
 use Rattle.std.proofs.lemmas.List.{take_all}
 use Rattle.std.proofs.lemmas.Result.{err_from_is_err_and}
-use Rattle.capnp_frame.proofs.sources.SourceLemmas.{Grows-join}
+use Rattle.capnp_frame.proofs.sources.RequestSequenceLemmas.{Grows-join}
 use Rattle.capnp.specs.Prelude.{IsEncodingOf, AppendsMessage, FailsAtMessage, ErrorsAs}
-use Rattle.capnp.proofs.AppendedLemmas.{appended_next, writable_at, few_next}
-use Rattle.capnp.proofs.FailedRunLemmas.{error_at, fails_at_message, fails_among}
+use Rattle.capnp.proofs.MessageSequenceLemmas.{appended_next, writable_at, few_next}
+use Rattle.capnp.proofs.UnwrittenMessageLemmas.{message_error_at, fails_at_message, fails_among}
 use Rattle.capnp.proofs.streams.appended.write_messages.Goals as goal
 
 pub write_message-requires : goal.write_message-requires
@@ -24,7 +24,7 @@ returns-in_err-write_message g c =
           c.loop-message.message-index c.message-item.result _ _ _ _ c.loop-message-test.true c.message-item.is c.loop-message.invariant.written
           (fails_at_message W.written c.args.format W.appends W.leaves W.refuses (segments c.message-item.result) _ _ _ reported.errors reported.left reported.untouched);
       few = tt;
-      errors = error_at segments (ErrorsAs c.args.format W.refuses) c.args.messages.now c.loop-message.message-index c.message-item.result _
+      errors = message_error_at segments (ErrorsAs c.args.format W.refuses) c.args.messages.now c.loop-message.message-index c.message-item.result _
           c.loop-message-test.true c.message-item.is reported.errors;
       failed = λ device. let fails = reported.failed device in let counted = c.loop-message.invariant.grows.counted in omega (arith, fails, counted);
       grows = Grows-join _ _ _ (g.met.W.Write.keeps.transitive _ _ _) c.loop-message.invariant.grows reported.grows;

@@ -3,14 +3,14 @@ use Rattle.std.proofs.Common.{inl, inr, Some, map, ap, ◌∙◌}
 use Rattle.std.proofs.lemmas.List.{map_push}
 use Rattle.std.proofs.lemmas.Result.{err_from_is_err_and}
 use Rattle.capnp.proofs.FormatLemmas.{found_next}
-use Rattle.capnp.proofs.StreamLemmas.{slice_error, memory_at_bytes, found_in_bytes}
+use Rattle.capnp.proofs.SliceStreamLemmas.{slice_reader_error, memory_at_bytes, found_in_bytes}
 use Rattle.capnp.proofs.streams.reading.add_next.Goals as goal
 
 pub returns-in_err-message-clause-errors : goal.returns-in_err-message-clause-errors
 returns-in_err-message-clause-errors c =
     let p = err_from_is_err_and c.from_residual.result c.from_residual.ensures.1 in
     let reads = c.in_err-message.ensures.reads in
-    rw (p.1, p.2) (elim (slice_error c.args.padding c.args.format c.args.options.traversal_limit_in_words _ _ _ reads.failed reads.errors) [
+    rw (p.1, p.2) (elim (slice_reader_error c.args.padding c.args.format c.args.options.traversal_limit_in_words _ _ _ reads.failed reads.errors) [
       | inl memory ↦ inl (memory.0, inl memory.1)
       | inr ends ↦ inr ends
     ])

@@ -1,7 +1,7 @@
 -- Each turn reads one more message, and where the reading stops the stream ends, or memory does.
 use Rattle.std.proofs.Common.{◌<◌, length, refl, ap, map, inl, inr, None, Some, arith}
 use Rattle.capnp.specs.Prelude.{grammar_of, IsMemoryError}
-use Rattle.capnp.proofs.StreamLemmas.{encodings_within, next_encodings, error_ends, reading_ended, moves_on, memory_kind}
+use Rattle.capnp.proofs.SliceStreamLemmas.{encodings_within, next_encodings, stream_error_ends, reading_ended, moves_on, memory_kind}
 use Rattle.capnp.proofs.streams.reading.every_message.Goals as goal
 
 pub overflow_sub-end : goal.overflow_sub-end
@@ -35,7 +35,7 @@ pub returns-in-Err : goal.returns-in-Err
 returns-in-Err c =
     let finish = reading_ended c.args.padding c.args.format c.args.options.traversal_limit_in_words _ _ (Some c.in-Err.error) c.args.stream.now c.loop-count.rest.now c.loop-count.end
     (ap (map (λ reader. reader.segments)) c.in-Err.ensures.kept) c.loop-count.invariant.encodings c.loop-count.invariant.at
-    (error_ends c.in-Err.error _ _ _ c.in-Err.ensures.errors) in
+    (stream_error_ends c.in-Err.error _ _ _ c.in-Err.ensures.errors) in
     let some : IsMemoryError (Some c.in-Err.error) → 0 < length c.args.stream.now = λ memory. omega (
       arith,
       c.in-Err.ensures.some (memory_kind c.in-Err.error memory),

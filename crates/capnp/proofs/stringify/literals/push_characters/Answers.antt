@@ -5,17 +5,17 @@ use Rattle.std.proofs.lemmas.Iterator.{YieldsList-from_chars}
 use Rattle.std.proofs.lemmas.Iterator.Consumers.{YieldsList-end}
 use Rattle.std.proofs.lemmas.Result.{on_ok_weaker}
 use Rattle.capnp.specs.Prelude.{none_shown, one_shown, escaped}
-use Rattle.capnp.proofs.PrintedLemmas.{added_after, all_shown, closed, opened}
+use Rattle.capnp.proofs.QuotationLemmas.{added_after_quotation, all_shown, closed, quotation_opened}
 use Rattle.capnp.proofs.stringify.literals.push_characters.Goals as goal
 
 pub loop-character-init : goal.loop-character-init
-loop-character-init c = ([], opened _ _ _ c.in_ok-push.ensures.bytes (c.in_ok-push.ensures.ascii (omega arith)), none_shown)
+loop-character-init c = ([], quotation_opened _ _ _ c.in_ok-push.ensures.bytes (c.in_ok-push.ensures.ascii (omega arith)), none_shown)
 
 pub loop-character-preserved : goal.loop-character-preserved
 loop-character-preserved c =
     let before = c.loop-character.invariant in (
       before.0 ++ escaped c.in-Some.character c.escape_of.result,
-      added_after _ _ _ _ _ before.1 c.in_ok-push_escape.ensures,
+      added_after_quotation _ _ _ _ _ before.1 c.in_ok-push_escape.ensures,
       one_shown _ _ _ _ before.2 c.escape_of.ensures,
     )
 

@@ -1,6 +1,6 @@
 -- What is shown is a front of what is unread.
 use Rattle.std.proofs.Common.{refl, le_refl}
-use Rattle.capnp.proofs.Passed.{front_taken, none_shown}
+use Rattle.capnp.proofs.PassedOn.{front_taken, none_shown}
 use Rattle.capnp_bench.proofs.source.TrickleBufRead.fill_buf.Goals as goal
 
 pub returns : goal.returns

@@ -1,6 +1,6 @@
 -- The call fails as making the object does.
 use Rattle.std.proofs.lemmas.Result.{err_from_is_err_and}
-use Rattle.capnp_build.proofs.outcomes.InitLemmas.{init_error}
+use Rattle.capnp_build.proofs.outcomes.InitRootLemmas.{init_error}
 use Rattle.capnp_build.proofs.any_pointer.«View+M+Owned».initn_as.Goals as goal
 
 pub returns-in_err-init : goal.returns-in_err-init

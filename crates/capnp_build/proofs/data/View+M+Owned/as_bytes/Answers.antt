@@ -1,6 +1,6 @@
 -- Where there is a list of bytes, there is a segment.
-use Rattle.capnp_build.proofs.roots.AcceptLemmas.{no_bytes}
+use Rattle.capnp_build.proofs.roots.RootTypeLemmas.{bytes_have_segment}
 use Rattle.capnp_build.proofs.data.«View+M+Owned».as_bytes.Goals as goal
 
 pub returns-in-Bytes-clause-none : goal.returns-in-Bytes-clause-none
-returns-in-Bytes-clause-none g c = λ empty. absurd (no_bytes c.in-Bytes.n _ c.in-Bytes.ensures.is_kind empty)
+returns-in-Bytes-clause-none g c = λ empty. absurd (bytes_have_segment c.in-Bytes.n _ c.in-Bytes.ensures.is_kind empty)

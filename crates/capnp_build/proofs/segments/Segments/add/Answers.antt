@@ -2,8 +2,8 @@
 use Rattle.std.proofs.Common.{rules, ◌+◌, ◌^◌, ◌<◌, List, ◌∷◌, [], ◌++◌, length, MatchOption, ap, subst, sym, ◌∙◌}
 use Rattle.std.specs.Prelude.{⊤}
 use Rattle.capnp_build.specs.Prelude.{Space, BuilderState, pairs}
-use Rattle.capnp_build.proofs.states.BuilderStateLemmas.{other_added, other_keeps, same_pair}
-use Rattle.capnp_build.proofs.states.OutputLemmas.{added_words, no_words}
+use Rattle.capnp_build.proofs.states.SegmentOrderLemmas.{other_added, other_keeps, same_pair}
+use Rattle.capnp_build.proofs.states.WholeWordSegmentLemmas.{added_words, no_used_words}
 use Rattle.capnp_build.proofs.segments.Segments.add.Goals as goal
 
 pub invariant_of-self-2 : goal.invariant_of-self-2
@@ -18,7 +18,7 @@ invariant_of-self-2 g c =
       kept.0,
       kept.1,
       kept.2,
-      added_words first c.self.inside.others.items c.push_reserved.new.self.items c.new-2.result c.self.invariant.3 (no_words c.new-2.result c.new-2.ensures.used)
+      added_words first c.self.inside.others.items c.push_reserved.new.self.items c.new-2.result c.self.invariant.3 (no_used_words c.new-2.result c.new-2.ensures.used)
           (c.push_reserved.ensures.items ∙ ap (λ (l : List Space). l ++ c.new-2.result ∷ []) c.reserve.ensures.items),
     )
 

@@ -1,7 +1,7 @@
 -- What the invariant says of each segment.
 use Rattle.std.proofs.Common.{subst}
 use Rattle.capnp_build.specs.Prelude.{BuilderState, spaces_of, CanBeWritten}
-use Rattle.capnp_build.proofs.states.OutputLemmas.{used_is_writable, few_spaces}
+use Rattle.capnp_build.proofs.states.WholeWordSegmentLemmas.{used_is_writable, few_spaces}
 use Rattle.capnp_build.proofs.segments.Segments.are_writable.Goals as goal
 
 pub returns : goal.returns

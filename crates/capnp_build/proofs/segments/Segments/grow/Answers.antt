@@ -1,8 +1,8 @@
 -- The segments that are out stay as long.
 use Rattle.std.proofs.Common.{◌≡◌, suc, ◌∙◌, ◌<◌, ◌≤◌, ◌*◌, List, length, ap, sym, subst}
 use Rattle.capnp_build.specs.Prelude.{Space, with_block, BuilderState, index_of, pair, spaces_of, space_at, free_words_of}
-use Rattle.capnp_build.proofs.states.BuilderStateLemmas.{other_edit}
-use Rattle.capnp_build.proofs.states.OutputLemmas.{edited_words, zero_words}
+use Rattle.capnp_build.proofs.states.SegmentOrderLemmas.{other_edit}
+use Rattle.capnp_build.proofs.states.WholeWordSegmentLemmas.{edited_words, zero_block_uses_words}
 use Rattle.capnp_build.proofs.segments.Segments.grow.Goals as goal
 
 pub invariant_of-self-in-Further : goal.invariant_of-self-in-Further
@@ -20,5 +20,5 @@ invariant_of-self-in-Further g c =
       kept.1,
       kept.2,
       edited_words first others c.args.index c.in-Further.other c.index_mut-part.result.now c.grow-in-Further.new.self (λ s. with_block s (8 * c.args.words))
-          c.self.invariant.3 within place c.index_mut-part.ensures.value c.grow-in-Further.ensures (λ uses. zero_words (space_at (spaces_of first others) c.args.index) c.args.words uses room),
+          c.self.invariant.3 within place c.index_mut-part.ensures.value c.grow-in-Further.ensures (λ uses. zero_block_uses_words (space_at (spaces_of first others) c.args.index) c.args.words uses room),
     )

@@ -1,7 +1,7 @@
 -- Each segment goes back, the last one first.
 use Rattle.std.proofs.Common.{◌≡◌, List, [], refl}
 use Rattle.capnp_build.specs.Prelude.{Out, pair}
-use Rattle.capnp_build.proofs.states.BuilderStateLemmas.{last_pair, last_alone, out_first, taken_first, none_left, only_first, returned_last, returned_first}
+use Rattle.capnp_build.proofs.states.SegmentOrderLemmas.{last_pair, last_alone, out_first, taken_first, no_segment_left, only_first, returned_last, returned_first}
 use Rattle.capnp_build.proofs.segments.Segments.into_allocator.Goals as goal
 
 pub return_segment-requires : goal.return_segment-requires
@@ -31,13 +31,13 @@ loop-part-preserved g c =
 pub return_segment-requires-in-Some-first : goal.return_segment-requires-in-Some-first
 return_segment-requires-in-Some-first g c =
     let out = c.loop-part.invariant.out in
-    let none : c.loop-part.others.items ≡ [] = none_left _ c.pop.new.self.items _ c.in_default.ensures.cases.0 c.in_default.ensures.rest c.in_default.ensures.items in
+    let none : c.loop-part.others.items ≡ [] = no_segment_left _ c.pop.new.self.items _ c.in_default.ensures.cases.0 c.in_default.ensures.rest c.in_default.ensures.items in
     out_first (g.A.Allocator.out c.loop-part.allocator) _ (pair c.in-Some-first.part) _ out.0 out.1 refl
     (only_first c.self.inside.first c.loop-part.others.items c.in-Some-first.part out.0 c.in-Some-first.is none)
 
 pub returns-in-Some-first : goal.returns-in-Some-first
 returns-in-Some-first g c =
-    let none : c.loop-part.others.items ≡ [] = none_left _ c.pop.new.self.items _ c.in_default.ensures.cases.0 c.in_default.ensures.rest c.in_default.ensures.items in
+    let none : c.loop-part.others.items ≡ [] = no_segment_left _ c.pop.new.self.items _ c.in_default.ensures.cases.0 c.in_default.ensures.rest c.in_default.ensures.items in
     let given = c.return_segment-in-Some-first in
     record {
       available = λ rest is.

@@ -1,8 +1,8 @@
 -- The landing pad leads to the body, and the root's word to the landing pad.
 use Rattle.std.proofs.Common.{◌-◌, ◌*◌, ◌∙◌, length, ap, sym, arith}
 use Rattle.capnp_build.specs.Prelude.{BuilderState}
-use Rattle.capnp_build.proofs.states.KeptLemmas.{kept_past, kept_before}
-use Rattle.capnp_build.proofs.layouts.PointLemmas.{far_points, rewritten_by, rewritten_twice}
+use Rattle.capnp_build.proofs.states.StayingBytesLemmas.{kept_past, kept_before}
+use Rattle.capnp_build.proofs.layouts.BodyPointerLemmas.{far_points, rewritten_by, rewritten_twice}
 use Rattle.capnp_build.proofs.segments.Segments.point_far.Goals as goal
 
 pub returns : goal.returns

@@ -3,13 +3,13 @@ use Rattle.std.proofs.Common.{length, w64, ap, sym, ◌∙◌, arith}
 use Rattle.std.specs.Int.{to_le_bytes}
 use Rattle.capnp_layout.specs.Prelude.{count}
 use Rattle.capnp_build.specs.Prelude.{BuilderState}
-use Rattle.capnp_build.proofs.states.KeptLemmas.{kept_past}
-use Rattle.capnp_build.proofs.layouts.PointLemmas.{local_points, first_room, rewritten_by}
+use Rattle.capnp_build.proofs.states.StayingBytesLemmas.{kept_past}
+use Rattle.capnp_build.proofs.layouts.BodyPointerLemmas.{local_points, first_segment_room, rewritten_by}
 use Rattle.capnp_build.proofs.segments.Segments.point_local.Goals as goal
 
 pub returns : goal.returns
 returns g c =
-    let room = first_room c.args.self.now.spaces c.args.location c.requires.body c.requires.first in
+    let room = first_segment_room c.args.self.now.spaces c.args.location c.requires.body c.requires.first in
     record {
       is_laid = λ form children b.
           local_points c.args.self.now.spaces c.write_at.new.self.spaces c.args.location form children c.to_le_bytes.result c.requires.first b

@@ -1,7 +1,7 @@
 -- The message at the front is the one that is found.
 use Rattle.std.proofs.Common.{rules, ◌*◌, ◌∙◌, length, refl, sym, ap}
 use Rattle.std.specs.Prelude.{sum}
-use Rattle.capnp_frame.proofs.slices.BufferLemmas.{moved, parts_are, keeps_declared}
+use Rattle.capnp_frame.proofs.slices.FrontFrameLemmas.{moved_past_table, parts_are, keeps_declared}
 use Rattle.capnp_frame.proofs.slices.FlatReaderLemmas.{reads_none, reads_found}
 use Rattle.capnp_frame.proofs.serialize.buffer_segments.take_segments_with_rules.Goals as goal
 
@@ -22,5 +22,5 @@ returns c =
       reads = reads_found _ _ _ _ _ (length ns) found.holds
           (parts_are bytes ns size c.from_parts.result.segments found.lengths found.table (ap (λ message. message.segments) c.from_parts.ensures))
           (keeps_declared bytes ns c.args.rules.limit_in_words found.lengths found.within) found.padding
-          (moved bytes (length ns) size (8 * c.total_words.result) found.table (ap (λ k. 8 * k) (c.total_words.ensures ∙ ap sum (sym found.lengths))));
+          (moved_past_table bytes (length ns) size (8 * c.total_words.result) found.table (ap (λ k. 8 * k) (c.total_words.ensures ∙ ap sum (sym found.lengths))));
     }

@@ -5,7 +5,7 @@ use Rattle.std.proofs.lemmas.List.{get_or-set_same, get_or-set_other}
 use Rattle.std.specs.Prelude.{sum}
 use borrow.Author.Count.{below_more}
 use Rattle.capnp_frame.specs.Prelude.{declared_lengths}
-use Rattle.capnp_frame.proofs.tables.PartLemmas.{reads_on}
+use Rattle.capnp_frame.proofs.tables.SegmentRangeLemmas.{reads_on}
 use Rattle.capnp_frame.proofs.serialize.no_alloc_buffer_segments.first_ends.Goals as goal
 
 kept_more : (ends bytes : List ℕ) (index end : ℕ) → index < length ends

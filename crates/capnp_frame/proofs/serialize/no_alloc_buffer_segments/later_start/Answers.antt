@@ -2,7 +2,7 @@
 use Rattle.std.proofs.Common.{refl, ◌+◌, ◌∙◌, sym, ap, arith}
 use Rattle.std.specs.Prelude.{sum}
 use Rattle.capnp_frame.specs.Prelude.{declared_lengths, table_size}
-use Rattle.capnp_frame.proofs.tables.PartLemmas.{lies_between, reads_on}
+use Rattle.capnp_frame.proofs.tables.SegmentRangeLemmas.{lies_between, reads_on}
 use Rattle.capnp_frame.proofs.serialize.no_alloc_buffer_segments.later_start.Goals as goal
 
 pub overflow_cast-start : goal.overflow_cast-start

@@ -1,6 +1,6 @@
 -- The segment's own length comes last.
 use Rattle.std.proofs.Common.{◌+◌, ◌∙◌, sym, ap, arith}
-use Rattle.capnp_frame.proofs.tables.PartLemmas.{reads_on}
+use Rattle.capnp_frame.proofs.tables.SegmentRangeLemmas.{reads_on}
 use Rattle.capnp_frame.proofs.serialize.no_alloc_buffer_segments.place.Goals as goal
 
 pub overflow_add-result : goal.overflow_add-result

@@ -5,12 +5,12 @@ use Rattle.std.proofs.lemmas.Option.{slice_get-map, slice_get_past, slice_get_re
 use Rattle.std.specs.Option.{option_map}
 use Rattle.std.specs.Prelude.{sum}
 use Rattle.capnp_frame.specs.Prelude.{range_len, cut}
-use Rattle.capnp_frame.proofs.tables.Ranges.{Shows, shows}
+use Rattle.capnp_frame.proofs.tables.RunningSumLemmas.{ShowsPart, shows}
 use Rattle.capnp_frame.proofs.serialize.segment_lengths.length_at.Goals as goal
 use Rattle.capnp_frame.proofs.serialize.segment_lengths.length_at.Goals.{In_ok-start}
 
 -- as of segments of zeros
-zeros : (c : In_ok-start) → Shows (replicate (8 * sum (map range_len c.args.parts.now)) 0)
+zeros : (c : In_ok-start) → ShowsPart (replicate (8 * sum (map range_len c.args.parts.now)) 0)
     (cut (map range_len c.args.parts.now) (replicate (8 * sum (map range_len c.args.parts.now)) 0)) c.args.id c.in_ok-start.field-0.now
 zeros c =
     let size = 8 * sum (map range_len c.args.parts.now) in

@@ -1,11 +1,11 @@
 -- The range of this number is that of its part.
 use Rattle.std.proofs.Common.{rules, arith, refl, sym, map}
 use Rattle.capnp_frame.specs.Prelude.{range_len, cut}
-use Rattle.capnp_frame.proofs.tables.Ranges.{Shows, shows, shows_none}
+use Rattle.capnp_frame.proofs.tables.RunningSumLemmas.{ShowsPart, shows, shows_none}
 use Rattle.capnp_frame.proofs.serialize.segment_lengths.part.Goals as goal
 use Rattle.capnp_frame.proofs.serialize.segment_lengths.part.Goals.{In_ok-start}
 
-shown : (c : In_ok-start) → Shows c.args.bytes.now (cut (map range_len c.args.indices.now) c.args.bytes.now) c.args.id c.in_ok-start.field-0.now
+shown : (c : In_ok-start) → ShowsPart c.args.bytes.now (cut (map range_len c.args.indices.now) c.args.bytes.now) c.args.id c.in_ok-start.field-0.now
 shown c = shows c.args.indices.now c.args.bytes.now _ c.args.id _ c.requires.running c.requires.room refl (search rules) c.in_ok-start.ensures.lookup.1
 
 pub returns-in_err-start : goal.returns-in_err-start

@@ -2,9 +2,9 @@
 use Rattle.std.proofs.Common.{rules, ◌≡◌, ◌-◌, length, arith}
 use Rattle.std.proofs.lemmas.Result.{on_ok_weaker}
 use Rattle.capnp_frame.specs.Prelude.{Drops, IfKnown}
-use Rattle.capnp_frame.proofs.sources.AskLemmas.{passed_on, Asked-err, Asked-after}
-use Rattle.capnp_frame.proofs.sources.SourceLemmas.{Advances-join}
-use Rattle.capnp_frame.proofs.sources.SkippingLemmas.{Drops-join, read_dropped, short_after, fails_after}
+use Rattle.capnp_frame.proofs.sources.SourceCallLemmas.{passed_on, Asked-err, Asked-after}
+use Rattle.capnp_frame.proofs.sources.RequestSequenceLemmas.{Advances-join}
+use Rattle.capnp_frame.proofs.sources.SkippedByteLemmas.{Drops-join, read_dropped, short_after, skip_fails_after}
 use Rattle.capnp_frame.proofs.serialize.skipping.skip_parts.Goals as goal
 
 pub returns-in_err-read_exact : goal.returns-in_err-read_exact
@@ -35,7 +35,7 @@ returns g c = record {
       (λ (rest : IfKnown (g.R.Read.unread c.loop-left.source) (g.R.Read.unread c.skip_shown.new.source) (Drops c.loop-left.left)).
       Drops-join (c.args.count - c.loop-left.left) c.loop-left.left c.args.count _ _ _ (omega arith) c.loop-left.invariant.dropped rest)
       c.skip_shown.ensures.dropped;
-  errors = fails_after g.R.Read.refuses (c.args.count - c.loop-left.left) c.loop-left.left c.args.count _ _ c.skip_shown.result
+  errors = skip_fails_after g.R.Read.refuses (c.args.count - c.loop-left.left) c.loop-left.left c.args.count _ _ c.skip_shown.result
       g.met.R.BufRead.plain_errors (omega arith) c.loop-left.invariant.dropped c.skip_shown.ensures.errors;
   asked = Asked-after c.skip_shown.result (g.met.R.Read.keeps.transitive _ _ _) c.loop-left.invariant.advances c.skip_shown.ensures.asked;
 }

@@ -2,10 +2,10 @@
 use Rattle.std.proofs.Common.{rules, arith}
 use Rattle.std.proofs.lemmas.List.{take_all}
 use Rattle.std.proofs.lemmas.Result.{err_from_is_err_and}
-use Rattle.capnp_frame.proofs.sources.SourceLemmas.{Grows-join}
-use Rattle.capnp_frame.proofs.sinks.WritingLemmas.{written_next}
-use Rattle.capnp_frame.proofs.sinks.SinkLemmas.{failed_at}
-use Rattle.capnp_frame.proofs.sinks.GrantLemmas.{stays_granted, granted_next, never_at}
+use Rattle.capnp_frame.proofs.sources.RequestSequenceLemmas.{Grows-join}
+use Rattle.capnp_frame.proofs.sinks.TableChunkLemmas.{next_chunk_written}
+use Rattle.capnp_frame.proofs.sinks.SinkCallLemmas.{failed_at}
+use Rattle.capnp_frame.proofs.sinks.SinkGrantLemmas.{stays_granted, granted_next, never_at}
 use Rattle.capnp_frame.proofs.serialize.writing.write_each.Goals as goal
 
 pub returns-in_err-write_all-clause-writes : goal.returns-in_err-write_all-clause-writes
@@ -34,7 +34,7 @@ loop-segment-preserved g c =
     let within = c.in-Some.ensures.within in
     record {
       within = omega arith;
-      written = written_next g.W.Write.appends segments c.loop-segment.index c.in-Some.segment.now _ _ _ here c.loop-segment.invariant.written c.in_ok-write_all.ensures.added;
+      written = next_chunk_written g.W.Write.appends segments c.loop-segment.index c.in-Some.segment.now _ _ _ here c.loop-segment.invariant.written c.in_ok-write_all.ensures.added;
       grows = Grows-join _ _ _ (g.met.W.Write.keeps.transitive _ _ _) c.loop-segment.invariant.grows c.write_all.ensures.grows;
       granted = granted_next g.W.Write.grants _ _ _ segments c.loop-segment.index c.in-Some.segment.now here c.loop-segment.invariant.granted
           (λ more given. (c.in_ok-write_all.ensures.granted more given).1);

@@ -1,6 +1,6 @@
 -- The pointer sections of an object, with none where they keep no pointers.
 use Rattle.std.proofs.Common.{sym, arith}
-use Rattle.capnp_layout.proofs.pointers.PointerSlotLemmas.{kept_nothing, slots_nothing, kept_first}
+use Rattle.capnp_layout.proofs.pointers.PointersInOrderLemmas.{kept_nothing, slots_nothing, kept_slots_first}
 use Rattle.capnp_layout.proofs.pointer_slots.PointerSlots.new.Goals as goal
 
 pub returns-then-kept-eq0-clause-places : goal.returns-then-kept-eq0-clause-places
@@ -10,4 +10,4 @@ pub returns-then-kept-eq0-clause-slots : goal.returns-then-kept-eq0-clause-slots
 returns-then-kept-eq0-clause-slots c all = sym (slots_nothing _ _ _ c.args.kept c.args.count all c.then-kept-eq0.either)
 
 pub returns-clause-places : goal.returns-clause-places
-returns-clause-places c = kept_first _ _ _ c.args.size.pointers c.args.kept c.args.count c.requires.kept (omega arith)
+returns-clause-places c = kept_slots_first _ _ _ c.args.size.pointers c.args.kept c.args.count c.requires.kept (omega arith)

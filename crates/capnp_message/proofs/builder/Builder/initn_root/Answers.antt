@@ -1,7 +1,7 @@
 -- The call fails as making the object does, and leaves a null root.
 use Rattle.std.proofs.Common.{refl}
 use Rattle.std.proofs.lemmas.Result.{err_from_is_err_and}
-use Rattle.capnp_build.proofs.outcomes.InitLemmas.{init_error}
+use Rattle.capnp_build.proofs.outcomes.InitRootLemmas.{init_error}
 use Rattle.capnp_message.proofs.builder.Builder.initn_root.Goals as goal
 
 pub returns-in_err-init : goal.returns-in_err-init

@@ -2,12 +2,12 @@
 use Rattle.capnp_layout.specs.Prelude.{words_of}
 use Rattle.capnp_message.specs.Canonical.{ReturnsForm}
 use Rattle.capnp_message.specs.Seen.{root_of}
-use Rattle.capnp_message.proofs.CanonicalLemmas.{no_form, root_form}
+use Rattle.capnp_message.proofs.OneCanonicalFormLemmas.{no_root_no_form, root_form}
 use Rattle.capnp_message.proofs.reader.Reader.canonical_segment.Given as given
 use Rattle.capnp_message.proofs.reader.Reader.canonical_segment.Goals as goal
 
 errors : (g : given.Over) (c : goal.After-from_residual g) → ReturnsForm (root_of g.S.ReaderSegments.segments c.args.self.now) (λ bytes. words_of bytes.items) c.from_residual.result
-errors g c = no_form g.S.ReaderSegments.segments _ c.args.self.now _ c.from_residual.result c.self.view_is c.from_residual.ensures.1 c.in_err-root.ensures.returned
+errors g c = no_root_no_form g.S.ReaderSegments.segments _ c.args.self.now _ c.from_residual.result c.self.view_is c.from_residual.ensures.1 c.in_err-root.ensures.returned
 
 form : (g : given.Over) (c : goal.After-canonical_bytes g) → ReturnsForm (root_of g.S.ReaderSegments.segments c.args.self.now) (λ bytes. words_of bytes.items) c.canonical_bytes.result
 form g c =

@@ -1,10 +1,10 @@
 -- The canonical form of the root, or the reason why there is none.
-use Rattle.capnp_message.proofs.CanonicalLemmas.{no_form, root_form}
+use Rattle.capnp_message.proofs.OneCanonicalFormLemmas.{no_root_no_form, root_form}
 use Rattle.capnp_message.proofs.reader.Reader.canonicalize.Goals as goal
 
 pub returns-in_err-root : goal.returns-in_err-root
 returns-in_err-root g c =
-    no_form g.S.ReaderSegments.segments _ c.args.self.now _ c.from_residual.result c.self.view_is c.from_residual.ensures.1 c.in_err-root.ensures.returned
+    no_root_no_form g.S.ReaderSegments.segments _ c.args.self.now _ c.from_residual.result c.self.view_is c.from_residual.ensures.1 c.in_err-root.ensures.returned
 
 pub returns : goal.returns
 returns g c =

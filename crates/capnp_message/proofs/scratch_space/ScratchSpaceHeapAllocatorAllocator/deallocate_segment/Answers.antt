@@ -1,7 +1,7 @@
 -- What comes back as caller-provided is the region, which is made zero; all else goes to the heap.
 use Rattle.std.proofs.Common.{◌≡◌, ℕ, ◌*◌, ◌≤◌, List, ◌++◌, length, drop, refl, subst, ◌∙◌}
 use Rattle.capnp_build.specs.Prelude.{ZeroFrom}
-use Rattle.capnp_message.proofs.RegionLemmas.{all_zero, children, filled_length, comes_home_as, stays_out}
+use Rattle.capnp_message.proofs.RegionLemmas.{front_is_zero, children, filled_length, comes_home_as, stays_out}
 use Rattle.capnp_message.proofs.scratch_space.ScratchSpaceHeapAllocatorAllocator.deallocate_segment.Goals as goal
 
 pub invariant_of-self : goal.invariant_of-self
@@ -13,7 +13,7 @@ invariant_of-self c =
     let used : n ≤ length region.now = (rw c.in-Lent.is at c.requires.used) in
     let clean : ZeroFrom n region.now = (rw c.in-Lent.is at c.requires.zero) in
     let kept : length (c.fill.new.self ++ drop n region.now) ≡ c.args.self.now.size = filled_length n c.fill.new.self region.now c.fill.ensures.len used ∙ same.0 in
-    let zero = all_zero n _ c.fill.new.self region.now (c.fill.ensures.after (λ y h. h)) clean in
+    let zero = front_is_zero n _ c.fill.new.self region.now (c.fill.ensures.after (λ y h. h)) clean in
     record {
       whole = λ x is. subst (λ (l : List ℕ). length l ≡ c.args.self.now.size) (children _ x is) kept;
       few = c.args.self.now.few;
@@ -36,7 +36,7 @@ returns-in-Lent c =
             record {
               available = refl;
               whole = filled_length n c.fill.new.self region.now c.fill.ensures.len used ∙ same.0;
-              zero = all_zero n _ c.fill.new.self region.now (c.fill.ensures.after (λ y h. h)) clean;
+              zero = front_is_zero n _ c.fill.new.self region.now (c.fill.ensures.after (λ y h. h)) clean;
             },
             record { next = refl; strategy = refl; maximum = refl },
           );

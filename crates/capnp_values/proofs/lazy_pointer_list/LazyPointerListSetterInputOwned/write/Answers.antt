@@ -1,11 +1,11 @@
 -- The pointers, and then what they lead to.
 use Rattle.std.proofs.Common.{◌+◌, ◌-◌, ◌∙◌, ℕ, length, sym, ap, arith}
 use Rattle.capnp_layout.specs.Prelude.{words_of, list_pointer}
-use Rattle.capnp_wire.proofs.layouts.FreeLemmas.{free_later}
-use Rattle.capnp_layout.proofs.layouts.SizeLemmas.{length-body}
-use Rattle.capnp_wire.proofs.layouts.OpenLemmas.{room_output}
-use Rattle.capnp_values.proofs.lists.ItemLemmas.{items_settled}
-use Rattle.capnp_values.proofs.lists.PointerListLemmas.{values_total, values_rooms, values_begin, list_copied}
+use Rattle.capnp_wire.proofs.layouts.FreeBlockLemmas.{free_later}
+use Rattle.capnp_layout.proofs.layouts.LayoutSizeLemmas.{length-body}
+use Rattle.capnp_wire.proofs.layouts.CopyPlanLemmas.{room_output}
+use Rattle.capnp_values.proofs.lists.ItemMeasureLemmas.{items_settled}
+use Rattle.capnp_values.proofs.lists.PointerListLemmas.{values_total, values_rooms, values_begin, pointer_list_copied}
 use Rattle.capnp_values.proofs.lazy_pointer_list.LazyPointerListSetterInputOwned.write.Goals as goal
 
 pub write_items-requires-clause-room : goal.write_items-requires-clause-room
@@ -20,7 +20,7 @@ returns-clause-written g c trees is =
     let items = (g.S.ValueSource.items c.args.self.now.source) in
     let w = c.requires.value in
     let end = c.write_items.ensures.written.next_is w.tree_is.children w.tree_is.children_is in
-    list_copied c.args.canonical is.children trees (c.args.next - c.args.following) c.args.next (length items) c.write_items.result c.list_word.result (words_of c.args.block.now) (words_of c.write_items.new.block)
+    pointer_list_copied c.args.canonical is.children trees (c.args.next - c.args.following) c.args.next (length items) c.write_items.result c.list_word.result (words_of c.args.block.now) (words_of c.write_items.new.block)
     is.whole (sym (items_settled h items is.children is.children_is).many) (values_rooms h items trees is) (c.list_word.ensures ∙ ap (λ (k : ℕ). list_pointer (c.args.next - c.args.following) 6 k) c.len-count.ensures)
     (omega (arith, end, w.fits, values_total h items c.args.canonical w.trees w.tree_is))
     (c.write_items.ensures.written.words_are is.children is.children_is) (c.write_items.ensures.written.next_is is.children is.children_is)

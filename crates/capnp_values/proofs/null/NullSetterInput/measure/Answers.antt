@@ -1,7 +1,7 @@
 -- A null pointer leads to no words.
 use Rattle.std.proofs.Common.{Ok}
 use Rattle.capnp_wire.proofs.views.OneValueLemmas.{measured_found, measured_exactly}
-use Rattle.capnp_values.proofs.values.NullLemmas.{IsNull, null_has, one_null}
+use Rattle.capnp_values.proofs.values.NullValueLemmas.{IsNull, null_has, one_null}
 use Rattle.capnp_values.proofs.null.NullSetterInput.measure.Goals as goal
 
 pub returns : goal.returns

@@ -2,10 +2,10 @@
 use Rattle.std.proofs.Common.{◌≡◌, ◌+◌, ◌-◌, ◌*◌, ◌∙◌, ℕ, List, map, length, ap, sym, arith}
 use Rattle.std.proofs.lemmas.List.{length-map}
 use Rattle.capnp_layout.specs.Prelude.{width, words_for, list_pointer}
-use Rattle.capnp_layout.proofs.words.WordLemmas.{length-words_of}
-use Rattle.capnp_wire.proofs.layouts.FreeLemmas.{numbers_copied, as_output, body_long}
+use Rattle.capnp_layout.proofs.words.WordByteLemmas.{length-words_of}
+use Rattle.capnp_wire.proofs.layouts.FreeBlockLemmas.{numbers_copied, as_output, tree_body_long}
 use Rattle.capnp_values.specs.NumberLists.{IsNumberList}
-use Rattle.capnp_values.proofs.numbers.NumberListLemmas.{list_fits, list_room, numbers_put, part_long}
+use Rattle.capnp_values.proofs.numbers.NumberListLemmas.{list_fits, list_room, numbers_put, block_part_long}
 use Rattle.capnp_values.proofs.number_list.NumberListSetterInputOwned.write.Goals as goal
 
 pub overflow_cast-count : goal.overflow_cast-count
@@ -32,7 +32,7 @@ put_numbers-requires-clause-fit g c =
 pub put_numbers-requires-clause-room : goal.put_numbers-requires-clause-room
 put_numbers-requires-clause-room g c =
     let r = list_room g.N.PrimitiveElement.code g.N.PrimitiveElement.bits_of c.args.self.now.items.now c.args._canonical c.args.next _ c.requires.value in
-    omega (arith, c.words_of_list.ensures.words, part_long c.args.next c.words_of_list.result c.args.block.now (omega (arith, r.1, c.words_of_list.ensures.words)))
+    omega (arith, c.words_of_list.ensures.words, block_part_long c.args.next c.words_of_list.result c.args.block.now (omega (arith, r.1, c.words_of_list.ensures.words)))
 
 pub returns-clause-written : goal.returns-clause-written
 returns-clause-written g c trees is =
@@ -42,7 +42,7 @@ returns-clause-written g c trees is =
     let same : length c.args.self.now.items.now ≡ length (map g.N.PrimitiveElement.bits_of c.args.self.now.items.now) = sym (length-map c.args.self.now.items.now g.N.PrimitiveElement.bits_of) in
     let size : 8 * (c.args.next + c.words_of_list.result) - 8 * c.args.next ≡ 8 * words_for (length c.args.self.now.items.now) (width g.N.PrimitiveElement.code) = omega (arith, c.words_of_list.ensures.words) in
     let long : length c.put_numbers.new.block ≡ 8 * words_for (length c.args.self.now.items.now) (width g.N.PrimitiveElement.code) =
-    omega (arith, c.put_numbers.auto.block, c.words_of_list.ensures.words, part_long c.args.next c.words_of_list.result c.args.block.now (omega (arith, r.1, c.words_of_list.ensures.words))) in
+    omega (arith, c.put_numbers.auto.block, c.words_of_list.ensures.words, block_part_long c.args.next c.words_of_list.result c.args.block.now (omega (arith, r.1, c.words_of_list.ensures.words))) in
     as_output c.args._canonical code bits trees _ c.args.next _ _ _ is.1
     (numbers_copied code bits _ c.args.next _ _ _
     (numbers_put code (length c.args.self.now.items.now) c.args.next _ bits c.args.block.now c.put_numbers.new.block same c.put_numbers.ensures long size (omega (arith, r.1)))
@@ -51,4 +51,4 @@ returns-clause-written g c trees is =
 
 pub returns-clause-long : goal.returns-clause-long
 returns-clause-long g c trees is =
-    body_long (IsNumberList g.N.PrimitiveElement.code (map g.N.PrimitiveElement.bits_of c.args.self.now.items.now)) c.args._canonical c.args.next _ (λ a b p q. p.1 ∙ sym q.1) c.requires.value trees is
+    tree_body_long (IsNumberList g.N.PrimitiveElement.code (map g.N.PrimitiveElement.bits_of c.args.self.now.items.now)) c.args._canonical c.args.next _ (λ a b p q. p.1 ∙ sym q.1) c.requires.value trees is

@@ -1,8 +1,8 @@
 -- The words of what a pointer leads to are those of its tree, as it is or in canonical form.
 use Rattle.std.proofs.Common.{ℕ, Result, Ok}
 use Rattle.capnp_frame.specs.declared.error.Error.{Error}
-use Rattle.capnp_wire.specs.Prelude.{pointer_of, LeadsToTree, WalkErrorFrom}
-use Rattle.capnp_wire.proofs.views.SetterLemmas.{none_has_words, measured_value}
+use Rattle.capnp_wire.specs.Prelude.{pointer_of, PointsToTree, WalkErrorFrom}
+use Rattle.capnp_wire.proofs.views.TargetValueLemmas.{none_has_words, measured_value}
 use Rattle.capnp_wire.proofs.views.OneValueLemmas.{one_of_pointer, measured_found, measured_exactly}
 use Rattle.capnp_wire.proofs.any_pointer.ReaderSetterInputOwned.measure.Goals as goal
 
@@ -13,8 +13,8 @@ returns-in-None g c =
     let returned = none_has_words p c.args.canonical c.in-None.is in
     record {
       returned = returned;
-      found = measured_found (LeadsToTree p) (WalkErrorFrom p) (one_of_pointer p) c.args.canonical nothing returned;
-      exact = measured_exactly (LeadsToTree p) (WalkErrorFrom p) (one_of_pointer p) c.args.canonical nothing returned;
+      found = measured_found (PointsToTree p) (WalkErrorFrom p) (one_of_pointer p) c.args.canonical nothing returned;
+      exact = measured_exactly (PointsToTree p) (WalkErrorFrom p) (one_of_pointer p) c.args.canonical nothing returned;
     }
 
 pub returns-in-Some : goal.returns-in-Some
@@ -23,6 +23,6 @@ returns-in-Some g c =
     let returned = measured_value p c.in-Some.place c.args.canonical c.measure.result c.in-Some.is (rw c.limit_in_words.ensures at c.measure.ensures.returned) in
     record {
       returned = returned;
-      found = measured_found (LeadsToTree p) (WalkErrorFrom p) (one_of_pointer p) c.args.canonical c.measure.result returned;
-      exact = measured_exactly (LeadsToTree p) (WalkErrorFrom p) (one_of_pointer p) c.args.canonical c.measure.result returned;
+      found = measured_found (PointsToTree p) (WalkErrorFrom p) (one_of_pointer p) c.args.canonical c.measure.result returned;
+      exact = measured_exactly (PointsToTree p) (WalkErrorFrom p) (one_of_pointer p) c.args.canonical c.measure.result returned;
     }

@@ -2,9 +2,9 @@
 use Rattle.std.proofs.Common.{◌≢◌, ◌^◌, ◌<◌, MatchResult, None, sym, ◌∙◌, subst, refl, arith}
 use Rattle.capnp_layout.specs.Prelude.{words_of, message_of}
 use Rattle.capnp_wire.specs.Prelude.{struct_of, limit_of, Struct, HasWords, WordsError, IsTreeOf, WalkErrorInside}
-use Rattle.capnp_layout.proofs.objects.FieldLemmas.{length-words_from}
-use Rattle.capnp_wire.proofs.objects.PartLemmas.{whole, alone}
-use Rattle.capnp_layout.proofs.objects.PartLemmas.{one_word}
+use Rattle.capnp_layout.proofs.objects.StructFieldLemmas.{length-words_from}
+use Rattle.capnp_wire.proofs.objects.NumberStructLemmas.{whole, alone}
+use Rattle.capnp_layout.proofs.objects.NumberStructLemmas.{one_word}
 use Rattle.capnp_wire.proofs.views.OneValueLemmas.{one_of_struct, measured_found, measured_exactly}
 use Rattle.capnp_wire.proofs.any_struct.StructReaderSetterInputOwned.measure.Goals as goal
 

@@ -2,10 +2,10 @@
 use Rattle.std.proofs.Common.{◌≢◌, ◌^◌, ◌<◌, None, length, sym, ◌∙◌, subst, refl, arith}
 use Rattle.capnp_layout.specs.Prelude.{words_of, message_of}
 use Rattle.capnp_wire.specs.Prelude.{struct_of, limit_of, Struct, HasRoomAt, IsTreeOf}
-use Rattle.capnp_layout.proofs.objects.FieldLemmas.{length-words_from}
-use Rattle.capnp_wire.proofs.objects.PartLemmas.{whole, alone}
-use Rattle.capnp_layout.proofs.objects.PartLemmas.{one_word}
-use Rattle.capnp_wire.proofs.layouts.FreeLemmas.{body_long}
+use Rattle.capnp_layout.proofs.objects.StructFieldLemmas.{length-words_from}
+use Rattle.capnp_wire.proofs.objects.NumberStructLemmas.{whole, alone}
+use Rattle.capnp_layout.proofs.objects.NumberStructLemmas.{one_word}
+use Rattle.capnp_wire.proofs.layouts.FreeBlockLemmas.{tree_body_long}
 use Rattle.capnp_wire.proofs.views.OneValueLemmas.{one_of_struct}
 use Rattle.capnp_wire.proofs.any_struct.StructReaderSetterInputOwned.write.Goals as goal
 
@@ -43,9 +43,9 @@ returns-in-Some-clause-written g c trees is =
 pub returns-in-None-clause-long : goal.returns-in-None-clause-long
 returns-in-None-clause-long g c trees is =
     let fields = struct_of g.S.ReaderSegments.segments c.args.self.now in
-    body_long (IsTreeOf fields) c.args.canonical c.args.next _ (one_of_struct fields).same_tree c.requires.value trees is
+    tree_body_long (IsTreeOf fields) c.args.canonical c.args.next _ (one_of_struct fields).same_tree c.requires.value trees is
 
 pub returns-in-Some-clause-long : goal.returns-in-Some-clause-long
 returns-in-Some-clause-long g c trees is =
     let fields = struct_of g.S.ReaderSegments.segments c.args.self.now in
-    body_long (IsTreeOf fields) c.args.canonical c.args.next _ (one_of_struct fields).same_tree c.requires.value trees is
+    tree_body_long (IsTreeOf fields) c.args.canonical c.args.next _ (one_of_struct fields).same_tree c.requires.value trees is

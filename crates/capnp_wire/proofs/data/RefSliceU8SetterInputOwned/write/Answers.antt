@@ -1,8 +1,8 @@
 -- The bytes are one tree.
 use Rattle.std.proofs.Common.{sym, ◌∙◌}
 use Rattle.capnp_wire.specs.Prelude.{IsBytes}
-use Rattle.capnp_wire.proofs.layouts.FreeLemmas.{body_long}
+use Rattle.capnp_wire.proofs.layouts.FreeBlockLemmas.{tree_body_long}
 use Rattle.capnp_wire.proofs.data.RefSliceU8SetterInputOwned.write.Goals as goal
 
 pub returns-clause-long : goal.returns-clause-long
-returns-clause-long c trees is = body_long (IsBytes c.args.self.now.now) c.args._canonical c.args.next _ (λ a b x y. x.1 ∙ sym y.1) c.requires.value trees is
+returns-clause-long c trees is = tree_body_long (IsBytes c.args.self.now.now) c.args._canonical c.args.next _ (λ a b x y. x.1 ∙ sym y.1) c.requires.value trees is

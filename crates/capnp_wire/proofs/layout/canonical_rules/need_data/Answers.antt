@@ -1,7 +1,7 @@
 -- An element needs its data where the last word of it is not zero.
 use Rattle.std.proofs.Common.{◌+◌, ◌-◌, arith}
 use Rattle.capnp_layout.specs.Prelude.{words_of}
-use Rattle.capnp_layout.proofs.words.WordLemmas.{length-words_of}
+use Rattle.capnp_layout.proofs.words.WordByteLemmas.{length-words_of}
 use Rattle.capnp_wire.proofs.forms.TruncatedLemmas.{element_room, need_data}
 use Rattle.capnp_wire.proofs.layout.canonical_rules.need_data.Goals as goal
 

@@ -1,6 +1,6 @@
 -- A struct's own words are put into a block, and where its pointers are null these, too.
 use Rattle.std.proofs.Common.{arith}
-use Rattle.capnp_wire.proofs.layouts.CopiedLemmas.{opened_here, struct_begins}
+use Rattle.capnp_wire.proofs.layouts.CopiedTargetLemmas.{opened_here, struct_begins}
 use Rattle.capnp_wire.proofs.pointers.NullRunLemmas.{struct_of_nulls}
 use Rattle.capnp_wire.proofs.layout.pending.begin_struct.Goals as goal
 

@@ -2,7 +2,7 @@
 use Rattle.std.proofs.Common.{ℕ, ap, arith}
 use Rattle.capnp_layout.specs.Prelude.{words_of, width, words_for}
 use Rattle.capnp_wire.specs.Prelude.{numbers_of, IsNumbersTree}
-use Rattle.capnp_wire.proofs.layouts.FreeLemmas.{body_long, numbers_total}
+use Rattle.capnp_wire.proofs.layouts.FreeBlockLemmas.{tree_body_long, numbers_total}
 use Rattle.capnp_wire.proofs.views.NumberValueLemmas.{one_of_numbers, numbers_long}
 use Rattle.capnp_wire.proofs.primitive_list.ReaderSetterInputOwned.write.Goals as goal
 
@@ -24,4 +24,4 @@ pub returns-clause-long : goal.returns-clause-long
 returns-clause-long g c trees is =
     let code : ℕ = g.T.PrimitiveElement.code in
     let values = numbers_of code c.args.self.now in
-    body_long (IsNumbersTree code values) c.args._canonical c.args.next _ (one_of_numbers code values).same_tree c.requires.value trees is
+    tree_body_long (IsNumbersTree code values) c.args._canonical c.args.next _ (one_of_numbers code values).same_tree c.requires.value trees is

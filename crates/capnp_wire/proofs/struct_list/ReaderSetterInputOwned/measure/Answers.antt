@@ -1,12 +1,12 @@
 -- The words of a list of structs that is read, with all below it, are those of its tree.
-use Rattle.capnp_wire.specs.Prelude.{struct_list_of, IsListTree, WalkErrorInList, pointers_in, structs_of}
+use Rattle.capnp_wire.specs.Prelude.{struct_list_of, IsListTree, WalkErrorInList, pointers_in, structs_form}
 use Rattle.capnp_wire.proofs.views.OneValueLemmas.{measured_found, measured_exactly}
 use Rattle.capnp_wire.proofs.views.ListValueLemmas.{one_of_list}
 use Rattle.capnp_wire.proofs.struct_list.ReaderSetterInputOwned.measure.Goals as goal
 
 pub returns : goal.returns
 returns g c =
-    let form = structs_of g.S.ReaderSegments.segments c.args.self.now in
+    let form = structs_form g.S.ReaderSegments.segments c.args.self.now in
     let list = pointers_in (struct_list_of g.S.ReaderSegments.segments c.args.self.now) in
     let returned = rw c.limit_in_words.ensures at c.measure.ensures in
     record {

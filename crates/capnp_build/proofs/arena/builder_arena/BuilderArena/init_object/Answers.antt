@@ -2,7 +2,7 @@
 use Rattle.std.proofs.Common.{Option, subst}
 use Rattle.capnp_build.specs.Prelude.{new_form, zero_form}
 use Rattle.capnp_build.specs.declared.object.NewBody.{NewBody}
-use Rattle.capnp_build.proofs.outcomes.InitLemmas.{inits_root, inits_null}
+use Rattle.capnp_build.proofs.outcomes.InitRootLemmas.{inits_root, inits_null}
 use Rattle.capnp_build.proofs.arena.builder_arena.BuilderArena.init_object.Goals as goal
 
 pub returns-in-None : goal.returns-in-None

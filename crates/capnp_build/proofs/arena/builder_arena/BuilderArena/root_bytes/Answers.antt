@@ -4,9 +4,9 @@ use Rattle.std.specs.Option.{option_copied}
 use Rattle.capnp_layout.specs.Prelude.{Form, null, Root}
 use Rattle.capnp_build.specs.Prelude.{Space, space_at, Built, message, HasNullRoot, IsBuilt, HoldsForm, HoldsTree}
 use Rattle.capnp_build.specs.declared.arena.location.RootLocation.{RootLocation}
-use Rattle.capnp_build.proofs.states.SpaceLemmas.{got_used}
-use Rattle.capnp_build.proofs.roots.NullLemmas.{null_only}
-use Rattle.capnp_build.proofs.roots.RootBytesLemmas.{no_bytes, its_bytes, holds_there}
+use Rattle.capnp_build.proofs.states.ChangedSegmentLemmas.{got_used}
+use Rattle.capnp_build.proofs.roots.NullRootLemmas.{null_only}
+use Rattle.capnp_build.proofs.roots.RootBytesLemmas.{no_location_no_bytes, its_bytes, root_holds_there}
 use Rattle.capnp_build.proofs.arena.builder_arena.BuilderArena.root_bytes.Goals as goal
 
 pub returns-in_default-clause-form : goal.returns-in_default-clause-form
@@ -20,7 +20,7 @@ pub returns-in_default-clause-tree : goal.returns-in_default-clause-tree
 returns-in_default-clause-tree g c =
     let spaces : List Space = c.self.inside.segments.spaces in
     subst (λ (v : Built g.row.A.Denot). HoldsTree v.spaces []) c.self.view_is
-    (no_bytes spaces (subst (λ (o : Option RootLocation). IsBuilt spaces o) c.in_default.is c.self.invariant))
+    (no_location_no_bytes spaces (subst (λ (o : Option RootLocation). IsBuilt spaces o) c.in_default.is c.self.invariant))
 
 pub returns-clause-form : goal.returns-clause-form
 returns-clause-form g c = λ form children traversed there.
@@ -32,7 +32,7 @@ returns-clause-form g c = λ form children traversed there.
     let low : (j : ℕ) → slice_index_or (space_at spaces location.segment).used j 0 < 256 = subst (λ (l : List ℕ). (j : ℕ) → slice_index_or l j 0 < 256) same c.each_is_a_byte.ensures in
     let bytes = c.subslice.ensures ∙ ap (λ (l : List ℕ). take (8 * location.words) (drop (8 * location.start) l)) same in
     subst (λ (l : List ℕ). HoldsForm l form) (sym bytes)
-    (holds_there spaces location p low form children traversed (subst (λ (v : Built g.row.A.Denot). Root (message v.spaces) form children traversed) (sym c.self.view_is) there))
+    (root_holds_there spaces location p low form children traversed (subst (λ (v : Built g.row.A.Denot). Root (message v.spaces) form children traversed) (sym c.self.view_is) there))
 
 pub returns-clause-tree : goal.returns-clause-tree
 returns-clause-tree g c =

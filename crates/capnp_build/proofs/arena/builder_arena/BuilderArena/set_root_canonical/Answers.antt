@@ -2,11 +2,11 @@
 use Rattle.std.proofs.Common.{rules, length, ap, arith, refl}
 use Rattle.std.proofs.lemmas.Result.{err_from_is_err_and}
 use Rattle.capnp_build.specs.Prelude.{space_at, free_words_of, Built}
-use Rattle.capnp_build.proofs.outcomes.OutcomeLemmas.{cleared_root, still_granted}
-use Rattle.capnp_build.proofs.outcomes.CanonicalLemmas.{canonical_unmeasured, canonical_full, none_error}
-use Rattle.capnp_build.proofs.outcomes.FirstLemmas.{first_put}
-use Rattle.capnp_build.proofs.states.KeptLemmas.{zero_stays, outside_stays}
-use Rattle.capnp_build.proofs.layouts.PlaceLemmas.{placed_local}
+use Rattle.capnp_build.proofs.outcomes.RootOutcomeLemmas.{cleared_root, still_granted}
+use Rattle.capnp_build.proofs.outcomes.CanonicalRootLemmas.{canonical_unmeasured, canonical_full, set_meets_no_error}
+use Rattle.capnp_build.proofs.outcomes.FirstActionLemmas.{first_put}
+use Rattle.capnp_build.proofs.states.StayingBytesLemmas.{zero_stays, outside_stays}
+use Rattle.capnp_build.proofs.layouts.BlockPlaceLemmas.{placed_local}
 use Rattle.capnp_build.proofs.arena.builder_arena.BuilderArena.set_root_canonical.Goals as goal
 
 pub returns : goal.returns
@@ -32,7 +32,7 @@ returns g c =
       whole = λ none. c.put_local.ensures.whole (clear.new_object none).0 (clear.new_object none).1;
       nulled = tt;
       kind = tt;
-      exact = λ kind errors. absurd (none_error g.A.Allocator _ _ _ c.clear_root.new.self c.in_ok-words.words kind clear (omega (arith, alone, c.if-len-gt1.false, c.len.ensures)) (search rules)
+      exact = λ kind errors. absurd (set_meets_no_error g.A.Allocator _ _ _ c.clear_root.new.self c.in_ok-words.words kind clear (omega (arith, alone, c.if-len-gt1.false, c.len.ensures)) (search rules)
           (λ k words_error. c.in_ok-words.ensures.exact k words_error) (λ other has. let same = c.in_ok-words.ensures.found other has in cc) errors);
       words_error = λ none kind words_error. absurd (c.in_ok-words.ensures.exact kind words_error);
       fits = λ few words has room. refl;

@@ -3,9 +3,9 @@ use Rattle.std.proofs.Common.{◌≡◌, ◌+◌, ◌*◌, List, length, Option,
 use Rattle.capnp_build.specs.Prelude.{Space, BuilderState, Built, HasNullRoot, IsBuilt, IsWritten, HasField, IsFieldSet}
 use Rattle.capnp_layout.specs.Prelude.{null, struct}
 use Rattle.capnp_build.specs.declared.arena.location.RootLocation.{RootLocation}
-use Rattle.capnp_build.proofs.writes.FieldLemmas.{field_laid}
-use Rattle.capnp_build.proofs.roots.NullLemmas.{null_only}
-use Rattle.capnp_build.proofs.writes.WriteLemmas.{written_at, field_known, field_inside, field_room, field_set, no_struct}
+use Rattle.capnp_build.proofs.writes.RootFieldLemmas.{field_laid}
+use Rattle.capnp_build.proofs.roots.NullRootLemmas.{null_only}
+use Rattle.capnp_build.proofs.writes.RootObjectWriteLemmas.{written_at, field_known, field_inside, field_room, root_field_set, no_struct}
 use Rattle.capnp_build.proofs.arena.builder_arena.BuilderArena.set_word.Goals as goal
 
 pub write_at-requires-clause-room : goal.write_at-requires-clause-room
@@ -34,7 +34,7 @@ returns-in-Some g c =
     let location : RootLocation = c.in-Some.location in
     let new : Built g.row.A.Denot = record { spaces = c.write_at.new.self.spaces; location = c.self.inside.location; allocator = c.write_at.new.self.allocator } in
     let e = ap (λ (h : BuilderState g.row.A.Denot). h.spaces) c.write_at.ensures in
-    let a = field_set spaces c.write_at.new.self.spaces c.in-Some.location c.args.index c.args.word c.to_le_bytes.result f p c.ranges.word.fits c.to_le_bytes.ensures (ap length c.to_le_bytes.ensures) e in
+    let a = root_field_set spaces c.write_at.new.self.spaces c.in-Some.location c.args.index c.args.word c.to_le_bytes.result f p c.ranges.word.fits c.to_le_bytes.ensures (ap length c.to_le_bytes.ensures) e in
     record {
       set = subst (λ (v : Built g.row.A.Denot). IsFieldSet v.spaces c.write_at.new.self.spaces c.args.index c.args.word) c.self.view_is a;
       written = subst (λ (v : Built g.row.A.Denot). IsWritten v new) c.self.view_is

@@ -4,9 +4,9 @@ use Rattle.std.specs.Option.{option_copied}
 use Rattle.capnp_layout.specs.Prelude.{numbers, none}
 use Rattle.capnp_build.specs.Prelude.{Space, BuilderState, Built, HasNullRoot, IsBuilt, IsWritten, HasBytes, IsBytesSet}
 use Rattle.capnp_build.specs.declared.arena.location.RootLocation.{RootLocation}
-use Rattle.capnp_build.proofs.states.SpaceLemmas.{got_low, got_none}
-use Rattle.capnp_build.proofs.roots.NullLemmas.{null_only}
-use Rattle.capnp_build.proofs.writes.WriteLemmas.{written_at, bytes_inside, bytes_room, bytes_rewritten, bytes_set, no_bytes}
+use Rattle.capnp_build.proofs.states.ChangedSegmentLemmas.{got_low, got_none}
+use Rattle.capnp_build.proofs.roots.NullRootLemmas.{null_only}
+use Rattle.capnp_build.proofs.writes.RootObjectWriteLemmas.{written_at, bytes_inside, bytes_room, bytes_rewritten, bytes_set, numbers_not_null}
 use Rattle.capnp_build.proofs.arena.builder_arena.BuilderArena.write_bytes.Goals as goal
 
 pub returns-in_default : goal.returns-in_default
@@ -14,7 +14,7 @@ returns-in_default g c =
     let spaces : List Space = c.self.inside.segments.spaces in
     let f = subst (λ (v : Built g.row.A.Denot). HasBytes v.spaces c.args.index (length c.args.bytes.now)) (sym c.self.view_is) c.requires in
     let r : HasNullRoot spaces = subst (λ (o : Option RootLocation). IsBuilt spaces o) c.in_default.is c.self.invariant in
-    absurd (no_bytes f.values (null_only spaces (numbers 2 f.values) none f.traversed r f.is_at))
+    absurd (numbers_not_null f.values (null_only spaces (numbers 2 f.values) none f.traversed r f.is_at))
 
 pub returns-in_default-get : goal.returns-in_default-get
 returns-in_default-get g c =

@@ -1,6 +1,6 @@
 -- The message at the front is the one in the buffer.
 use Rattle.std.proofs.Common.{refl, ap}
-use Rattle.capnp_frame.proofs.slices.BufferLemmas.{moved}
+use Rattle.capnp_frame.proofs.slices.FrontFrameLemmas.{moved_past_table}
 use Rattle.capnp_frame.proofs.slices.FlatReaderLemmas.{reads_none, reads_found}
 use Rattle.capnp_frame.proofs.serialize.no_alloc_buffer_segments.NoAllocBufferSegments+ref+slice+u8.from_slice_with_rules.Goals as goal
 
@@ -12,4 +12,4 @@ returns c =
     let reported = c.in_ok-info.ensures in
     let info = c.in_ok-info.info in
     reads_found _ _ _ _ _ info.segments_count reported.holds (ap (λ message. message.segments) c.of_message.ensures) reported.within reported.padding
-    (moved c.args.slice.now.now info.segments_count info.segment_table_length_bytes info.total_segments_length_bytes reported.table reported.total)
+    (moved_past_table c.args.slice.now.now info.segments_count info.segment_table_length_bytes info.total_segments_length_bytes reported.table reported.total)

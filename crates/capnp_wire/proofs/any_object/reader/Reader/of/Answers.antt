@@ -2,8 +2,8 @@
 use Rattle.std.proofs.Common.{◌≡◌, ℕ, List, refl, sym, subst}
 use Rattle.capnp_layout.specs.Prelude.{words_of, code_of, numbers, structs, elements}
 use Rattle.capnp_wire.specs.Prelude.{Accepts, pointer_of, StructList, IsStructList, structs_in}
-use Rattle.capnp_wire.proofs.views.FormLemmas.{struct_shows, entered_shows, entered_reads, numbers_form}
-use Rattle.capnp_wire.proofs.views.ListViewLemmas.{structs_entered, pointers_show, pointers_within, few_structs, few_pointers}
+use Rattle.capnp_wire.proofs.views.ShownFormLemmas.{struct_shows, entered_shows, entered_reads, numbers_form}
+use Rattle.capnp_wire.proofs.views.ListViewLemmas.{structs_entered, pointers_show, list_pointers_within, few_structs, few_pointers}
 use Rattle.capnp_wire.proofs.views.ObjectViewLemmas.{entered_kind, entered_form}
 use Rattle.capnp_wire.proofs.any_object.reader.Reader.of.Goals as goal
 
@@ -66,6 +66,6 @@ pub invariant_of-result-in-Pointers : goal.invariant_of-result-in-Pointers
 invariant_of-result-in-Pointers g c =
     let p = pointer_of g.S.ReaderSegments.segments c.args.reader.now in
     record {
-      bound = pointers_within p c.args.object.now c.in-Pointers.count c.requires c.in-Pointers.is c.words_fit.ensures.length;
+      bound = list_pointers_within p c.args.object.now c.in-Pointers.count c.requires c.in-Pointers.is c.words_fit.ensures.length;
       few = few_pointers p c.args.object.now c.in-Pointers.count c.requires c.in-Pointers.is;
     }

@@ -2,7 +2,7 @@
 use Rattle.std.proofs.Common.{Some, None, refl, sym, ◌∙◌}
 use Rattle.std.proofs.lemmas.Result.{err_from_is_err_and}
 use Rattle.capnp_wire.specs.Prelude.{pointer_of}
-use Rattle.capnp_wire.proofs.walks.MeasureLemmas.{walked_as, measures_nothing, walk_measures, walk_overflows, walk_fails}
+use Rattle.capnp_wire.proofs.walks.MeasuringWalkLemmas.{walked_as, measures_nothing, walk_measures, walk_overflows, measuring_walk_fails}
 use Rattle.capnp_wire.proofs.any_pointer.reader.Reader.measure.Goals as goal
 
 pub returns-in_default-clause-returned : goal.returns-in_default-clause-returned
@@ -13,7 +13,7 @@ returns-in_err-walk-clause-returned g c =
     let p = err_from_is_err_and c.from_residual.result c.from_residual.ensures.1 in
     let pointer = pointer_of g.S.ReaderSegments.segments c.args.self.now in
     let walk_error = rw (c.new-walk.ensures.left ∙ c.limit_in_words.ensures) at c.in_err-walk.ensures.errors in
-    rw (p.1, p.2) (walk_fails pointer c.in-Some.place _ c.in-Some.is walk_error)
+    rw (p.1, p.2) (measuring_walk_fails pointer c.in-Some.place _ c.in-Some.is walk_error)
 
 pub returns-in-Some-words-clause-returned : goal.returns-in-Some-words-clause-returned
 returns-in-Some-words-clause-returned g c =

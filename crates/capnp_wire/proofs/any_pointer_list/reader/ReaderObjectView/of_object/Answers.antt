@@ -1,8 +1,8 @@
 -- The pointers of a list are those of the object, with one less of nesting depth left.
 use Rattle.std.proofs.Common.{inr, refl}
 use Rattle.capnp_wire.specs.Prelude.{pointer_of, PointersFormError}
-use Rattle.capnp_wire.proofs.views.FormLemmas.{entered_shows}
-use Rattle.capnp_wire.proofs.views.ListViewLemmas.{other_than_pointers, pointers_show, pointers_within, few_pointers}
+use Rattle.capnp_wire.proofs.views.ShownFormLemmas.{entered_shows}
+use Rattle.capnp_wire.proofs.views.ListViewLemmas.{other_than_pointers, pointers_show, list_pointers_within, few_pointers}
 use Rattle.capnp_wire.proofs.any_pointer_list.reader.ReaderObjectView.of_object.Goals as goal
 
 pub returns-in_default : goal.returns-in_default
@@ -27,6 +27,6 @@ invariant_of-result g c =
     let p = pointer_of g.S.ReaderSegments.segments c.args.reader.now in
     let count = c.in-Some.count in
     record {
-      bound = pointers_within p c.args.object.now count c.requires c.in-Some.ensures c.words_fit.ensures.length;
+      bound = list_pointers_within p c.args.object.now count c.requires c.in-Some.ensures c.words_fit.ensures.length;
       few = few_pointers p c.args.object.now count c.requires c.in-Some.ensures;
     }

@@ -2,7 +2,7 @@
 use Rattle.std.proofs.Common.{◌+◌, refl, sym, subst}
 use Rattle.capnp_layout.specs.Prelude.{words_of, message_of}
 use Rattle.capnp_wire.specs.Prelude.{Pointer, HasSegment}
-use Rattle.capnp_wire.proofs.pointers.OwnSegmentLemmas.{pointers_within}
+use Rattle.capnp_wire.proofs.pointers.OwnSegmentLemmas.{struct_pointers_within}
 use Rattle.capnp_wire.proofs.any_struct.reader.StructReader.get_pointer_as.Goals as goal
 
 pub get_from_segment-requires : goal.get_from_segment-requires
@@ -12,5 +12,5 @@ get_from_segment-requires g c κs =
     let m = message_of (g.S.ReaderSegments.segments self.segments.now) in (
       (refl, tt),
       subst (λ (p : Pointer). HasSegment p words) (sym c.get_pointer.ensures)
-          (pointers_within m words self.start.segment (self.start.word + self.size.data_words) self.size.pointers c.args.index self.content),
+          (struct_pointers_within m words self.start.segment (self.start.word + self.size.data_words) self.size.pointers c.args.index self.content),
     )

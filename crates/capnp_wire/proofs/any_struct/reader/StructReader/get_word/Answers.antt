@@ -2,8 +2,8 @@
 use Rattle.std.proofs.Common.{sym, ◌∙◌, ap}
 use Rattle.capnp_layout.specs.Prelude.{words_of, words_from}
 use Rattle.capnp_wire.specs.Prelude.{own_part}
-use Rattle.capnp_layout.proofs.objects.FieldLemmas.{word_within, no_word_within}
-use Rattle.capnp_wire.proofs.objects.PartLemmas.{own_part_zero, own_data_at}
+use Rattle.capnp_layout.proofs.objects.StructFieldLemmas.{word_within, no_word_within}
+use Rattle.capnp_wire.proofs.objects.NumberStructLemmas.{own_part_zero, own_data_at}
 use Rattle.capnp_wire.proofs.any_struct.reader.StructReader.get_word.Goals as goal
 
 pub returns-in-Some : goal.returns-in-Some

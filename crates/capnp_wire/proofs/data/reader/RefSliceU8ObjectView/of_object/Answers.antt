@@ -1,6 +1,6 @@
 -- The bytes of a list of bytes in the pointer's segment are those of the pointer.
 use Rattle.capnp_wire.specs.Prelude.{IsData, NumbersFormError, pointer_of}
-use Rattle.capnp_wire.proofs.views.FormLemmas.{entered_view}
+use Rattle.capnp_wire.proofs.views.ShownFormLemmas.{entered_view}
 use Rattle.capnp_wire.proofs.data.reader.RefSliceU8ObjectView.of_object.Goals as goal
 
 pub returns : goal.returns

@@ -1,10 +1,10 @@
 -- A walk tests an object, and then what its pointers lead to.
 use Rattle.std.proofs.Common.{◌≤◌, ◌-◌, ◌∙◌, length, arith}
 use Rattle.capnp_layout.specs.Prelude.{words_of, places_in}
-use Rattle.capnp_layout.proofs.words.WordLemmas.{length-words_of}
-use Rattle.capnp_layout.proofs.objects.ElementLemmas.{all_words_below}
-use Rattle.capnp_frame.proofs.sources.AskLemmas.{passed_on}
-use Rattle.capnp_wire.proofs.walks.GoingLemmas.{null_passes, going_begins, going_next, going_ends, going_done, met_passes, pointers_pass, pointers_end, pointers_error}
+use Rattle.capnp_layout.proofs.words.WordByteLemmas.{length-words_of}
+use Rattle.capnp_layout.proofs.objects.ListWordLemmas.{all_words_below}
+use Rattle.capnp_frame.proofs.sources.SourceCallLemmas.{passed_on}
+use Rattle.capnp_wire.proofs.walks.TestProgressLemmas.{null_passes, passing_begins, going_next, going_ends, passing_done, met_passes, pointers_pass, pointers_end, pointers_error}
 use Rattle.capnp_wire.proofs.layout.canonical.CanonicalWalk.+testing.Goals as goal
 
 pub test-returns-in_err-visit-clause-errors : goal.test-returns-in_err-visit-clause-errors
@@ -24,8 +24,8 @@ test-returns-then-is_empty-clause-passed g t c same =
     let met = rw c.in-Pointers.is at c.in_ok-visit.ensures.found in
     met_passes {left_after = c.visit.new.self.walk.left} {after = c.visit.new.self.next} (all_words_below c.args.segment.now (λ i. omega (arith, c.type_inv.segment i))) c.requires.before
     (omega (arith, c.requires.within, length-words_of c.args.segment.now)) met
-    (going_done (c.is_empty.ensures.0 c.if-is_empty.true)
-    (going_begins (words_of c.args.segment.now) (places_in c.in-Pointers.pointers) (c.args.nesting - 1) c.visit.new.self.walk.left c.visit.new.self.next met.room))
+    (passing_done (c.is_empty.ensures.0 c.if-is_empty.true)
+    (passing_begins (words_of c.args.segment.now) (places_in c.in-Pointers.pointers) (c.args.nesting - 1) c.visit.new.self.walk.left c.visit.new.self.next met.room))
 
 pub test-returns-else-is_empty-clause-passed : goal.test-returns-else-is_empty-clause-passed
 test-returns-else-is_empty-clause-passed g t c =
@@ -43,7 +43,7 @@ test-returns-else-is_empty-clause-errors g t c =
 pub test_pointers-pointers-init : goal.test_pointers-pointers-init
 test_pointers-pointers-init g t c =
     let room : c.args.self.now.next ≤ length (words_of c.args.segment.now) = omega (arith, c.requires.within, length-words_of c.args.segment.now) in
-    (going_begins _ _ c.args.nesting c.args.self.now.walk.left c.args.self.now.next room, c.requires.first, c.requires.before)
+    (passing_begins _ _ c.args.nesting c.args.self.now.walk.left c.args.self.now.next room, c.requires.first, c.requires.before)
 
 pub test_pointers-test-requires : goal.test_pointers-test-requires
 test_pointers-test-requires g t c κs lives =

@@ -1,8 +1,8 @@
 -- What a walk meets at a pointer that is no far pointer.
 use Rattle.std.proofs.Common.{◌≡◌, ◌<◌, List, [], ◌∷◌, Some, ℕ, refl, sym, subst}
 use Rattle.capnp_layout.specs.Prelude.{words_of, IsObject, word_at}
-use Rattle.capnp_frame.proofs.sources.AskLemmas.{passed_on}
-use Rattle.capnp_wire.proofs.walks.MetLemmas.{error_ends}
+use Rattle.capnp_frame.proofs.sources.SourceCallLemmas.{passed_on}
+use Rattle.capnp_wire.proofs.walks.MetObjectLemmas.{pointer_error_ends}
 use Rattle.capnp_wire.proofs.layout.canonical.CanonicalWalk.visit_object.Given as given
 use Rattle.capnp_wire.proofs.layout.canonical.CanonicalWalk.visit_object.Goals as goal
 use Rattle.capnp_wire.proofs.layout.canonical.CanonicalWalk.visit_object.Goals.{In-Some}
@@ -10,7 +10,7 @@ use Rattle.capnp_wire.proofs.layout.canonical.CanonicalWalk.visit_object.Goals.{
 pub returns-in_err-object-clause-errors : goal.returns-in_err-object-clause-errors
 returns-in_err-object-clause-errors g c =
     let there = subst (λ (x : List (List ℕ)). word_at x (record { segment = 0; word = c.args.word }) ≡ Some c.args.pointer) (sym c.requires.one) c.requires.there in
-    passed_on _ _ c.from_residual.ensures.1 (error_ends _ _ c.args.word c.args.nesting c.args.self.now.next c.args.pointer c.args.self.now.walk.left _ c.requires.one
+    passed_on _ _ c.from_residual.ensures.1 (pointer_error_ends _ _ c.args.word c.args.nesting c.args.self.now.next c.args.pointer c.args.self.now.walk.left _ c.requires.one
     there c.requires.not_far c.in_err-object.ensures.errors)
 
 pub returns-in_default-clause-found : goal.returns-in_default-clause-found

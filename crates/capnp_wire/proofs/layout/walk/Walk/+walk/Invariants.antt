@@ -2,7 +2,7 @@
 use Rattle.std.proofs.Common.{◌+◌, ◌-◌, ◌*◌, length}
 use Rattle.capnp_layout.specs.Prelude.{words_of, message_of, places_in}
 use Rattle.capnp_wire.specs.Prelude.{counted}
-use Rattle.capnp_wire.proofs.walks.ProgressLemmas.{Going}
+use Rattle.capnp_wire.proofs.walks.WalkProgressLemmas.{Going}
 use Rattle.capnp_wire.proofs.layout.walk.Walk.+walk.Given as goal
 
 abbrev pub decreases-walk_object : goal.decreases-walk_object

@@ -2,12 +2,12 @@
 -- null, nothing is below it.
 use Rattle.std.proofs.Common.{◌+◌, ◌∙◌, refl, arith}
 use Rattle.capnp_layout.specs.Prelude.{words_of}
-use Rattle.capnp_layout.proofs.words.WordLemmas.{length-words_of}
-use Rattle.capnp_wire.proofs.pointers.LocalLemmas.{struct_enters}
+use Rattle.capnp_layout.proofs.words.WordByteLemmas.{length-words_of}
+use Rattle.capnp_wire.proofs.pointers.LocalObjectLemmas.{struct_enters}
 use Rattle.capnp_wire.proofs.pointers.NullRunLemmas.{nulls_walked}
-use Rattle.capnp_frame.proofs.sources.AskLemmas.{passed_on}
+use Rattle.capnp_frame.proofs.sources.SourceCallLemmas.{passed_on}
 use Rattle.capnp_wire.proofs.walks.WalkErrorLemmas.{past_limit_error}
-use Rattle.capnp_wire.proofs.walks.ProgressLemmas.{entered, walk_over}
+use Rattle.capnp_wire.proofs.walks.WalkProgressLemmas.{entered, walk_over}
 use Rattle.capnp_wire.proofs.layout.walk.Walk.visit_struct.Goals as goal
 
 pub returns-in_err-count_traversed-clause-errors : goal.returns-in_err-count_traversed-clause-errors

@@ -2,7 +2,7 @@
 use Rattle.capnp_wire.specs.Prelude.{NumbersFormError, TakesNumbers, pointer_of, numbers_of}
 use Rattle.std.proofs.Common.{refl}
 use Rattle.capnp_wire.proofs.pointers.OwnSegmentLemmas.{known_segment}
-use Rattle.capnp_wire.proofs.views.ViewLemmas.{is_view_of, numbers_decide}
+use Rattle.capnp_wire.proofs.views.ViewErrorLemmas.{is_view_of, numbers_decide}
 use Rattle.capnp_wire.proofs.views.ListViewLemmas.{numbers_accepted}
 use Rattle.capnp_wire.proofs.primitive_list.reader.ReaderFromPointerInSegment.get_from_segment.Goals as goal
 

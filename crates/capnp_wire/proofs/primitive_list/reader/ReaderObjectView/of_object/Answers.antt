@@ -1,6 +1,6 @@
 -- The numbers of a list are those of the pointer.
 use Rattle.capnp_wire.specs.Prelude.{NumbersFormError, numbers_of, IsNumbers, pointer_of}
-use Rattle.capnp_wire.proofs.views.FormLemmas.{entered_view}
+use Rattle.capnp_wire.proofs.views.ShownFormLemmas.{entered_view}
 use Rattle.capnp_wire.proofs.primitive_list.reader.ReaderObjectView.of_object.Goals as goal
 
 pub returns : goal.returns

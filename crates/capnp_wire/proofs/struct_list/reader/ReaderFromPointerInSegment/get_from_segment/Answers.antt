@@ -2,7 +2,7 @@
 use Rattle.std.proofs.Common.{refl}
 use Rattle.capnp_wire.specs.Prelude.{pointer_of, TakesStructs, StructsFormError, struct_list_of}
 use Rattle.capnp_wire.proofs.pointers.OwnSegmentLemmas.{known_segment}
-use Rattle.capnp_wire.proofs.views.ViewLemmas.{is_view_of}
+use Rattle.capnp_wire.proofs.views.ViewErrorLemmas.{is_view_of}
 use Rattle.capnp_wire.proofs.views.ListViewLemmas.{structs_decide, structs_accepted}
 use Rattle.capnp_wire.proofs.struct_list.reader.ReaderFromPointerInSegment.get_from_segment.Goals as goal
 

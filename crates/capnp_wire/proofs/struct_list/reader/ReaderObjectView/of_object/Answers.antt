@@ -1,7 +1,7 @@
 -- The elements of a list are those of the object, with one less of nesting depth left.
 use Rattle.std.proofs.Common.{inr, sym, subst}
 use Rattle.capnp_wire.specs.Prelude.{pointer_of, StructsFormError, IsStructList}
-use Rattle.capnp_wire.proofs.views.FormLemmas.{entered_shows}
+use Rattle.capnp_wire.proofs.views.ShownFormLemmas.{entered_shows}
 use Rattle.capnp_wire.proofs.views.ListViewLemmas.{other_than_structs, structs_entered, few_structs}
 use Rattle.capnp_wire.proofs.struct_list.reader.ReaderObjectView.of_object.Goals as goal
 

@@ -2,7 +2,7 @@
 use Rattle.capnp_wire.specs.Prelude.{TextFormError, TakesText, pointer_of}
 use Rattle.std.proofs.Common.{refl}
 use Rattle.capnp_wire.proofs.pointers.OwnSegmentLemmas.{known_segment}
-use Rattle.capnp_wire.proofs.views.ViewLemmas.{is_view_of, text_decides, text_accepted}
+use Rattle.capnp_wire.proofs.views.ViewErrorLemmas.{is_view_of, text_decides, text_accepted}
 use Rattle.capnp_wire.proofs.text.reader.ReaderFromPointerInSegment.get_from_segment.Goals as goal
 
 pub returns : goal.returns

@@ -1,6 +1,6 @@
 -- The text of a list of bytes is that of the pointer.
 use Rattle.capnp_wire.specs.Prelude.{IsText, TextFormError, pointer_of}
-use Rattle.capnp_wire.proofs.views.FormLemmas.{entered_view}
+use Rattle.capnp_wire.proofs.views.ShownFormLemmas.{entered_view}
 use Rattle.capnp_wire.proofs.text.reader.ReaderObjectView.of_object.Goals as goal
 
 pub returns : goal.returns

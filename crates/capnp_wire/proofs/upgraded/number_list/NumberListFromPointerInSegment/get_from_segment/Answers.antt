@@ -2,7 +2,7 @@
 use Rattle.std.proofs.Common.{refl}
 use Rattle.capnp_wire.specs.Prelude.{pointer_of, TakesFields, FieldsFormError, upgraded_numbers_of}
 use Rattle.capnp_wire.proofs.pointers.OwnSegmentLemmas.{known_segment}
-use Rattle.capnp_wire.proofs.views.ViewLemmas.{is_view_of}
+use Rattle.capnp_wire.proofs.views.ViewErrorLemmas.{is_view_of}
 use Rattle.capnp_wire.proofs.views.UpgradedNumberLemmas.{fields_decide, fields_accepted}
 use Rattle.capnp_wire.proofs.upgraded.number_list.NumberListFromPointerInSegment.get_from_segment.Goals as goal
 

@@ -5,9 +5,9 @@ use Rattle.capnp_layout.specs.Prelude.{number_of, words_of, words_from, code_of,
 use Rattle.capnp_wire.specs.Prelude.{own_part, own_data, limit_of, number_struct, Struct}
 use Rattle.capnp_wire.specs.declared.any_struct.part.WordPart.{WordPart}
 use Rattle.capnp_layout.proofs.words.DigitLemmas.{length-digits}
-use Rattle.capnp_layout.proofs.words.WordLemmas.{length-words_of}
-use Rattle.capnp_wire.proofs.objects.NumberLemmas.{element_read}
-use Rattle.capnp_layout.proofs.objects.PartLemmas.{one_from, element_fits}
+use Rattle.capnp_layout.proofs.words.WordByteLemmas.{length-words_of}
+use Rattle.capnp_wire.proofs.objects.NumberElementLemmas.{element_read}
+use Rattle.capnp_layout.proofs.objects.NumberStructLemmas.{one_from, element_fits}
 use Rattle.capnp_wire.proofs.views.UpgradedStructLemmas.{number_struct_at}
 use Rattle.capnp_wire.proofs.upgraded.number_structs.NumberStructs.get.Goals as goal
 

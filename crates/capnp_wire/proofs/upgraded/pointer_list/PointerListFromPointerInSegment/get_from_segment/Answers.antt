@@ -2,7 +2,7 @@
 use Rattle.std.proofs.Common.{refl}
 use Rattle.capnp_wire.specs.Prelude.{pointer_of, TakesFirstPointers, FirstPointersFormError, upgraded_pointers_of}
 use Rattle.capnp_wire.proofs.pointers.OwnSegmentLemmas.{known_segment}
-use Rattle.capnp_wire.proofs.views.ViewLemmas.{is_view_of}
+use Rattle.capnp_wire.proofs.views.ViewErrorLemmas.{is_view_of}
 use Rattle.capnp_wire.proofs.views.UpgradedPointerLemmas.{first_pointers_decide, first_pointers_accepted}
 use Rattle.capnp_wire.proofs.upgraded.pointer_list.PointerListFromPointerInSegment.get_from_segment.Goals as goal
 

@@ -2,7 +2,7 @@
 use Rattle.std.proofs.Common.{refl}
 use Rattle.capnp_wire.specs.Prelude.{pointer_of, TakesAsStructs, ElementsFormError, upgraded_structs_of}
 use Rattle.capnp_wire.proofs.pointers.OwnSegmentLemmas.{known_segment}
-use Rattle.capnp_wire.proofs.views.ViewLemmas.{is_view_of}
+use Rattle.capnp_wire.proofs.views.ViewErrorLemmas.{is_view_of}
 use Rattle.capnp_wire.proofs.views.UpgradedStructLemmas.{elements_decide, elements_accepted}
 use Rattle.capnp_wire.proofs.upgraded.struct_list.StructListFromPointerInSegment.get_from_segment.Goals as goal
 

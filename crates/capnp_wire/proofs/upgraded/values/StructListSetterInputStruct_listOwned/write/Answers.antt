@@ -2,7 +2,7 @@
 use Rattle.std.proofs.Common.{ℕ, ap, arith}
 use Rattle.capnp_layout.specs.Prelude.{words_of, code_of, width, words_for}
 use Rattle.capnp_wire.specs.Prelude.{IsElementsValue, numbers_in_structs}
-use Rattle.capnp_wire.proofs.layouts.FreeLemmas.{body_long, numbers_total}
+use Rattle.capnp_wire.proofs.layouts.FreeBlockLemmas.{tree_body_long, numbers_total}
 use Rattle.capnp_wire.proofs.views.NumberValueLemmas.{numbers_long}
 use Rattle.capnp_wire.proofs.views.UpgradedValueLemmas.{one_of_elements}
 use Rattle.capnp_wire.proofs.upgraded.values.StructListSetterInputStruct_listOwned.write.Goals as goal
@@ -26,4 +26,4 @@ pub returns-in-Numbers-clause-long : goal.returns-in-Numbers-clause-long
 returns-in-Numbers-clause-long g c trees is =
     let segments = g.S.ReaderSegments.segments in
     let elements = c.args.self.now.elements in
-    body_long (IsElementsValue segments elements) c.args.canonical c.args.next _ (one_of_elements segments elements).same_tree c.requires.value trees is
+    tree_body_long (IsElementsValue segments elements) c.args.canonical c.args.next _ (one_of_elements segments elements).same_tree c.requires.value trees is

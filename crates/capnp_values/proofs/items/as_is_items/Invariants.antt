@@ -1,7 +1,0 @@
--- What is measured of the values so far.
-use Rattle.std.proofs.Common.{false}
-use Rattle.capnp_values.proofs.lists.ItemLemmas.{ItemsMeasured}
-use Rattle.capnp_values.proofs.items.as_is_items.Given as goal
-
-abbrev pub invariant-loop-index : goal.invariant-loop-index
-invariant-loop-index g l = ItemsMeasured (g.S.ValueSource.has_tree l.items) (g.S.ValueSource.fails l.items) false (g.S.ValueSource.items l.items) l.index (record { as_is = l.words; output = l.words })
