@@ -14,8 +14,8 @@ ghost use Rattle.capnp.specs.Written.{IsEncodingOf, AppendsEach};
 
 pub use capnp_frame::laws::{
     message_past_the_limit_fails, plain_requests_take_a_frame, slices_never_fail,
-    vectors_only_run_out_of_memory, what_is_left_of_a_message_is_a_front, zero_padding_is_some_padding,
-    zero_padding_leaves_one_frame,
+    vectors_only_run_out_of_memory, what_is_left_of_a_message_is_a_front,
+    zero_padding_is_some_padding, zero_padding_leaves_one_frame,
 };
 use capnp_frame::serialize::Padding;
 pub use capnp_message::laws::{a_scratch_region_comes_home, a_single_region_comes_home};

@@ -114,7 +114,10 @@ fn push_structs(words: &mut Vec<u8>, random: &mut Random, elements: u64) -> Resu
             .wrapping_add(element.wrapping_mul(6));
         push_word(words, element)?;
         push_word(words, random.below(1_000_000))?;
-        push_word(words, list_pointer(after.wrapping_sub(3), 2, 17 + element % 8))?;
+        push_word(
+            words,
+            list_pointer(after.wrapping_sub(3), 2, 17 + element % 8),
+        )?;
         push_word(words, list_pointer(after.wrapping_sub(1), 4, 6))?;
     }
     for element in 0..elements {

@@ -1,7 +1,5 @@
 //! Chunks that are packed by themselves.
-use crate::assertions::{
-    At, assert_bytes, assert_calls, assert_count, assert_holds, assert_fails,
-};
+use crate::assertions::{At, assert_bytes, assert_calls, assert_count, assert_fails, assert_holds};
 use crate::chunk_cases::{PACKED, Packed};
 use crate::packing::{pack, unpack, unpack_some};
 use crate::retried;

@@ -1,5 +1,5 @@
 //! Lengths of segments, added up.
-use crate::assertions::{At, assert_count, assert_holds, assert_fails};
+use crate::assertions::{At, assert_count, assert_fails, assert_holds};
 use crate::growths::is_out_of_memory;
 use crate::retried;
 use capnp_frame::message::ReaderSegments;

@@ -15,6 +15,7 @@ mod assertions;
 mod chunk_cases;
 #[cfg(test)]
 mod chunks;
+pub mod errors;
 #[cfg(test)]
 mod framing;
 pub mod growths;
@@ -35,7 +36,8 @@ mod no_memory;
 mod packing;
 #[cfg(test)]
 mod parts;
-pub mod errors;
+#[cfg(test)]
+mod sentences;
 #[cfg(test)]
 mod sink_errors;
 pub mod sinks;
@@ -44,8 +46,6 @@ mod skipping;
 pub mod sources;
 #[cfg(test)]
 mod tables;
-#[cfg(test)]
-mod sentences;
 #[cfg(test)]
 mod values;
 #[cfg(test)]

@@ -1,5 +1,5 @@
 //! Calls that take no memory: they succeed whichever growth fails, and none is made twice.
-use crate::assertions::{At, assert_bytes, assert_count, assert_holds, assert_fails};
+use crate::assertions::{At, assert_bytes, assert_count, assert_fails, assert_holds};
 use crate::framing::{Found, read_into, read_packed, write, write_packed};
 use crate::limits::STRICT;
 use crate::messages::has_segments;

@@ -46,11 +46,26 @@ fn sentences_and_numbers(rt: HostRuntime) -> Result<()> {
     Ok(())
 }
 
-fn print(rt: &(impl Abort + AllocGlobal), number: u8, kind: ErrorKind, sentence: &[u8]) -> Result<()> {
+fn print(
+    rt: &(impl Abort + AllocGlobal),
+    number: u8,
+    kind: ErrorKind,
+    sentence: &[u8],
+) -> Result<()> {
     let at = At::new("kind", u64::from(number));
     let error = Error::from_kind(kind);
     assert_holds(rt, kind.number() == number && error.kind == kind, at);
-    assert_bytes(rt, format!(in rt.alloc(); "{kind}")?.as_bytes(), sentence, at);
-    assert_bytes(rt, format!(in rt.alloc(); "{error}")?.as_bytes(), sentence, at);
+    assert_bytes(
+        rt,
+        format!(in rt.alloc(); "{kind}")?.as_bytes(),
+        sentence,
+        at,
+    );
+    assert_bytes(
+        rt,
+        format!(in rt.alloc(); "{error}")?.as_bytes(),
+        sentence,
+        at,
+    );
     Ok(())
 }

@@ -1,10 +1,10 @@
 //! A sink that fails at its nth chunk, and a caller-provided slice that is too short.
 use crate::assertions::{At, assert_bytes, assert_calls, assert_count, assert_holds, assert_kind};
+use crate::errors::kind_of;
 use crate::framing::{encoding_of, write, write_packed};
 use crate::messages::{MESSAGES, Message};
 use crate::packing::pack;
 use crate::parts::{PARTS, Parts};
-use crate::errors::kind_of;
 use crate::retried;
 use crate::sinks::FailingSink;
 use capnp_frame::{ErrorKind, Result};
@@ -134,7 +134,13 @@ fn parts_of_chunks_before_the_error(rt: HostRuntime) -> Result<()> {
 fn pack_to(rt: &(impl Abort + AllocGlobal), case: &Parts, fails_at: u64) -> Result<bool> {
     let mut sink = sink_that_fails(rt.alloc(), fails_at)?;
     let returned = pack(&mut sink, &[case.words.as_flattened()]);
-    is_front(rt, returned, &sink, case.encoding, At::new(case.name, fails_at))
+    is_front(
+        rt,
+        returned,
+        &sink,
+        case.encoding,
+        At::new(case.name, fails_at),
+    )
 }
 
 // Whether the run meets no failure. What was written stays at the front, and a front of the encoding

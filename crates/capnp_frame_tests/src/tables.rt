@@ -155,7 +155,12 @@ fn hold(rt: &(impl Abort + AllocGlobal)) -> Result<()> {
 fn keep(rt: &(impl Abort + AllocGlobal)) -> Result<()> {
     let vector = FLATTEN.to_vec(rt.alloc())?;
     let found = BufferSegments::new(rt.alloc(), vector, DEFAULT_READER_OPTIONS)?;
-    assert_bytes(rt, &found.into_buffer(), &FLATTEN, At::case("flatten, kept"));
+    assert_bytes(
+        rt,
+        &found.into_buffer(),
+        &FLATTEN,
+        At::case("flatten, kept"),
+    );
     Ok(())
 }
 

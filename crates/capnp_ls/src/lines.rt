@@ -9,7 +9,7 @@ use crate::listing::write_line;
 use capnp::io::{BufRead, Write};
 use capnp::message::DEFAULT_READER_OPTIONS;
 use capnp::serialize::{Padding, SegmentLengthsBuilder};
-use capnp::streams::{Format, FailedAt};
+use capnp::streams::{FailedAt, Format};
 use capnp::{Result, serialize, serialize_packed};
 use std::alloc::Global;
 

@@ -61,11 +61,7 @@ pub fn report<W: Write>(alloc: Global, stop: &Stop, sink: &mut W) -> Result<()>
     }
 }
 
-fn error_line(
-    alloc: Global,
-    message: u64,
-    error: &Error,
-) -> std::result::Result<String, AllocError>
+fn error_line(alloc: Global, message: u64, error: &Error) -> std::result::Result<String, AllocError>
     ensures { IfOk result (λ line. IsLineOf (Refused message error.now) (string_bytes line)) }
 {
     let number = error.kind.number();

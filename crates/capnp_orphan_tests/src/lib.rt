@@ -7,13 +7,13 @@ mod built;
 #[cfg(test)]
 mod calls;
 #[cfg(test)]
+mod errors;
+#[cfg(test)]
 mod fixtures;
 #[cfg(test)]
 mod kept_memory;
 #[cfg(test)]
 mod printed_capnp;
-#[cfg(test)]
-mod errors;
 #[cfg(test)]
 mod regions;
 mod uses;

@@ -1,6 +1,6 @@
 //! Regions that are too short, full or used again.
-use crate::fixtures::expect;
 use crate::errors::error_of;
+use crate::fixtures::expect;
 use capnp_frame::{ErrorKind, Result};
 use capnp_orphans::{Orphanage, Region};
 use std::process::Abort;

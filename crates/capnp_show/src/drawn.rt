@@ -3,10 +3,10 @@ ghost use Rattle.std.specs.Prelude.{◌≡◌, ◌%◌, ◌++◌, None, OnOk, co
 ghost use Rattle.capnp_show.specs.Output.{with_number, message_name, word_name, null_class, owner_classes, error_class, word_classes, where_of, owner_name, drawn_lead, title_of};
 
 use crate::arrows::Grid;
+use crate::errors::push_error;
 use crate::numbers::{push_counted, push_hexadecimal};
 use crate::objects::moved;
 use crate::owners::{Lead, Owner, Owners, Role, Word};
-use crate::errors::push_error;
 use capnp::layout::Place;
 use std::alloc::AllocError;
 

@@ -1,10 +1,10 @@
 //! The files that are shown, one by one.
 use crate::counted::Counted;
 use crate::detected::detect;
+use crate::errors::{Stop, device_error_line, input_line, message_error_line, unopened_line};
 use crate::html::{push_end, push_input, push_page};
 use crate::messages::show_messages;
 use crate::progress::Progress;
-use crate::errors::{Stop, device_error_line, input_line, message_error_line, unopened_line};
 use crate::settings::{Form, Reading, Settings};
 use crate::shown::Showing;
 use capnp::devices::{Input, Watched};
@@ -230,7 +230,13 @@ fn show_source<R: BufRead + Drop, W: Write>(
 }
 
 // Says on standard error which message was not shown, and why.
-fn say_message_error(rt: HostRuntime, name: &str, index: u64, offset: u64, error: &Error) -> Result<()> {
+fn say_message_error(
+    rt: HostRuntime,
+    name: &str,
+    index: u64,
+    offset: u64,
+    error: &Error,
+) -> Result<()> {
     let line = message_error_line(rt.alloc(), name, index, offset, error)?;
     let _ = eprint!(rt; "{line}");
     Ok(())

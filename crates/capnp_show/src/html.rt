@@ -5,8 +5,8 @@ ghost use Rattle.capnp_show.specs.Output.{AddsMarked, with_number, message_name,
 
 use crate::arrows::{part_height, push_sizes};
 use crate::drawn::{Anchor, push_object_classes};
-use crate::markup::push_markup;
 use crate::errors::push_error;
+use crate::markup::push_markup;
 use crate::style::{LEGEND, STYLE};
 use capnp::ErrorKind;
 use std::alloc::AllocError;

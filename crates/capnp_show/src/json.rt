@@ -3,12 +3,12 @@ ghost use Rattle.std.specs.Prelude.{◌≡◌, ◌++◌, OnOk, codes, string_byt
 ghost use Rattle.capnp_show.specs.Hashes.{IfHash};
 ghost use Rattle.capnp_show.specs.Output.{AddsEscaped, with_number, member, listed_members};
 
+use crate::errors::sentence;
+use crate::escapes::{push_quoted, text_in};
 use crate::hash::Hash;
 use crate::listing::{Listed, name_of};
 use crate::numbers::push_counted;
 use crate::objects::{Object, bytes_of, words_of_landing_pad};
-use crate::errors::sentence;
-use crate::escapes::{push_quoted, text_in};
 use crate::tree::{Found, Label, Node};
 use capnp::layout::{Body, Place, StructSize};
 use capnp::message::ReaderSegments;

@@ -3,11 +3,11 @@ ghost use Rattle.std.specs.Prelude.{◌≡◌, ◌++◌, [], MatchOption, OnOk, 
 ghost use Rattle.capnp_show.specs.Hashes.{IfHash};
 ghost use Rattle.capnp_show.specs.Output.{AddsEscaped, element_name, number_name, with_number, listed_line};
 
+use crate::errors::{push_error, sentence};
+use crate::escapes::{push_escaped, push_quoted, text_in};
 use crate::hash::Hash;
 use crate::numbers::{push_counted, push_decimal};
 use crate::objects::{Object, bytes_of, words_of_landing_pad};
-use crate::errors::{push_error, sentence};
-use crate::escapes::{push_escaped, push_quoted, text_in};
 use crate::tree::{Found, Label, Node};
 use capnp::layout::{Body, ElementSize, Place, StructSize};
 use capnp::message::ReaderSegments;

@@ -2,8 +2,8 @@
 ghost use Rattle.std.specs.Prelude.{◌≡◌, ◌++◌, ℕ, List, [], OnOk, string_bytes};
 ghost use Rattle.capnp_show.specs.Output.{IsMarkOf, IsMarked, AddsMarked};
 
-use crate::runs::{next_run, push_run};
 use crate::escapes::{escape_of, push_escape};
+use crate::runs::{next_run, push_run};
 use std::alloc::AllocError;
 
 /// How a character is written in a page.

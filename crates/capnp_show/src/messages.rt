@@ -6,9 +6,9 @@ ghost use Rattle.capnp.specs.Prelude.{by_format, ReadsMessage, ErrorKind, Zero, 
 ghost use Rattle.capnp_show.specs.Shown.{Lists};
 
 use crate::counted::Counted;
+use crate::errors::Stop;
 use crate::listing::Listed;
 use crate::progress::Progress;
-use crate::errors::Stop;
 use crate::settings::Form;
 use crate::shown::{Showing, show_count, show_message};
 use capnp::io::{BufRead, Write};

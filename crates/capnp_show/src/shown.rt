@@ -77,7 +77,13 @@ fn show_lines<S: ReaderSegments, W: Write>(
         listing::push_hash(output, &hash_of(alloc, message)?)?;
     }
     if showing.settings.has_tree {
-        show_tree(alloc, showing.settings, message.get_segments(), output, sink)?;
+        show_tree(
+            alloc,
+            showing.settings,
+            message.get_segments(),
+            output,
+            sink,
+        )?;
     }
     Ok(())
 }
@@ -98,7 +104,13 @@ fn show_json<S: ReaderSegments, W: Write>(
     }
     if showing.settings.has_tree {
         output.push_str(",\"tree\":[")?;
-        show_tree(alloc, showing.settings, message.get_segments(), output, sink)?;
+        show_tree(
+            alloc,
+            showing.settings,
+            message.get_segments(),
+            output,
+            sink,
+        )?;
         output.push(']')?;
     }
     output.push('}')?;
@@ -126,7 +138,14 @@ fn show_section<S: ReaderSegments, W: Write>(
     output.push_str("</h2>\n")?;
     if is_drawn(listed.words) {
         let segments = message.get_segments();
-        show_drawing(alloc, showing.settings.limits, anchor, segments, output, sink)?;
+        show_drawing(
+            alloc,
+            showing.settings.limits,
+            anchor,
+            segments,
+            output,
+            sink,
+        )?;
     } else {
         html::push_large(output)?;
     }

@@ -224,7 +224,12 @@ impl NodeRun {
             Body::Struct(size) => Some(self.pointers_of(object.start, size, nesting)),
             Body::Numbers(_, _) => None,
             Body::Pointers(count) => {
-                Some(self.run(NodeRunKind::Pointers, object.start, u64::from(count), nesting))
+                Some(self.run(
+                    NodeRunKind::Pointers,
+                    object.start,
+                    u64::from(count),
+                    nesting,
+                ))
             }
             Body::Structs(elements, _) if elements.size.pointers == 0 => None,
             Body::Structs(elements, _) => {
@@ -243,7 +248,12 @@ impl NodeRun {
         ensures { result ≡ pointers_run self start size nesting }
     {
         let first = moved(start, u64::from(size.data_words));
-        self.run(NodeRunKind::Pointers, first, u64::from(size.pointers), nesting)
+        self.run(
+            NodeRunKind::Pointers,
+            first,
+            u64::from(size.pointers),
+            nesting,
+        )
     }
 
     // Nodes one step deeper than those of this run.

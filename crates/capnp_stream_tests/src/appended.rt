@@ -10,9 +10,9 @@ use capnp_frame::io::Write;
 use capnp_frame::message::SegmentArray;
 use capnp_frame::serialize::{OwnedSegments, is_writable};
 use capnp_frame::{ErrorKind, Result};
+use capnp_frame_tests::errors::kind_of;
 use capnp_frame_tests::limits::{DEFAULT_LIMIT, NO_LIMIT};
 use capnp_frame_tests::messages::has_segments;
-use capnp_frame_tests::errors::kind_of;
 use capnp_frame_tests::retried;
 use capnp_frame_tests::sinks::FailingSink;
 use std::process::Abort;
@@ -198,7 +198,11 @@ fn write_to(rt: &(impl Abort + AllocGlobal), format: Format, fails_at: u64) -> R
     }
     assert_kind(rt, returned, Some(ErrorKind::DeviceFailed), at);
     assert_holds(rt, encoding.starts_with(written), at);
-    assert_holds(rt, (written.len() == encoding.len()) == (fails_at == 10), at);
+    assert_holds(
+        rt,
+        (written.len() == encoding.len()) == (fails_at == 10),
+        at,
+    );
     assert_calls(rt, sink.calls, fails_at, at);
     Ok(false)
 }

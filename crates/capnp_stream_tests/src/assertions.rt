@@ -43,7 +43,10 @@ pub fn assert_bytes(rt: &impl Abort, found: &[u8], wanted: &[u8], at: At<'_>) {
 /// This is the number, of bytes or of words.
 pub fn assert_count(rt: &impl Abort, found: usize, wanted: usize, at: At<'_>) {
     let At { case, number } = at;
-    assert!(rt; found == wanted, "{found} for {wanted}, at {case}, {number}");
+    assert!(rt;
+        found == wanted,
+        "{found} for {wanted}, at {case}, {number}"
+    );
 }
 
 /// This is the number of calls.
@@ -62,7 +65,10 @@ pub fn assert_fails<T: Drop>(rt: &impl Abort, returned: Result<T>, kind: ErrorKi
         Ok(_) => panic!(rt; "a result for {kind:?}, at {case}, {number}"),
         Err(error) => {
             let found = error.kind;
-            assert!(rt; found == kind, "{found:?} for {kind:?}, at {case}, {number}");
+            assert!(rt;
+                found == kind,
+                "{found:?} for {kind:?}, at {case}, {number}"
+            );
         }
     }
 }

@@ -132,7 +132,12 @@ fn write_each(
         &case.way,
     ))?;
     let at = at(case, padding);
-    assert!(rt; failure == ended.failure, "{stop:?} at {}, {}", at.case, at.number);
+    assert!(rt;
+        failure == ended.failure,
+        "{stop:?} at {}, {}",
+        at.case,
+        at.number
+    );
     assert_count(rt, source.len(), ended.unread, at);
     assert_bytes(rt, sink.as_slice(), ended.written, at);
     Ok(())

@@ -1,5 +1,5 @@
 //! Sources that fail at their nth call.
-use crate::assertions::{At, assert_bytes, assert_calls, assert_holds, assert_fails};
+use crate::assertions::{At, assert_bytes, assert_calls, assert_fails, assert_holds};
 use crate::calls_reported::assert_call;
 use crate::flat::RULES;
 use crate::readers::{Call, READERS, is_returned};

@@ -29,7 +29,11 @@ fn write_message<S: ReaderSegments>(
     };
     assert!(rt; is_written, "{name}, {writer:?}");
     assert_holds(rt, has_segments(segments, message.segments), At::case(name));
-    assert_holds(rt, has_size(segments, message.size_in_words), At::case(name));
+    assert_holds(
+        rt,
+        has_size(segments, message.size_in_words),
+        At::case(name),
+    );
     Ok(())
 }
 
@@ -95,7 +99,12 @@ fn state_of(
     segments: &[&[u8]],
 ) -> Result<BufferSegments<Vec<u8>>> {
     let mut encoding: Vec<u8> = Vec::new(rt.alloc());
-    write(rt, Writer::Framed, &mut encoding, &SegmentArray::new(segments))?;
+    write(
+        rt,
+        Writer::Framed,
+        &mut encoding,
+        &SegmentArray::new(segments),
+    )?;
     BufferSegments::new(rt.alloc(), encoding, DEFAULT_READER_OPTIONS)
 }
 

@@ -44,5 +44,9 @@ pub fn write_and_read_back<S: ReaderSegments>(
     let mut source: &[u8] = &encodings;
     let readers = read_messages(alloc, &mut source, format, messages.len(), options)?;
     let end = next_message(alloc, &mut source, format, Padding::Zero, options)?;
-    Ok(ReadBack { encodings, readers, end })
+    Ok(ReadBack {
+        encodings,
+        readers,
+        end,
+    })
 }

@@ -8,9 +8,9 @@ ghost use Rattle.capnp_values.specs.StructListPlaces.{AreDeclared, IsDeclared, L
 
 use crate::element::Element;
 use crate::fields::Fields;
-use crate::struct_elements::{kept_by_each, measure_elements, write_elements};
 use crate::sections::KeptWords;
 use crate::sources::StructSource;
+use crate::struct_elements::{kept_by_each, measure_elements, write_elements};
 use capnp_frame::{Error, ErrorKind, Result};
 use capnp_layout::limits::{MAX_ELEMENTS, MAX_WORDS, allocation_too_large};
 use capnp_layout::pointer_word::{STRUCT_LIST, list_word, put_word, struct_word};

@@ -35,7 +35,10 @@ pub const DEFINITIONS: &[(&str, &[&str])] = &[
         "capnp_orphans.specs.Adding",
         &["AddsOrphan", "AddsRoot", "FailsToAdd", "Writes"],
     ),
-    ("capnp_orphans.specs.Copied", &["data_up_to", "CopiesPointers"]),
+    (
+        "capnp_orphans.specs.Copied",
+        &["data_up_to", "CopiesPointers"],
+    ),
     (
         "capnp_orphans.specs.Holds",
         &[
@@ -83,7 +86,11 @@ pub const DEFINITIONS: &[(&str, &[&str])] = &[
     ),
     (
         "capnp_wire.specs.UpgradedValues",
-        &["IsStructListValue", "StructListValueError", "one_struct_list"],
+        &[
+            "IsStructListValue",
+            "StructListValueError",
+            "one_struct_list",
+        ],
     ),
     (
         "capnp_wire.specs.UpgradedViews",

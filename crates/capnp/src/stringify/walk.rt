@@ -63,7 +63,12 @@ impl<'r, 'a, S: ReaderSegments> Walk<'r, 'a, S> {
     /// Begins the root, of the struct of this number, with this depth left within it.
     ///
     /// Fails only where memory is lacking.
-    pub fn open_root(&mut self, output: &mut String, of: u32, depth: u32) -> Result<(), AllocError> {
+    pub fn open_root(
+        &mut self,
+        output: &mut String,
+        of: u32,
+        depth: u32,
+    ) -> Result<(), AllocError> {
         self.open_fields(output, of, false, depth)
     }
 
@@ -153,7 +158,10 @@ impl<'r, 'a, S: ReaderSegments> Walk<'r, 'a, S> {
         }
         let pointer = self.current().get_pointer(field.pointer_index());
         match field.default {
-            DefaultValue::Text(default) if pointer.is_null() => push_text(output, default.as_bytes()),
+            DefaultValue::Text(default) if pointer.is_null() => push_text(
+                output,
+                default.as_bytes(),
+            ),
             DefaultValue::Data(default) if pointer.is_null() => push_data(output, default),
             _ => self.push_pointer(output, pointer, field.of, depth),
         }

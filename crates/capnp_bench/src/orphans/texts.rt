@@ -18,7 +18,11 @@ pub fn build(alloc: Global, benchmark: Benchmark, output: &mut Output) -> Result
     output.add(objects.bytes())
 }
 
-fn texts(objects: &mut Orphanage, items: &mut Vec<Orphan<text::Owned>>, benchmark: Benchmark) -> Result<()> {
+fn texts(
+    objects: &mut Orphanage,
+    items: &mut Vec<Orphan<text::Owned>>,
+    benchmark: Benchmark,
+) -> Result<()> {
     let mut random = Random::new(benchmark.seed);
     for _ in 0..benchmark.count {
         let item = match WORDS.get(random.below(5) as usize) {

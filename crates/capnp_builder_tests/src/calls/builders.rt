@@ -169,10 +169,7 @@ fn inits_that_fail(rt: HostRuntime) {
     assert!(rt; is_null_word(&message));
     let found = init_error::<data::Owned, HeapAllocator>(&mut message, 536_870_912);
     expect(&rt, "data", found, (15, 67_108_864));
-    let found = init_error::<primitive_list::Owned<u64>, HeapAllocator>(
-        &mut message,
-        536_870_912,
-    );
+    let found = init_error::<primitive_list::Owned<u64>, HeapAllocator>(&mut message, 536_870_912);
     expect(&rt, "words", found, (15, 536_870_912));
 }
 

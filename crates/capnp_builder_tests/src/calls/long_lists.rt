@@ -74,7 +74,9 @@ fn expect_numbers<N: PrimitiveElement + Numbered + Copy>(
         all.push(N::at(index))?;
     }
     let list = NumberList::new(&all);
-    expect_set::<capnp_wire::primitive_list::Owned<N>, NumberList<'_, N>>(rt, case, &list, segment)?;
+    expect_set::<capnp_wire::primitive_list::Owned<N>, NumberList<'_, N>>(
+        rt, case, &list, segment,
+    )?;
     let segments = [segment];
     let arena = plain_arena(&segments);
     let read: capnp_wire::primitive_list::Reader<'_, N> = root_as(&arena)?;
@@ -150,7 +152,10 @@ type Named<'a> = StructValue<1, Field<text::Owned, &'a str, NoFields>>;
 type ReadStructs<'a> = struct_list::Reader<'a, SegmentArray<'a>>;
 
 // Structs of a number and a text, and what such structs are made of.
-fn elements_of<'a>(alloc: Global, names: &[&'a str]) -> Result<(Vec<Named<'a>>, Vec<PhoneEntry<'a>>)> {
+fn elements_of<'a>(
+    alloc: Global,
+    names: &[&'a str],
+) -> Result<(Vec<Named<'a>>, Vec<PhoneEntry<'a>>)> {
     let mut values = Vec::new(alloc);
     let mut entries = Vec::new(alloc);
     for (index, name) in (0..MANY).zip(names) {

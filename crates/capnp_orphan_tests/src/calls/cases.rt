@@ -1,8 +1,8 @@
 //! Segments that are built beside their bytes, which are worked out by hand from the encoding
 //! document.
 use crate::built::{Built, build};
-use crate::fixtures::{empty, expect};
 use crate::errors::error_of;
+use crate::fixtures::{empty, expect};
 use capnp::{serialize, serialize_packed};
 use capnp_frame::{ErrorKind, Result};
 use capnp_orphans::{Orphanage, Region};

@@ -6,8 +6,8 @@ use crate::building::{
 use crate::tests::fixtures::{expect, roomy_message};
 use capnp::Result;
 use capnp::message::{Allocator, Builder, HeapAllocator, SingleSegmentAllocator};
-use capnp_frame_tests::messages::has_segments;
 use capnp_frame_tests::errors::numbered;
+use capnp_frame_tests::messages::has_segments;
 use std::alloc::Global;
 use std::process::Abort;
 

@@ -50,7 +50,13 @@ pub fn set_root_canonical(message: &mut Builder<HeapAllocator>, root: Source<'_>
 pub fn transcoded(alloc: Global, way: Way, stream: &[u8]) -> Result<(Vec<u8>, usize)> {
     let mut source = stream;
     let mut encoding = Vec::new(alloc);
-    transcode(alloc, way, &mut source, &mut encoding, DEFAULT_READER_OPTIONS)?;
+    transcode(
+        alloc,
+        way,
+        &mut source,
+        &mut encoding,
+        DEFAULT_READER_OPTIONS,
+    )?;
     Ok((encoding, source.len()))
 }
 

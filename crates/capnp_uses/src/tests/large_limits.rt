@@ -3,8 +3,8 @@ use crate::tests::fixtures::{Message, Source, expect, limited, message_of, set_r
 use capnp::any_struct::StructReader;
 use capnp::message::{Builder, DEFAULT_READER_OPTIONS, HeapAllocator, SegmentArray};
 use capnp::{Result, canonical_size, data, text};
+use capnp_frame_tests::errors::{error_of, numbered};
 use capnp_frame_tests::messages::has_segments;
-use capnp_frame_tests::errors::{numbered, error_of};
 use std::alloc::Global;
 
 // What is viewed as a text, though it is none.

@@ -1,7 +1,9 @@
 //! Messages of more than 100,000 words, no two objects or numbers of which are equal: read, packed,
 //! copied and made canonical.
 use crate::tests::fixtures::{Source, expect, message_of, set_root, set_root_canonical};
-use crate::tests::large_messages::{framed_encoding, pack, read_framed, read_packed, has_segment, unpack};
+use crate::tests::large_messages::{
+    framed_encoding, has_segment, pack, read_framed, read_packed, unpack,
+};
 use capnp::Result;
 use capnp::message::{Builder, DEFAULT_READER_OPTIONS, HeapAllocator};
 use capnp_frame_tests::long_lists::{

@@ -102,7 +102,11 @@ fn long_packed_chunks(rt: HostRuntime) -> Result<()> {
     Ok(())
 }
 
-fn repeated(alloc: Global, encoding: &[u8], times: usize) -> std::result::Result<Vec<u8>, AllocError> {
+fn repeated(
+    alloc: Global,
+    encoding: &[u8],
+    times: usize,
+) -> std::result::Result<Vec<u8>, AllocError> {
     let mut stream = Vec::new(alloc);
     for _ in 0..times {
         stream.extend_from_slice(encoding)?;

@@ -11,7 +11,7 @@ use crate::tests::fixtures::{expect, limited};
 use capnp::Result;
 use capnp::message::{DEFAULT_READER_OPTIONS, ReaderOptions, SegmentArray};
 use capnp::streams::Format;
-use capnp_frame_tests::errors::{numbered, error_of};
+use capnp_frame_tests::errors::{error_of, numbered};
 use std::alloc::{AllocError, Global};
 use std::process::Abort;
 

@@ -5,8 +5,8 @@ use crate::roots::{copy_root, set_text_is_read_back};
 use crate::tests::fixtures::{Message, expect, message_of, roomy_message};
 use capnp::message::{Allocator, Builder, HeapAllocator, ReaderOptions};
 use capnp::{Result, text};
-use capnp_frame_tests::messages::has_segments;
 use capnp_frame_tests::errors::error_of;
+use capnp_frame_tests::messages::has_segments;
 
 // A text of one word has room after the root in two words, and not in one; either way the region is
 // zero once the message is gone.

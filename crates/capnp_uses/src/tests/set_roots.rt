@@ -4,8 +4,8 @@ use crate::setting::{set_canonical, set_tree, set_tree_and_word};
 use crate::tests::fixtures::{Message, Source, expect, message_of, roomy_message};
 use capnp::Result;
 use capnp::message::{Builder, HeapAllocator, ReaderOptions};
-use capnp_frame_tests::messages::has_segments;
 use capnp_frame_tests::errors::error_of;
+use capnp_frame_tests::messages::has_segments;
 use std::alloc::Global;
 use std::process::Abort;
 

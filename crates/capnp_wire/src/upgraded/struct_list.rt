@@ -134,7 +134,9 @@ impl<'a, S: ReaderSegments> StructList<'a, S> {
             ≡ structs_in (pointer_of S.segments reader.now) object.now skipped elements }
     {
         StructList {
-            elements: StructElements::InPlace(struct_list::Reader::within(reader, object, skipped, elements)),
+            elements: StructElements::InPlace(struct_list::Reader::within(
+                reader, object, skipped, elements,
+            )),
         }
     }
 }

@@ -95,7 +95,12 @@ impl<'a, S: ReaderSegments> SetterInput<struct_list::Owned> for StructList<'a, S
     fn write(&self, canonical: bool, block: &mut [u8], following: usize, next: usize) -> Copied {
         match &self.elements {
             StructElements::InPlace(list) => list.write(canonical, block, following, next),
-            StructElements::Numbers(numbers) => value::write_numbers(&numbers.as_value(), block, following, next),
+            StructElements::Numbers(numbers) => value::write_numbers(
+                &numbers.as_value(),
+                block,
+                following,
+                next,
+            ),
         }
     }
 }
