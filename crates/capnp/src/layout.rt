@@ -1,4 +1,4 @@
-//! Pointers, and the objects that they lead to, word by word: for programs that show how a message
+//! Pointers, and the objects that they point to, word by word: for programs that show how a message
 //! is laid out.
 pub use capnp_layout::element_size::ElementSize;
 pub use capnp_layout::landing_pad::resolve;

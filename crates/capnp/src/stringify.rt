@@ -21,7 +21,7 @@ use std::alloc::{AllocError, Global};
 ///
 /// `depth` says how many structs and lists may be within one another; the struct is the first of
 /// them, and a group none of its own. Below, a struct is shown as `(..)` and a list as `[..]`, and
-/// neither is read. What a pointer leads to that can't be read, or would go past the limits of its
+/// neither is read. What a pointer points to that can't be read, or would go past the limits of its
 /// reader, is shown as its error, `<PointerOutOfBounds>`, and the text goes on after it.
 ///
 /// Fails only where memory is lacking.

@@ -9,7 +9,7 @@ use capnp::serialize::{BufferSegments, NoAllocBufferSegments};
 use capnp::{Result, Way, any_pointer, any_pointer_list, text, transcode};
 use std::alloc::Global;
 
-/// How many objects the root's list leads to, each in a segment of its own.
+/// How many objects the root's list points to, each in a segment of its own.
 const OBJECTS: u64 = 508;
 
 /// Reads and copies this many messages, with memory and without, and packs them.

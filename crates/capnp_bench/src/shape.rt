@@ -12,13 +12,13 @@ const LETTERS: u64 = 7;
 pub enum Kind {
     /// Structs of a number, and of pointers to structs.
     Struct,
-    /// Lists of pointers to such lists; the lowest lead to texts of a word.
+    /// Lists of pointers to such lists; the lowest point to texts of a word.
     Pointers,
     /// Lists of structs of a number and of a pointer to such a list.
     Structs,
 }
 
-/// A tree in which each object above the lowest leads to as many others.
+/// A tree in which each object above the lowest points to as many others.
 #[derive(Clone, Copy)]
 pub struct Shape {
     kind: Kind,
@@ -26,7 +26,7 @@ pub struct Shape {
 }
 
 impl Shape {
-    /// The shape of objects that lead to this many others.
+    /// The shape of objects that point to this many others.
     pub fn new(kind: Kind, children: u64) -> Shape {
         Shape { kind, children }
     }
@@ -44,7 +44,7 @@ impl Shape {
         }
     }
 
-    /// Adds an object of this depth and all that it leads to.
+    /// Adds an object of this depth and all that it points to.
     pub fn push(self, words: &mut Vec<u8>, random: &mut Random, depth: u32) -> Result<()> {
         if depth == 0 {
             return match self.kind {
@@ -98,7 +98,7 @@ impl Shape {
         }
     }
 
-    /// How many words an object of this depth and all that it leads to take.
+    /// How many words an object of this depth and all that it points to take.
     fn words(self, depth: u32) -> u64 {
         let (mut words, before) = match self.kind {
             Kind::Pointers => (1_u64, 0),

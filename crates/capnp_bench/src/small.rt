@@ -63,7 +63,7 @@ pub fn messages(alloc: Global, root: Root, seed: u32) -> Result<Vec<SmallMessage
     Ok(messages)
 }
 
-/// The message of an index. A far root leads to an object of each other kind in turn.
+/// The message of an index. A far root points to an object of each other kind in turn.
 fn message(alloc: Global, root: Root, index: u32, random: &mut Random) -> Result<SmallMessage> {
     let depth = 1 + index / OF_A_DEPTH % 4;
     let mut first = Vec::new(alloc);
@@ -106,7 +106,7 @@ fn root_in_turn(index: u32) -> Root {
 }
 
 /// Adds an object without its pointer, and returns the pointer to it from the word before it.
-/// Numbers and texts lead to nothing: in the place of depths they have up to 4, 16, 64 and 256
+/// Numbers and texts point to nothing: in the place of depths they have up to 4, 16, 64 and 256
 /// bytes, numbers in whole words.
 fn push_object(words: &mut Vec<u8>, random: &mut Random, root: Root, depth: u32) -> Result<u64> {
     let most = 1_u32 << (2 * depth.min(4));

@@ -1,7 +1,7 @@
 -- What an allocator keeps that hands out a segment, or takes one back (src/allocator.rt). `out`
 -- says which segments may be out, `keeps` what every call leaves the same, `grants` which requests
 -- have to be granted, `fails` with which kinds a request may fail, and `returns` what taking a
--- segment back leads to, as the members of the trait Allocator.
+-- segment back points to, as the members of the trait Allocator.
 use Rattle.std.specs.Prelude.{ℕ, ◌/◌, ◌^◌, ◌<◌, ◌≤◌, ◌≡◌, Bool, List, length, Result, IfOk, IfErr, IsOkAnd, OnErr}
 use Rattle.capnp_frame.specs.declared.error.Error.{Error}
 use Rattle.capnp_frame.specs.declared.error.ErrorKind.{ErrorKind}

@@ -48,7 +48,7 @@ pub record PlacesBlock {A S : Type 0} (alloc : Ghosts A S) (has_tree : Trees →
   -- what else the allocator has out stays out
   pub others : KeepsOthers alloc.out (state_of old) (state_of new)
 
--- The root's word leads to the body at a location; no segment becomes longer.
+-- The root's word points to the body at a location; no segment becomes longer.
 pub record PointsRoot {A : Type 0} (location : RootLocation) (old new : BuilderState A) : Type 0 where
   pub is_laid : (form : Form) (children : Trees) → HasBody old.spaces location form children → IsLaid new.spaces location form children
   pub rewritten : IsRewritten old new
@@ -56,7 +56,7 @@ pub record PointsRoot {A : Type 0} (location : RootLocation) (old new : BuilderS
   pub bytes : (i from n : ℕ) → (i ≡ 0 → 8 ≤ from) → (0 < i → i ≡ location.segment → from + n + 8 ≤ 8 * location.start) → from + n ≤ length (space_at old.spaces i).used
       → take n (drop from (space_at new.spaces i).used) ≡ take n (drop from (space_at old.spaces i).used)
 
--- The root's word and the block that it leads to become zero; no segment becomes longer.
+-- The root's word and the block that it points to become zero; no segment becomes longer.
 pub record ZeroesRoot {A S : Type 0} (alloc : Ghosts A S) (location : Option RootLocation) (old new : BuilderState A) : Type 0 where
   pub null_word : HasNullRoot new.spaces
   pub zero : MatchOption location ⊤ (IsZeroAt new.spaces)

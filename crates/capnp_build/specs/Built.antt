@@ -79,7 +79,7 @@ pub record HasValue (has_tree : Trees → Type 0) (canonical : Bool) (spaces : L
   pub same : output canonical trees ≡ tree form children none
   pub body_is : HasBody spaces location form children
 
--- a tree's body is at this location, and the root leads to it
+-- a tree's body is at this location, and the root points to it
 pub record IsLaid (spaces : List Space) (location : RootLocation) (form : Form) (children : Trees) : Type 0 where
   pub body_is : HasBody spaces location form children
   pub root_is : word_at (message spaces) root ≡ Some (root_word location.segment location.start form children)

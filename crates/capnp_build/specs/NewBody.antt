@@ -20,7 +20,7 @@ Fits (Struct d) = d < 2 ^ 16
 abbrev pub body_pointer_word : ℕ → NewBody → ℕ
 body_pointer_word offset (Bytes n) = 1 + 4 * offset + 2 * 2 ^ 32 + n * 2 ^ 35
 body_pointer_word offset (Words n) = 1 + 4 * offset + 5 * 2 ^ 32 + n * 2 ^ 35
--- the pointer to a struct of no words leads to itself, since a word of zeros is null
+-- the pointer to a struct of no words points to itself, since a word of zeros is null
 body_pointer_word offset (Struct zero) = 4 * (2 ^ 30 - 1)
 body_pointer_word offset (Struct (suc n)) = 4 * offset + suc n * 2 ^ 32
 

@@ -195,6 +195,6 @@ pub record IsNewMessage {A : Type 0} (fact : A → Type 0) (built : Built A) : T
 -- words.
 pub record GivesBack {A S : Type 0} (alloc : allocator.Ghosts A S) (state : BuilderState A) (last : A) : Type 0 where
   pub available : ReturnsRegion alloc.out state last
-  -- exactly these returns led to its present state
+  -- exactly these returns pointed to its present state
   pub returned : ReturnsEach alloc.returns state.spaces state.allocator last
   pub same : alloc.same state.allocator last

@@ -13,7 +13,7 @@ use capnp_layout::pointer_word::{far_word, moved};
 use capnp_wire::traits::SetterInput;
 
 impl<A: Allocator> Segments<A> {
-    /// Makes the root null: zeroes its pointer word, and the words of the object that it leads to,
+    /// Makes the root null: zeroes its pointer word, and the words of the object that it points to,
     /// where there is one.
     pub fn zero_root(&mut self, location: Option<RootLocation>)
         requires there { 0 < length self.old.spaces }

@@ -6,7 +6,7 @@ ghost use Rattle.capnp_build.specs.RootKind.{ShowsRoot};
 use capnp_layout::place::word;
 use capnp_layout::pointer_word::{LocalShape, local_shape};
 
-/// What a pointer leads to, for the objects of which builders have views.
+/// What a pointer points to, for the objects of which builders have views.
 #[derive(Clone, Copy)]
 pub enum RootKind {
     Null,
@@ -19,7 +19,7 @@ pub enum RootKind {
     Other,
 }
 
-/// The kind of the object that a pointer word leads to.
+/// The kind of the object that a pointer word points to.
 pub(crate) fn read_pointer_word(word: u64) -> RootKind
     ensures { (form : Form) (n : ℕ) → HasRoom form n → word ≡ pointer form n 0 →
         ShowsRoot result form }

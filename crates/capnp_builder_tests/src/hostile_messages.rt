@@ -77,7 +77,7 @@ const ROOTS: [(&[&[u8]], ErrorKind); 10] = [
     (&[b"\x04\0\0\0\0\0\0\0"], ErrorKind::PointerOutOfBounds),
     (&[b"\x03\0\0\0\0\0\0\0"], ErrorKind::CapabilityRefused),
     (&[b"\x02\0\0\0\x07\0\0\0"], ErrorKind::InvalidSegmentId(7)),
-    // Landing pads that lead to landing pads.
+    // Landing pads that point to landing pads.
     (&[b"\x02\0\0\0\x01\0\0\0", b"\x02\0\0\0\0\0\0\0"], ErrorKind::PointerOutOfBounds),
     (&[b"\x06\0\0\0\x01\0\0\0", b"\x06\0\0\0\0\0\0\0\x01\0\0\0\0\0\0\0"], ErrorKind::PointerOutOfBounds),
     // A struct that holds itself.

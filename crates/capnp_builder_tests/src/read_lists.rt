@@ -135,7 +135,7 @@ fn measured_within(limit: usize, nesting: i32) -> Result<Walked<u32>> {
     Ok(measured::<any_pointer_list::Owned, Pointers<'_>>(&list, false))
 }
 
-// What its pointers lead to is counted against the limits of its message.
+// What its pointers point to is counted against the limits of its message.
 #[test]
 fn lists_are_measured_within_their_limits(rt: HostRuntime) -> Result<()> {
     expect(&rt, "two words", measured_within(2, 2)?, Ok(3));

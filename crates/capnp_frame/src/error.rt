@@ -79,7 +79,7 @@ pub enum ErrorKind {
     /// A message has a pointer to a capability.
     #[error("CapabilityRefused")]
     CapabilityRefused,
-    /// A pointer leads to another kind of object than was asked for.
+    /// A pointer points to another kind of object than was asked for.
     #[error("WrongPointerKind")]
     WrongPointerKind,
     /// A `Text` does not end with a zero byte.

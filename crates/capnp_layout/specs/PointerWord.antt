@@ -11,7 +11,7 @@ use Rattle.capnp_layout.specs.declared.pointer.LocalShape.TheVariants.{Struct, N
 use Rattle.capnp_layout.specs.declared.pointer.PointerWord.{PointerWord}
 use Rattle.capnp_layout.specs.declared.pointer.PointerWord.TheVariants.{Local, Far, Other}
 
--- the struct or list pointer leads to this
+-- the struct or list pointer points to this
 abbrev pub IsLocalShape : ℕ → LocalShape → Type 0
 IsLocalShape word (Struct size) = (pointer_kind word ≡ 0) × (size.data_words ≡ data_words word) × (size.pointers ≡ pointer_words word)
 IsLocalShape word (Numbers elements count) =

@@ -1,11 +1,11 @@
--- The trees of a message: the objects at places, and everything that they lead to.
+-- The trees of a message: the objects at places, and everything that they point to.
 use Rattle.std.specs.Prelude.{ℕ, ◌+◌, List, [], ◌∷◌}
 use Rattle.capnp_layout.specs.Tree.{Form, Trees, none, tree}
 use Rattle.capnp_layout.specs.Object.{Shape, PointsTo}
 use Rattle.capnp_layout.specs.declared.place.Place.{Place}
 
 -- the trees at places, and what all their objects count against the traversal limit, each as often
--- as a pointer leads to it
+-- as a pointer points to it
 pub data At (m : List (List ℕ)) : List Place → Trees → ℕ → Type 0 where
   nowhere : At m [] none 0
   at : {place : Place} {others : List Place} {shape : Shape} {children rest : Trees} {inside following : ℕ} → PointsTo m place shape

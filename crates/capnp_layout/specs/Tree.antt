@@ -28,7 +28,7 @@ abbrev pub is_null : Form → Bool
 is_null null = true
 is_null _ = false
 
--- the longest chain of objects, each of which leads to the next
+-- the longest chain of objects, each of which points to the next
 abbrev pub depth : Trees → ℕ
 depth none = 0
 depth (tree form children rest) = max (if is_null form then 0 else depth children + 1) (depth rest)

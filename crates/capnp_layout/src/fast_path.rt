@@ -17,9 +17,9 @@ use crate::pointer::{Elements, LocalShape, PointerWord, StructSize};
 use crate::pointer_run::PointerRun;
 use crate::struct_list::StructList;
 
-// Speed: most pointers of most messages are null, or lead to structs, to lists of numbers, or to
+// Speed: most pointers of most messages are null, or point to structs, to lists of numbers, or to
 // lists of pointers. Code that goes over many pointers asks here first, for the segment in hand:
-// then a pointer needs no call, and what it leads to has at most one run of pointers (workload
+// then a pointer needs no call, and what it points to has at most one run of pointers (workload
 // `canon`, `tools/time-building`). Copies always ask for lists of pointers, and walks only at the
 // root, since one more fast path in their loops costs more than the calls that it saves; tests for
 // canonical form never ask for them.
@@ -28,7 +28,7 @@ use crate::struct_list::StructList;
 const EMPTY_STRUCT: u64 = 0xffff_fffc;
 
 /// The pointer at a word of a segment, if it is null, or if it is `EMPTY_STRUCT` and that struct
-/// may be entered at this nesting depth. Other pointer words may lead to structs of no words, too:
+/// may be entered at this nesting depth. Other pointer words may point to structs of no words, too:
 /// `local_struct` finds these.
 #[inline(always)]
 pub fn null_or_empty_struct(segment: &[u8], index: usize, nesting: u32) -> Option<u64>
@@ -51,7 +51,7 @@ pub fn has_fast_path(pointer: u64) -> bool
     pointer % 4 == 0 || (pointer % 4 == 1 && pointer / (1 << 32) % 8 < 7)
 }
 
-/// The list of numbers that the pointer at a place of this segment leads to without a landing pad,
+/// The list of numbers that the pointer at a place of this segment points to without a landing pad,
 /// where it may be entered at this nesting depth. `None` says nothing about what is there; then
 /// `object_in` finds it.
 #[inline(always)]
@@ -86,7 +86,7 @@ pub fn local_list(segment: &[u8], place: Place, nesting: u32) -> Option<NumberLi
     })
 }
 
-/// The struct that the pointer at a place of this segment leads to without a landing pad.
+/// The struct that the pointer at a place of this segment points to without a landing pad.
 #[inline(always)]
 pub fn local_struct(segment: &[u8], place: Place, nesting: u32) -> Option<LocalStruct<'_>>
     ensures { (m : List (List ℕ)) → slice_get m place.segment ≡ Some (words_of segment.now) →
@@ -119,7 +119,7 @@ pub fn local_struct(segment: &[u8], place: Place, nesting: u32) -> Option<LocalS
     })
 }
 
-/// The list of pointers that the pointer at a place of this segment leads to without a landing pad.
+/// The list of pointers that the pointer at a place of this segment points to without a landing pad.
 #[inline(always)]
 pub fn local_pointers(segment: &[u8], place: Place, nesting: u32) -> Option<PointerRun<'_>>
     ensures { (m : List (List ℕ)) → slice_get m place.segment ≡ Some (words_of segment.now) →
@@ -149,7 +149,7 @@ pub fn local_pointers(segment: &[u8], place: Place, nesting: u32) -> Option<Poin
     })
 }
 
-/// The list of structs that the pointer at a place of this segment leads to without a landing pad.
+/// The list of structs that the pointer at a place of this segment points to without a landing pad.
 #[inline(always)]
 pub fn local_structs(segment: &[u8], place: Place, nesting: u32) -> Option<StructList<'_>>
     ensures { (m : List (List ℕ)) → slice_get m place.segment ≡ Some (words_of segment.now) →

@@ -14,7 +14,7 @@ use crate::pointer::{FarPointer, LocalPointer, LocalShape, PointerWord};
 use capnp_frame::message::ReaderSegments;
 use capnp_frame::{Error, ErrorKind, Result};
 
-/// Where an object begins, unless its pointer leads to a word before the segment, and the shape
+/// Where an object begins, unless its pointer points to a word before the segment, and the shape
 /// that the struct or list pointer to it gives it: its own, or one in a landing pad.
 #[derive(Drop)]
 pub struct Landing<'a> {

@@ -1,4 +1,4 @@
-//! From a place to the object that its pointer leads to: nesting depth, bounds, and tags of lists.
+//! From a place to the object that its pointer points to: nesting depth, bounds, and tags of lists.
 ghost use Rattle.std.specs.Prelude.{◌≡◌, ◌↔◌, ◌+◌, ◌/◌, ◌^◌, ◌<◌, ◌≤◌, ℕ, [], ◌∷◌, All, length, slice_get, Some, None, IfOk, IfErr, MatchOption, MatchResult, IsTrue};
 ghost use Rattle.capnp_frame.specs.declared.error.ErrorKind.{ErrorKind};
 ghost use Rattle.capnp_layout.specs.Pointer.{words_of};
@@ -21,7 +21,7 @@ use crate::pointer_slots::PointerSlots;
 use capnp_frame::message::ReaderSegments;
 use capnp_frame::{Error, ErrorKind, Result};
 
-/// What a pointer leads to.
+/// What a pointer points to.
 #[derive(Drop)]
 pub struct Object<'a> {
     pub segment: &'a [u8],
@@ -42,7 +42,7 @@ pub enum Body {
     Structs(Elements, u32),
 }
 
-/// The object that the pointer at a place leads to, where it may be entered at this nesting depth;
+/// The object that the pointer at a place points to, where it may be entered at this nesting depth;
 /// `None` for null. Where there is none the error says what is there: `specs/PointerErrors.antt` has the
 /// cases in their order.
 #[inline(always)]
@@ -100,7 +100,7 @@ pub fn object_in<'a, S: ReaderSegments>(
     }))
 }
 
-/// The object that the pointer at a place of this segment leads to, where there is a tree; `None`
+/// The object that the pointer at a place of this segment points to, where there is a tree; `None`
 /// for null.
 #[inline(always)]
 pub fn object_there<'a, S: ReaderSegments>(

@@ -27,7 +27,7 @@ pub struct LocalPointer {
 #[derive(Clone, Copy)]
 pub struct Offset(pub u32);
 
-/// What a struct or list pointer leads to.
+/// What a struct or list pointer points to.
 #[derive(Clone, Copy)]
 pub enum LocalShape {
     Struct(StructSize),

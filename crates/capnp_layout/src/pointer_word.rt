@@ -53,7 +53,7 @@ pub fn far_word(segment: u32, position: u32) -> u64
     2 + 8 * position as u64 + segment as u64 * (1 << 32)
 }
 
-/// What a struct or list pointer leads to; `None` for a far pointer and a capability. Null reads as
+/// What a struct or list pointer points to; `None` for a far pointer and a capability. Null reads as
 /// a struct of no words.
 pub fn local_shape(word: u64) -> Option<LocalShape>
     ensures { MatchOption result (1 < pointer_kind word) (λ shape. IsLocalShape word shape) }

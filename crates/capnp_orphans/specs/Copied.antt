@@ -19,14 +19,14 @@ abbrev pub pointers_up_to : Struct → ℕ → List Pointer
 pointers_up_to fields zero = []
 pointers_up_to fields (suc count) = pointers_up_to fields count ++ pointer_in fields count ∷ []
 
--- how many words a copy of what a pointer leads to has, and why there is none
+-- how many words a copy of what a pointer points to has, and why there is none
 abbrev pub TakesCopy : Pointer → ℕ → Type 0
 TakesCopy pointer words = HasWords (PointsToTree pointer) false words
 
 abbrev pub CopyError : Pointer → ErrorKind → Type 0
 CopyError pointer kind = WordsError (PointsToTree pointer) (WalkErrorFrom pointer) false kind
 
--- how many words the copies of what its first pointers lead to have
+-- how many words the copies of what its first pointers point to have
 abbrev pub TakesCopies : Struct → ℕ → ℕ → Type 0
 TakesCopies fields zero words = words ≡ 0
 TakesCopies fields (suc count) words =
@@ -44,7 +44,7 @@ pub record CopyFailsAt (fields : Struct) (count : ℕ) (old new : Segment) (kind
 
 -- What copying the first pointers of a struct keeps. `old` and `new` are the segment before and after it.
 pub record CopiesPointers {T : Type 0} (fields : Struct) (count : ℕ) (old new : Segment) (pointers : T → List ℕ) (result : Result T Error) : Type 0 where
-  -- each orphan is of the tree that the pointer leads to, and null stays null
+  -- each orphan is of the tree that the pointer points to, and null stays null
   pub copies : IfOk result (λ made. AreValues PointsToTree (body_of new) (pointers_up_to fields count) (pointers made))
   pub nulls : (index : ℕ) → index < count → Denotes (pointer_in fields index) nothing → IfOk result (λ made. slice_index_or (pointers made) index 0 ≡ 0)
   -- all orphans keep their trees, also after a failure
@@ -55,7 +55,7 @@ pub record CopiesPointers {T : Type 0} (fields : Struct) (count : ℕ) (old new 
   pub kind : IfErr result (λ error. CopyFailsAt fields count old new error.kind)
   -- it succeeds where there is room for the copies in the memory that is there
   pub fits : (words : ℕ) → TakesCopies fields count words → SegmentHasRoom words old → IsOk result
-  -- a pointer that can't be read, or leads to 2 ^ 29 words and more, is not copied, where there is room for the copies before it
+  -- a pointer that can't be read, or points to 2 ^ 29 words and more, is not copied, where there is room for the copies before it
   pub exact : (index before : ℕ) (kind : ErrorKind) → index < count → TakesCopies fields index before → SegmentHasRoom before old
       → WalkErrorFrom (pointer_in fields index) kind → IsErrAnd result (λ error. error.kind ≡ kind)
   pub large : (index before : ℕ) (trees : Trees) → index < count → TakesCopies fields index before → SegmentHasRoom before old → PointsToTree (pointer_in fields index) trees

@@ -6,7 +6,7 @@ pub use Rattle.capnp_layout.specs.Prelude.{link}
 use Rattle.capnp_layout.specs.Prelude.{Form, Trees, none, tree, At}
 
 -- The word of an orphan is the pointer to it, with the index of the word at which it begins in
--- place of the offset; `link` is the pointer that leads to it from a given place. The pointers
+-- place of the offset; `link` is the pointer that points to it from a given place. The pointers
 -- from one place on:
 abbrev pub links : List ℕ → ℕ → List ℕ
 links [] place = []

@@ -27,11 +27,11 @@ impl<T, const D: usize, const P: usize> StructDraft<T, D, P> {
     }
 
     /// A struct with the data words of a struct that is read, and with copies of what its pointers
-    /// lead to, each written as `Orphanage::set` of that pointer writes it. Pointers beyond those
+    /// point to, each written as `Orphanage::set` of that pointer writes it. Pointers beyond those
     /// of the draft are left out; past the last one that is read they are null.
     ///
     /// Fails as `Orphanage::set` does of the first pointer that can't be copied. What was copied
-    /// before that stays in the segment, and no pointer leads to it.
+    /// before that stays in the segment, and no pointer points to it.
     pub fn from_reader<R: ReaderSegments, S: GrowingSegment>(
         fields: &StructReader<'_, R>,
         objects: &mut Orphanage<S>,
@@ -69,7 +69,7 @@ fn word_at<R: ReaderSegments>(fields: &StructReader<'_, R>, index: usize) -> u64
     }
 }
 
-// Copies what pointers lead to, in order.
+// Copies what pointers point to, in order.
 fn copy_pointers<R: ReaderSegments, S: GrowingSegment>(
     fields: &StructReader<'_, R>,
     objects: &mut Orphanage<S>,

@@ -118,7 +118,7 @@ impl<T, const D: usize, const P: usize> StructDraft<T, D, P> {
         word_at(&self.pointers, index as u64) != 0
     }
 
-    /// Makes the pointer at this index lead to an orphan, or null.
+    /// Makes the pointer at this index point to an orphan, or null.
     #[inline(always)]
     pub fn adopt<U>(&mut self, index: usize, orphan: Orphan<U>)
         requires { index < P }

@@ -1,7 +1,7 @@
 //! Messages of one segment that are built from the bottom up.
 //!
 //! An [`Orphanage`] is a segment that grows at its end. Each object is written once, when
-//! everything below it is there, and is an [`Orphan`] until a pointer leads to it: that of another
+//! everything below it is there, and is an [`Orphan`] until a pointer points to it: that of another
 //! object, which adopts it, or the root. So pointers lead back ([encoding document], "Structs" and
 //! "Lists"; an offset may be negative), and no word except the root's is changed once it is
 //! written.

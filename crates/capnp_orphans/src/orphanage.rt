@@ -159,7 +159,7 @@ impl<S: GrowingSegment> Orphanage<S> {
 
     /// Adds an orphan: the object of a value that a pointer can be set to. The value is composed
     /// (`capnp_values`), or it is what a view of another message shows: a text, data, a struct, a
-    /// list of any kind. What a pointer leads to there is copied, as it is, when it is given as the
+    /// list of any kind. What a pointer points to there is copied, as it is, when it is given as the
     /// view `any_pointer::Reader`.
     ///
     /// It is what `newOrphanCopy` is in the C++ library, where `set` sets a field of a builder.
@@ -285,7 +285,7 @@ impl<S: GrowingSegment> Orphanage<S> {
         self.write(&StructList::<T, D, P, M>::new(source))
     }
 
-    /// Makes the root lead to an orphan, or null.
+    /// Makes the root point to an orphan, or null.
     pub fn set_root<T>(&mut self, root: Orphan<T>)
         ensures { SetsRootOrphan root.word self.old self.new }
     {

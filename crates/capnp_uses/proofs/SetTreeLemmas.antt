@@ -1,4 +1,4 @@
--- A pointer leads to one tree, which is what is set, but for a word.
+-- A pointer points to one tree, which is what is set, but for a word.
 use Rattle.std.proofs.Common.{◌≡◌, ◌⊎◌, inl, inr, ℕ, List, [], ◌∷◌, ◌++◌, false, true, refl, ◌∙◌, ap, subst, ◌<◌, ◌≤◌, length, arith}
 use Rattle.capnp_frame.specs.declared.error.Error.{Error}
 use Rattle.capnp_frame.specs.declared.error.ErrorKind.{ErrorKind}

@@ -11,7 +11,7 @@ use Rattle.capnp_uses.specs.declared.account_list.NewAccount.{NewAccount}
 abbrev pub IsName : NewAccount → Trees → Type 0
 IsName account trees = IsTextTree account.name.now trees
 
--- The tree of a list of accounts: a struct for each, of its number, which leads to its name.
+-- The tree of a list of accounts: a struct for each, of its number, which points to its name.
 abbrev pub IsAccountList : List NewAccount → Trees → Type 0
 IsAccountList accounts trees = (names : Trees) × AreTrees IsName accounts names
     × (trees ≡ tree (structs 1 1 (map (λ account. account.id ∷ []) accounts)) names none)

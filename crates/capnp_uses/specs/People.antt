@@ -1,5 +1,5 @@
--- A person, as a tree (src/values.rt): a struct of a number, whose pointers lead to a name and to an address, which is a struct
--- that leads to a city.
+-- A person, as a tree (src/values.rt): a struct of a number, whose pointers point to a name and to an address, which is a struct
+-- that points to a city.
 use Rattle.std.specs.Prelude.{◌≡◌, ◌⊎◌, ℕ, ◌^◌, ◌≤◌, List, [], ◌∷◌, ◌++◌, Any, Option}
 use Rattle.capnp_frame.specs.declared.error.ErrorKind.{ErrorKind}
 use Rattle.capnp_frame.specs.declared.error.ErrorKind.TheVariants.{AllocationTooLarge}
@@ -18,7 +18,7 @@ address_tree city = tree (struct []) (text_tree city none) none
 abbrev pub person_tree : ℕ → List ℕ → List ℕ → Trees
 person_tree id name city = tree (struct (id ∷ [])) (text_tree name (address_tree city)) none
 
--- A contact: a struct of a number, whose pointers lead to a name, to an address and to a list of phones, which are structs of
+-- A contact: a struct of a number, whose pointers point to a name, to an address and to a list of phones, which are structs of
 -- a word and a text.
 abbrev pub texts : List (List ℕ) → Trees
 texts [] = none

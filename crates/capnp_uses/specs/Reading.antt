@@ -25,7 +25,7 @@ pub record ReturnsCanonical {T : Type 0} (bytes : List ℕ) (words : T → List 
       ⊎ ((message : List (List ℕ)) × (rest : List ℕ) × BeginsFramed Zero default_limit message bytes rest
       × (CanonicalFormError (default_root message) error.kind ⊎ (error.kind ≡ OutOfMemory))))
 
--- these are the first two data words of the struct that a pointer leads to, 0 past its last one
+-- these are the first two data words of the struct that a pointer points to, 0 past its last one
 abbrev pub AreFirstWords : Pointer → ℕ × ℕ → Type 0
 AreFirstWords pointer pair = (words : List ℕ) × Reads pointer (λ form. HasData form words) × (pair ≡ (slice_index words 0, slice_index words 1))
 

@@ -45,7 +45,7 @@ impl<'a, S: ReaderSegments> Reader<'a, S> {
 }
 
 impl<'a, S: ReaderSegments> FromPointerReader<'a, S> for Reader<'a, S> {
-    // What the view shows: the struct that the pointer leads to.
+    // What the view shows: the struct that the pointer points to.
     ghost shows = { λ pointer view. IsStruct pointer (struct_of S.segments view.fields) };
 
     // The view accepts null, and every struct.

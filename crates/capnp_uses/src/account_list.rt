@@ -35,7 +35,7 @@ pub fn named_account(id: u64, name: Orphan<text::Owned>) -> StructDraft<account:
     draft
 }
 
-/// Writes a list of these accounts, as an object that a pointer can lead to.
+/// Writes a list of these accounts, as an object that a pointer can point to.
 pub fn list_of_accounts<S: GrowingSegment>(
     alloc: Global,
     objects: &mut Orphanage<S>,

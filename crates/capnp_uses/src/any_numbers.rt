@@ -1,7 +1,7 @@
 //! A view that accepts several kinds of objects: a list of numbers of any width, each read as
 //! `u64`.
 //!
-//! It asks for whatever the pointer leads to, which is read once, and keeps what it accepts of the
+//! It asks for whatever the pointer points to, which is read once, and keeps what it accepts of the
 //! kinds (Cap'n Proto's encoding, "Lists").
 ghost use Rattle.std.specs.Prelude.{◌≡◌, MatchResult};
 ghost use Rattle.capnp_wire.specs.Prelude.{pointer_of, IsViewOf, Accepts, ViewError, FormError, Reads};
@@ -41,7 +41,7 @@ impl<'a> Reader<'a> {
         }
     }
 
-    // The list that a pointer leads to.
+    // The list that a pointer points to.
     fn read<S: ReaderSegments>(reader: &any_pointer::Reader<'a, S>) -> Result<Reader<'a>>
         ensures { let pointer = pointer_of S.segments reader.now in MatchResult result
             (λ view. Reads pointer (λ form. IsAnyNumbers form (any_numbers_of view)))

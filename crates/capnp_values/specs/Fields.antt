@@ -48,14 +48,14 @@ is_left_out false n form = false
 abbrev pub HasTotal : (Trees → Type 0) → ℕ → Type 0
 HasTotal has_trees words = (trees : Trees) × has_trees trees × (words ≡ total_words trees)
 
--- the first n pointers of fields can be written, and what they lead to from a word of a block on
+-- the first n pointers of fields can be written, and what they point to from a word of a block on
 pub record CanWriteFields (has_trees : Trees → Type 0) (canonical : Bool) (n next room : ℕ) : Type 0 where
   pub trees : Trees
   pub trees_are : has_trees trees
   pub some : n ≤ count trees
   pub fits : next + total_words (first n (output canonical trees)) ≤ room
 
--- the first n pointers of fields are in the slots of a block from this one on, and what they lead to
+-- the first n pointers of fields are in the slots of a block from this one on, and what they point to
 -- is in its words from `next` on, up to the first free one
 pub record AreFieldsWritten (has_trees : Trees → Type 0) (canonical : Bool) (slot n next : ℕ) (old new : List ℕ) (free : ℕ) : Type 0 where
   pub words_are : (trees : Trees) → has_trees trees → new ≡ fill (run slot n) next (first n (output canonical trees)) old

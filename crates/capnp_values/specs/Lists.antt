@@ -1,4 +1,4 @@
--- Lists of pointers (src/pointer_list.rt), and the values that they lead to (src/items.rt).
+-- Lists of pointers (src/pointer_list.rt), and the values that they point to (src/items.rt).
 -- Encoding document, "Lists".
 use Rattle.std.specs.Prelude.{◌≡◌, ◌⊎◌, ℕ, ◌+◌, ◌-◌, ◌^◌, ◌<◌, ◌≤◌, Bool, List, [], ◌∷◌, length, min}
 use Rattle.capnp_frame.specs.declared.error.ErrorKind.{ErrorKind}
@@ -23,7 +23,7 @@ pub record HasRoomForItems (has_trees : Trees → Type 0) (canonical : Bool) (ne
   pub trees_are : has_trees trees
   pub fits : next + total_words (output canonical trees) ≤ room
 
--- n pointers are in a block from this word on, and what they lead to is after the last of them, up
+-- n pointers are in a block from this word on, and what they point to is after the last of them, up
 -- to the first free word
 pub record AreItemsWritten (has_trees : Trees → Type 0) (canonical : Bool) (slot n : ℕ) (old new : List ℕ) (free : ℕ) : Type 0 where
   pub words_are : (trees : Trees) → has_trees trees → new ≡ fill (run slot n) (slot + n) (output canonical trees) old

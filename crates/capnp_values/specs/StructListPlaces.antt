@@ -17,7 +17,7 @@ pub record IsDeclared (n d p e m : ℕ) : Type 0 where
   pub pointers_within : m ≤ p
   pub elements : n * (e + m) < 2 ^ 29
 
--- a list that has room in a block, from a word on: its tag, the elements, and what these lead to
+-- a list that has room in a block, from a word on: its tag, the elements, and what these point to
 pub record ListPlace {V : Type 0} (words : V → List ℕ) (has_trees : V → Trees → Type 0) (canonical : Bool) (d p e m : ℕ) (values : List V) (next room : ℕ) : Type 0 where
   pub declared_is : AreDeclared (length values) d p
   pub size : IsDeclared (length values) d p e m
@@ -25,7 +25,7 @@ pub record ListPlace {V : Type 0} (words : V → List ℕ) (has_trees : V → Tr
   pub elements : HasRoomForElements words has_trees canonical e m d p values (next + 1 + length values * (e + m)) room
 
 -- an element of d data words and m pointers has room in a block from this word on, and what it
--- leads to from another one on
+-- points to from another one on
 pub record ElementPlace (has_trees : Trees → Type 0) (canonical : Bool) (d m at next room : ℕ) : Type 0 where
   pub can : CanWriteFields has_trees canonical m next room
   pub before_it : at + d + m ≤ next

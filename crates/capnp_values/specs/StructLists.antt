@@ -51,7 +51,7 @@ StructListError has_trees fails d p values kind =
     ⊎ ((d < 2 ^ 16) × (p < 2 ^ 16) × (length values < 2 ^ 29) × (length values * (d + p) < 2 ^ 29) × ElementsError has_trees fails values kind)
 
 -- The data words and the pointers that each element keeps: in canonical form as much as the largest
--- of them needs. And the trees that the first m of each p pointers lead to.
+-- of them needs. And the trees that the first m of each p pointers point to.
 abbrev pub element_data : Bool → ℕ → List (List ℕ) → ℕ
 element_data true d elements = least_data elements
 element_data false d elements = d
@@ -67,20 +67,20 @@ output_children canonical m p elements children = narrowed m p elements (output 
 abbrev pub AreEven : ℕ → List (List ℕ) → Type 0
 AreEven d elements = All (λ element. (length element ≡ d) × All (λ w. w < 2 ^ 64) element) elements
 
--- what is measured of some structs of d data words each: the words of all that they lead to, or why
+-- what is measured of some structs of d data words each: the words of all that they point to, or why
 -- one of them fails
 pub record MeasuresElements {V : Type 0} (words : V → List ℕ) (has_trees : V → Trees → Type 0) (fails : V → ErrorKind → Type 0) (canonical : Bool) (d : ℕ) (values : List V) (result : Result TreeWords Error) : Type 0 where
   pub measured : MeasuresValue (λ t. AreElements has_trees values t) (λ k. ElementsError has_trees fails values k) canonical result
   pub even : IfOk result (λ _. AreEven d (map words values))
 
--- elements from this word of a block on, each in front of its p pointers, and what these lead to from
+-- elements from this word of a block on, each in front of its p pointers, and what these point to from
 -- another word on
 abbrev pub fill_elements : ℕ → ℕ → List (List ℕ) → ℕ → Trees → List ℕ → List ℕ
 fill_elements p at [] next children block = block
 fill_elements p at (element ∷ elements) next children block =
     fill_elements p (at + length element + p) elements (next + total_words (first p children)) (following p children) (fill (run (at + length element) p) next (first p children) (put at element block))
 
--- d words and m pointers are kept of each of some structs, and what these lead to has room in a
+-- d words and m pointers are kept of each of some structs, and what these point to has room in a
 -- block from this word on
 pub record HasRoomForElements {V : Type 0} (words : V → List ℕ) (has_trees : V → Trees → Type 0) (canonical : Bool) (d m most p : ℕ) (values : List V) (next room : ℕ) : Type 0 where
   pub children : Trees
@@ -91,7 +91,7 @@ pub record HasRoomForElements {V : Type 0} (words : V → List ℕ) (has_trees :
   pub pointers_are : m ≡ element_pointers canonical p (map words values) children
   pub fits : next + total_words (output_children canonical m p (map words values) children) ≤ room
 
--- the elements of a list are in a block from this word on, and what their pointers lead to from
+-- the elements of a list are in a block from this word on, and what their pointers point to from
 -- another one on, up to the first free word
 pub record AreElementsWritten {V : Type 0} (words : V → List ℕ) (has_trees : V → Trees → Type 0) (canonical : Bool) (d m p : ℕ) (values : List V) (at next : ℕ) (old new : List ℕ) (free : ℕ) : Type 0 where
   pub words_are : (children : Trees) → AreElements has_trees values children

@@ -31,14 +31,14 @@ pub trait Fields {
     fn count() -> u32
         ensures { result ≡ min size (2 ^ 16) };
 
-    /// The number of words of all that the pointers lead to.
+    /// The number of words of all that the pointers point to.
     ///
     /// Fails with a kind that `fails` names.
     fn measure(&self, canonical: bool) -> Result<TreeWords>
         requires { size < 2 ^ 16 }
         ensures { MeasuresValue (has_trees self.now) (fails self.now) canonical result };
 
-    /// The number of words of all that the pointers lead to, with each value as it is.
+    /// The number of words of all that the pointers point to, with each value as it is.
     ///
     /// Fails with a kind that `fails` names.
     fn untrimmed(&self) -> Result<u64>
@@ -61,7 +61,7 @@ pub trait Fields {
             result ≡ count (kept_fields canonical trees) }
         ensures bound { result ≤ size };
 
-    /// Writes the first of the pointers into a block, from this slot on, and what they lead to
+    /// Writes the first of the pointers into a block, from this slot on, and what they point to
     /// into the words from `next` on, which are zero. Returns the first word after that.
     fn write(
         &self,

@@ -1,4 +1,4 @@
-//! The elements of lists of structs: the words of what they lead to, and what is written of them.
+//! The elements of lists of structs: the words of what they point to, and what is written of them.
 ghost use Rattle.std.specs.Prelude.{◌≡◌, ◌+◌, ◌*◌, ◌<◌, ◌^◌, false, map, length};
 ghost use Rattle.capnp_layout.specs.Prelude.{words_of, Trees};
 ghost use Rattle.capnp_wire.specs.Prelude.{IsFreeFrom};
@@ -12,7 +12,7 @@ use crate::sources::StructSource;
 use capnp_frame::Result;
 use capnp_wire::traits::TreeWords;
 
-/// The number of words of all that some structs lead to, as they are and in the form that is
+/// The number of words of all that some structs point to, as they are and in the form that is
 /// written.
 ///
 /// Fails as the first of them does that fails as it is.
@@ -40,7 +40,7 @@ pub(crate) fn measure_elements<S: StructSource>(items: &S, canonical: bool) -> R
     Ok(words)
 }
 
-// The number of words of all that some structs lead to, of which no canonical form is written.
+// The number of words of all that some structs point to, of which no canonical form is written.
 // Speed: one sum serves for both numbers, and stays in a register (`tools/time-building`).
 fn untrimmed_elements<S: StructSource>(items: &S) -> Result<TreeWords>
     requires pointers { S.Value.size < 2 ^ 16 }
@@ -95,7 +95,7 @@ pub(crate) fn kept_by_each<S: StructSource>(items: &S, canonical: bool) -> KeptW
 }
 
 /// Writes some structs into a block from the word `first` on: the data words and the pointers that
-/// each keeps, one struct after the other. What they lead to is written after the last of them,
+/// each keeps, one struct after the other. What they point to is written after the last of them,
 /// where the block is zero. Returns the first word after that.
 pub(crate) fn write_elements<S: StructSource>(
     items: &S,

@@ -53,7 +53,7 @@ fn elements_fit(count: usize, data_words: usize, pointers: u32) -> Result<()>
     Ok(())
 }
 
-// The number of words of the tag, of the elements, and of all that these lead to.
+// The number of words of the tag, of the elements, and of all that these point to.
 fn with_tag(
     count: usize,
     data_words: usize,
@@ -101,7 +101,7 @@ pub(crate) fn write_list<S: StructSource>(
     write_tagged(items, canonical, kept, block, following, next)
 }
 
-// Writes the tag, the elements, and what these lead to.
+// Writes the tag, the elements, and what these point to.
 fn write_tagged<S: StructSource>(
     items: &S,
     canonical: bool,

@@ -86,7 +86,7 @@ past_end_error = misfits {start = 2} (local refl (lit< tt) (lit< tt)) (lit< tt) 
 pub capability_error : PointerError ((3 ∷ []) ∷ []) root 64 CapabilityRefused
 capability_error = capability refl refl
 
--- a far pointer into no segment, and a landing pad that leads to a landing pad
+-- a far pointer into no segment, and a landing pad that points to a landing pad
 pub foreign_error : PointerError ((0x700000002 ∷ []) ∷ []) root 64 (InvalidSegmentId 7)
 foreign_error = bad_landing_pad refl refl (no_landing_pad (no_segment refl))
 

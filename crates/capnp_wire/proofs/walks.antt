@@ -1,4 +1,4 @@
--- Walks over the objects that a pointer leads to.
+-- Walks over the objects that a pointer points to.
 pub mod WalkErrorLemmas
 pub mod WalkProgressLemmas
 pub mod MeasuringWalkLemmas

@@ -10,7 +10,7 @@ Padded segment start (numbers c values) =
 Padded segment start form = Unit {0}
 
 -- The trees at places, the first one's body at `next`: each pointer word is that of a layout, and
--- so leads to the next free word.
+-- so points to the next free word.
 abbrev pub IsInPreorder : List ℕ → List Place → ℕ → Trees → Type 0
 IsInPreorder segment places next none = Unit {0}
 IsInPreorder segment [] next (tree form children rest) = Unit {0}

@@ -12,6 +12,6 @@ segments_of words = words.bytes ∷ []
 unfoldable pub root_of : {size : ℕ} → Words size → Pointer
 root_of words = unlimited_root (segments_of words)
 
--- the data words of a default's struct, as a struct with no pointers in the place of what a pointer of a message leads to
+-- the data words of a default's struct, as a struct with no pointers in the place of what a pointer of a message points to
 abbrev pub IsDefaultData : Pointer → Pointer → Struct → Type 0
 IsDefaultData constant pointer fields = (there : Struct) × IsStruct constant there × (fields ≡ data_struct pointer there.words)

@@ -45,17 +45,17 @@ pub record IsCopied (trees : Trees) (gap next : ℕ) (old new : List ℕ) (copie
   pub pointer_is : copied.pointer ≡ pointer_to trees gap
   pub next_is : copied.next ≡ next + total_words trees
 
--- what the pointer at a place leads to is copied
+-- what the pointer at a place points to is copied
 pub record Copies (m : List (List ℕ)) (place : Place) (canonical : Bool) (gap next : ℕ) (old new : List ℕ) (copied : Copied) : Type 0 where
   pub is : (trees : Trees) (traversed : ℕ) → At m (place ∷ []) trees traversed → IsCopied (output canonical trees) gap next old new copied
 
--- what some pointers lead to is copied, from a word of a block up to the first free one, and the
+-- what some pointers point to is copied, from a word of a block up to the first free one, and the
 -- pointers to the copies are in these slots
 pub record CopiesAll (m : List (List ℕ)) (at : List Place) (canonical : Bool) (slots : List ℕ) (next : ℕ) (old new : List ℕ) (free : ℕ) : Type 0 where
   pub words_are : (trees : Trees) (traversed : ℕ) → At m at trees traversed → new ≡ fill slots next (output canonical trees) old
   pub next_is : (trees : Trees) (traversed : ℕ) → At m at trees traversed → free ≡ next + total_words (output canonical trees)
 
--- what pointers of a segment lead to can be copied from a word on, after the slots of their copies
+-- what pointers of a segment point to can be copied from a word on, after the slots of their copies
 pub record CanCopyByCursor (m : List (List ℕ)) (words : List ℕ) (cursor : CopyCursor) (nesting : ℕ) (canonical : Bool) (next room : ℕ) : Type 0 where
   pub there : CanCopy m (places_in cursor.from) nesting canonical next room
   pub content : places_in cursor.from ≢ [] → slice_get m (segment_of cursor.from) ≡ Some words
@@ -63,7 +63,7 @@ pub record CanCopyByCursor (m : List (List ℕ)) (words : List ℕ) (cursor : Co
   pub before : end_of cursor.to ≤ next
 
 -- The cursor pairs pointers at some places of a segment with some slots, which end before a word:
--- what the pointers lead to can be copied by it, and then is copied.
+-- what the pointers point to can be copied by it, and then is copied.
 pub record ArePaired (cursor : CopyCursor) (at : List Place) (segment : ℕ) (slots : List ℕ) (end : ℕ) : Type 0 where
   pub can : (m : List (List ℕ)) (words : List ℕ) (nesting : ℕ) (canonical : Bool) (next room : ℕ) → CanCopy m at nesting canonical next room
       → (at ≢ [] → slice_get m segment ≡ Some words) → end ≤ next → CanCopyByCursor m words cursor nesting canonical next room
@@ -80,7 +80,7 @@ pub record TakesPair (old new : CopyCursor) (place : Place) (slot : ℕ) : Type 
   pub in_segment : place.segment ≡ segment_of old.from
   pub same_segment : segment_of new.from ≡ segment_of old.from
 
--- some pointer that can be copied leads to this object
+-- some pointer that can be copied points to this object
 pub record IsCopyable (object : Object) (canonical : Bool) (next room : ℕ) : Type 0 where
   pub m : List (List ℕ)
   pub place : Place
@@ -88,7 +88,7 @@ pub record IsCopyable (object : Object) (canonical : Bool) (next room : ℕ) : T
   pub can : CanCopy m (place ∷ []) nesting canonical next room
   pub is : IsObject m place object
 
--- A copy is in progress: what the object's own pointers lead to can still be copied, and then the
+-- A copy is in progress: what the object's own pointers point to can still be copied, and then the
 -- copy is complete.
 pub record BeginsCopy (m : List (List ℕ)) (place : Place) (at : List Place) (slots : List ℕ) (nesting : ℕ) (canonical : Bool) (gap next following : ℕ)
     (old mid : List ℕ) (pointer : ℕ) : Type 0 where

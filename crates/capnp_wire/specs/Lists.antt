@@ -24,7 +24,7 @@ all_structs list = map (element_of list) (range_with_len 0 (length list.elements
 abbrev pub FindsElement : {A : Type 0} → ℕ → ℕ → (A → Type 0) → Option A → Type 0
 FindsElement size index element result = MatchOption result (size ≤ index) (λ item. (index < size) × element item)
 
--- the pointer at the next index is read, and a view of what it leads to is returned
+-- the pointer at the next index is read, and a view of what it points to is returned
 abbrev pub YieldsView : {L P E T V : Type 0} → (P → E) → (ListIter L → List E) → (P → V → Type 0) → ViewIter L T → Option V → ViewIter L T → Type 0
 YieldsView {P = P} seen left shows old result new =
     (pointer : Option P) × YieldsFirstBy seen left old.pointers pointer new.pointers

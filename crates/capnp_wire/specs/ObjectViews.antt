@@ -1,4 +1,4 @@
--- What the view of whatever a pointer leads to shows (src/any_object/reader.rt).
+-- What the view of whatever a pointer points to shows (src/any_object/reader.rt).
 use Rattle.std.specs.Prelude.{◌≡◌, ℕ, ⊤, List}
 use Rattle.capnp_frame.specs.declared.message.segments.ReaderSegments.{Ghosts}
 use Rattle.capnp_layout.specs.Prelude.{code_of, Form, null, struct, numbers, pointers, structs, nothing}
@@ -22,7 +22,7 @@ ShowsForm segments (Structs view) form =
 ShowsForm segments (Pointers view) form = form ≡ pointers
 ShowsForm segments (Numbers list) form = form ≡ numbers (code_of list.size) (sized_numbers_of list)
 
--- the view of this kind shows what the pointer leads to, as it does where one asks for this kind
+-- the view of this kind shows what the pointer points to, as it does where one asks for this kind
 -- alone
 abbrev pub ShowsKind : {S : Type 0} {ghosts : Ghosts S} → (S → List (List ℕ)) → Pointer → Reader S ghosts → Type 0
 ShowsKind segments pointer Null = Denotes pointer nothing
@@ -31,7 +31,7 @@ ShowsKind segments pointer (Structs view) = IsStructList pointer (struct_list_of
 ShowsKind segments pointer (Pointers view) = IsPointerList pointer (pointer_list_of segments view)
 ShowsKind segments pointer (Numbers list) = Reads pointer (λ form. form ≡ numbers (code_of list.size) (sized_numbers_of list))
 
--- a view of what the pointer leads to
+-- a view of what the pointer points to
 pub record IsObjectView {S : Type 0} {ghosts : Ghosts S} (segments : S → List (List ℕ)) (pointer : Pointer) (view : Reader S ghosts) : Type 0 where
   pub kind : Accepts pointer (ShowsForm segments view)
   pub shown : ShowsKind segments pointer view

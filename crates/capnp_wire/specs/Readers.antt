@@ -54,7 +54,7 @@ struct_of segments reader = record {
   limit = limit_of reader.limiter;
 }
 
--- an object that the pointer leads to, whose words are within the traversal limit
+-- an object that the pointer points to, whose words are within the traversal limit
 pub record IsEntered (pointer : Pointer) (object : ReadObject) : Type 0 where
   pub place : Place
   pub is_at : pointer.place ≡ Some place

@@ -18,11 +18,11 @@ use Rattle.capnp_layout.specs.declared.object.Body.TheVariants.{Struct, Numbers,
 abbrev pub IsFarAt : List ℕ → Place → Type 0
 IsFarAt segment place = (word : ℕ) × (word_at (segment ∷ []) place ≡ Some word) × (pointer_kind word ≡ 2)
 
--- the offset of a pointer at a word leads to the next free word
+-- the offset of a pointer at a word points to the next free word
 abbrev pub PointsToNext : ℕ → ℕ → ℕ → Type 0
 PointsToNext pointer word next = (offset pointer ≡ next - (word + 1)) × (next - (word + 1) < 2 ^ 29)
 
--- A pointer at a word leads to the next free word; the offset to a struct of no words is -1; the
+-- A pointer at a word points to the next free word; the offset to a struct of no words is -1; the
 -- pointer to a list of structs counts exactly the words of its elements.
 abbrev pub IsNext : ℕ → ℕ → ℕ → Form → ℕ → Type 0
 IsNext pointer word next null n = Unit {0}
@@ -31,7 +31,7 @@ IsNext pointer word next (struct words) n =
 IsNext pointer word next (structs d p elements) n = PointsToNext pointer word next × (list_count pointer ≡ length elements * (d + p))
 IsNext pointer word next form n = PointsToNext pointer word next
 
--- the same for an object that is read: its pointer leads to the next free word
+-- the same for an object that is read: its pointer points to the next free word
 abbrev pub NextOf : ℕ → ℕ → ℕ → Body → Type 0
 NextOf pointer word next (Struct size) =
     (size.data_words + size.pointers ≡ 0 → offset pointer ≡ minus_one)
@@ -85,7 +85,7 @@ pub record Passes (segment : List ℕ) (places : List Place) (nesting traversed 
   pub after_is : after ≡ next + total_words trees
   pub room : after ≤ length segment
 
--- An object is met that may be entered, and no far pointer leads to it.
+-- An object is met that may be entered, and no far pointer points to it.
 pub record MeetsObject (segment : List ℕ) (place : Place) (nesting : ℕ) (limit : Option ℕ) (shape : Shape) : Type 0 where
   pub object : PointsTo (segment ∷ []) place shape
   pub some : is_null shape.form ≡ false
@@ -149,12 +149,12 @@ IsMet segment place nesting limit left next after NotCanonical = Ends segment (p
 IsMet segment place nesting limit left next after (Pointers pointers) =
     MeetsPointers segment place nesting limit left next after pointers
 
--- what a test finds of the object alone that the pointer at a word leads to
+-- what a test finds of the object alone that the pointer at a word points to
 abbrev pub MeetsAt : List ℕ → ℕ → ℕ → CanonicalWalk → CanonicalWalk → Result Met Error → Type 0
 MeetsAt segment word nesting old new result = let place : Place = record { segment = 0; word = word } in
     IfOk result (λ met. IsMet segment place nesting old.walk.left new.walk.left old.next new.next met)
 
--- with which kind a test of the object that the pointer at a word leads to fails
+-- with which kind a test of the object that the pointer at a word points to fails
 abbrev pub FailsAt : List ℕ → ℕ → ℕ → CanonicalWalk → Result Met Error → Type 0
 FailsAt segment word nesting old result = let place : Place = record { segment = 0; word = word } in
     IfErr result (λ error. Ends segment (place ∷ []) nesting old.walk.left old.next (fails_with error.kind))

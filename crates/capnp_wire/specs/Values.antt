@@ -78,7 +78,7 @@ WordsError has_tree fails canonical kind =
     ⊎ ((trees : Trees) × has_tree trees × (2 ^ 29 ≤ total_words (output canonical trees))
     × (kind ≡ too_large canonical (total_words (output canonical trees))))
 
--- the tree that a pointer leads to, within the nesting depth left and its limit, and where a walk over it stops
+-- the tree that a pointer points to, within the nesting depth left and its limit, and where a walk over it stops
 abbrev pub PointsToTree : Pointer → Trees → Type 0
 PointsToTree pointer trees = MatchOption pointer.place (trees ≡ tree null none none)
     (λ place. TreeAt pointer.message place pointer.nesting pointer.limit trees)
@@ -125,7 +125,7 @@ ManyBytes bytes kind =
 abbrev pub pointed : Word → List ℕ → List ℕ
 pointed word block = number_of 256 (bytes_of word) ∷ words_of block
 
--- the canonical form of the tree that a pointer leads to
+-- the canonical form of the tree that a pointer points to
 pub record IsCanonicalForm (pointer : Pointer) (words : List ℕ) : Type 0 where
   pub trees : Trees
   pub tree_is : PointsToTree pointer trees
@@ -140,7 +140,7 @@ IsTextTree bytes trees = IsBytes (bytes ++ 0 ∷ []) trees
 abbrev pub LongText : List ℕ → ErrorKind → Type 0
 LongText bytes kind = ManyBytes (bytes ++ 0 ∷ []) kind
 
--- a pointer leads to one tree
+-- a pointer points to one tree
 one_there : (m : List (List ℕ)) (place : Place) (trees : Trees) (traversed : ℕ) → At m (place ∷ []) trees traversed → count trees ≡ 1
 one_there m place trees traversed (at object inner nowhere) = refl
 

@@ -32,7 +32,7 @@ pub data Denotes (pointer : Pointer) : Shape → Type 0 where
 abbrev pub Shows : Pointer → (Shape → Type 0) → Type 0
 Shows pointer fact = (shape : Shape) × Denotes pointer shape × fact shape
 
--- a pointer leads to no object: this is the error, whatever has been read
+-- a pointer points to no object: this is the error, whatever has been read
 abbrev pub IsInvalidPointer : Pointer → ErrorKind → Type 0
 IsInvalidPointer pointer kind = (place : Place) × (pointer.place ≡ Some place) × PointerError pointer.message place pointer.nesting kind
 
@@ -40,7 +40,7 @@ IsInvalidPointer pointer kind = (place : Place) × (pointer.place ≡ Some place
 abbrev pub MeetsLimit : Pointer → ErrorKind → Type 0
 MeetsLimit pointer kind = Shows pointer (λ shape. 0 < shape.traversed) × (pointer.limit ≢ None) × (kind ≡ ReadLimitExceeded)
 
--- what a pointer leads to can't be read: no object is there, or the traversal limit is met
+-- what a pointer points to can't be read: no object is there, or the traversal limit is met
 abbrev pub ObjectError : Pointer → ErrorKind → Type 0
 ObjectError pointer kind = IsInvalidPointer pointer kind ⊎ MeetsLimit pointer kind
 
@@ -114,7 +114,7 @@ pub record IsStruct (pointer : Pointer) (fields : Struct) : Type 0 where
   pub nesting_below : fields.nesting ≡ pointer.nesting - 1
   pub same_limit : fields.limit ≡ pointer.limit
 
--- a struct of data words alone, in the place of what a pointer leads to
+-- a struct of data words alone, in the place of what a pointer points to
 abbrev pub data_struct : Pointer → List ℕ → Struct
 data_struct pointer words =
     record { message = pointer.message; words = words; children = []; nesting = pointer.nesting - 1; limit = pointer.limit }
@@ -154,7 +154,7 @@ TextFormError form kind =
     ((TakesNumbers 2 form → ⊥) × (kind ≡ WrongPointerKind))
     ⊎ (TakesNumbers 2 form × (TakesText form → ⊥) × (kind ≡ TextNotTerminated))
 
--- the words of all the trees that a pointer leads to, where these are within the nesting depth left
+-- the words of all the trees that a pointer points to, where these are within the nesting depth left
 -- and the limit
 abbrev pub Measures : Pointer → ℕ → Type 0
 Measures pointer words = MatchOption pointer.place (words ≡ 0)

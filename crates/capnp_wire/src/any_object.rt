@@ -1,8 +1,8 @@
-//! Whatever a pointer leads to, for authors of views of their own (encoding document, "Structs" and
+//! Whatever a pointer points to, for authors of views of their own (encoding document, "Structs" and
 //! "Lists").
 //!
 //! The other views accept only objects of their own type. A view that accepts several kinds of
-//! objects asks for an [`any_object::Reader`](Reader), which reads what the pointer leads to once,
+//! objects asks for an [`any_object::Reader`](Reader), which reads what the pointer points to once,
 //! and picks the kinds that it accepts; for any other kind it returns an error of its own.
 mod numbers;
 mod reader;

@@ -1,4 +1,4 @@
-//! Pointers that may lead to anything.
+//! Pointers that may point to anything.
 ghost use Rattle.std.specs.Prelude.{◌≡◌, ◌-◌, ◌^◌, ◌<◌, ◌≤◌, length};
 ghost use Rattle.capnp_layout.specs.Prelude.{Trees, output};
 ghost use Rattle.capnp_wire.specs.Copy.{IsCopied};
@@ -18,14 +18,14 @@ use capnp_layout::block::BlockItem;
 pub(crate) use fast_path::ObjectKind;
 pub use reader::Reader;
 
-/// A pointer that may lead to anything, as a type of a schema.
+/// A pointer that may point to anything, as a type of a schema.
 pub struct Owned;
 
 impl<'a, S: ReaderSegments + 'a> traits::Owned<'a, S> for Owned {
     type Reader = Reader<'a, S>;
 }
 
-// The tree that the pointer leads to, within the nesting depth left and the traversal limit.
+// The tree that the pointer points to, within the nesting depth left and the traversal limit.
 impl<'a, S: ReaderSegments> SetterInput<Owned> for Reader<'a, S> {
     ghost use Rattle.capnp_wire.specs.Readers.{pointer_of};
     ghost use Rattle.capnp_wire.specs.Values.{PointsToTree, WalkErrorFrom, one_value};
@@ -59,7 +59,7 @@ impl<'a, S: ReaderSegments> SetterInput<Owned> for Reader<'a, S> {
     }
 }
 
-/// Writes the tree that a pointer leads to into a block of bytes or of words, from the word `next`
+/// Writes the tree that a pointer points to into a block of bytes or of words, from the word `next`
 /// on. The pointer to the tree is to be put into the word before `following`.
 #[inline(always)]
 pub(crate) fn write_into<S: ReaderSegments, T: BlockItem>(

@@ -1,4 +1,4 @@
-//! Lists of pointers that may lead to anything.
+//! Lists of pointers that may point to anything.
 mod reader;
 
 use crate::layout::copy::{Copied, CopySource, Destination};
@@ -9,7 +9,7 @@ use capnp_frame::Result;
 use capnp_frame::message::ReaderSegments;
 pub use reader::Reader;
 
-/// A list of pointers that may lead to anything, as a type of a schema.
+/// A list of pointers that may point to anything, as a type of a schema.
 pub struct Owned;
 
 impl<'a, S: ReaderSegments + 'a> traits::Owned<'a, S> for Owned {

@@ -1,4 +1,4 @@
-//! The canonical form of what a pointer leads to: one segment, in which equal trees have equal
+//! The canonical form of what a pointer points to: one segment, in which equal trees have equal
 //! words.
 ghost use Rattle.std.specs.Prelude.{◌≡◌, ◌⊎◌, ◌+◌, ◌*◌, ℕ, true, length, replicate, Ok, IfOk, IfErr, MatchResult};
 ghost use Rattle.std.specs.Result.{IsErrAnd};
@@ -16,7 +16,7 @@ use capnp_frame::{Result, Word, word};
 use capnp_layout::pointer_word::word_of;
 use std::alloc::Global;
 
-/// The number of words of the canonical form of what a pointer leads to, with the root pointer.
+/// The number of words of the canonical form of what a pointer points to, with the root pointer.
 ///
 /// Fails where a walk over the tree stops: with the error of a view of one of its objects, or with
 /// `ReadLimitExceeded` where they have more words than the traversal limit. Above 2^29 words it
@@ -37,7 +37,7 @@ pub fn canonical_size<S: ReaderSegments>(reader: &any_pointer::Reader<'_, S>) ->
     Ok(following + 1)
 }
 
-/// The canonical form of what a pointer leads to, as bytes.
+/// The canonical form of what a pointer points to, as bytes.
 ///
 /// Fails as `canonical_size` does, or with `OutOfMemory`.
 pub fn canonical_bytes<S: ReaderSegments>(
@@ -62,7 +62,7 @@ pub fn canonical_bytes<S: ReaderSegments>(
     Ok(bytes)
 }
 
-/// Writes the canonical form of what a pointer leads to into zeros of exactly its length: as many
+/// Writes the canonical form of what a pointer points to into zeros of exactly its length: as many
 /// words as `canonical_size` returns.
 pub fn write_form<S: ReaderSegments>(reader: &any_pointer::Reader<'_, S>, bytes: &mut [u8])
     requires words { (following : ℕ)
@@ -76,7 +76,7 @@ pub fn write_form<S: ReaderSegments>(reader: &any_pointer::Reader<'_, S>, bytes:
     bytes[..8].copy_from_slice(&copied.pointer.to_le_bytes());
 }
 
-/// The canonical form of what a pointer leads to, as words.
+/// The canonical form of what a pointer points to, as words.
 ///
 /// Fails as `canonical_bytes` does.
 pub fn canonical_words<S: ReaderSegments>(
@@ -100,7 +100,7 @@ pub fn canonical_words<S: ReaderSegments>(
     Ok(words)
 }
 
-// Writes the canonical form of what a pointer leads to into a slice of exactly its words.
+// Writes the canonical form of what a pointer points to into a slice of exactly its words.
 fn write_words<S: ReaderSegments>(reader: &any_pointer::Reader<'_, S>, words: &mut [Word])
     requires { (following : ℕ) × HasWords (PointsToTree (pointer_of S.segments reader.now)) true following
         × (length words.old ≡ following + 1) }

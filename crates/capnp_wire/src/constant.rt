@@ -41,7 +41,7 @@ pub trait Constant: ReaderSegments {
         ensures { pointer_of Self.segments result ≡ root self.now };
 }
 
-/// A view of what the root pointer of a constant leads to. It fails as
+/// A view of what the root pointer of a constant points to. It fails as
 /// `any_pointer::Reader::get_as` does of that pointer.
 pub fn view_of<'a, C: Constant, T: FromPointerReader<'a, C>>(constant: &'a C) -> Result<T>
     ensures { let pointer = C.root constant.now in
@@ -52,7 +52,7 @@ pub fn view_of<'a, C: Constant, T: FromPointerReader<'a, C>>(constant: &'a C) ->
 }
 
 /// The struct of a default that sets no pointers, in the place of what a null pointer of a message
-/// leads to. It fails as a view of the default does.
+/// points to. It fails as a view of the default does.
 pub fn default_data<'a, S: ReaderSegments, C: Constant>(
     pointer: &any_pointer::Reader<'a, S>,
     words: &'a C,

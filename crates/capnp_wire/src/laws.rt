@@ -40,7 +40,7 @@ pub fn one_error_at_a_place()
         PointerError m place nesting kind → PointerError m place nesting other → kind ≡ other }
 {}
 
-/// Where a walk over some pointers fails, they lead to no trees within its nesting depth and its
+/// Where a walk over some pointers fails, they point to no trees within its nesting depth and its
 /// traversal limit.
 pub fn failed_walk_has_no_trees()
     ensures { (m : List (List ℕ)) (places : List Place) (nesting traversed : ℕ) (limit : Option ℕ)
@@ -65,7 +65,7 @@ pub fn root_of_a_layout()
         × At (layout (tree form children none) ∷ []) (root ∷ []) (tree form children none) traversed }
 {}
 
-/// Where a tree's body is this many words after its pointer, in any segment, the pointer leads to
+/// Where a tree's body is this many words after its pointer, in any segment, the pointer points to
 /// the tree.
 pub fn tree_after_its_pointer()
     ensures { (m : List (List ℕ)) (segment word offset : ℕ) (words : List ℕ)
@@ -78,7 +78,7 @@ pub fn tree_after_its_pointer()
         × At m (record { segment = segment; word = word } ∷ []) (tree form children none) traversed }
 {}
 
-/// Where a tree's body follows its landing pad, a far pointer to the landing pad leads to the tree.
+/// Where a tree's body follows its landing pad, a far pointer to the landing pad points to the tree.
 pub fn tree_after_its_landing_pad()
     ensures { (m : List (List ℕ)) (place : Place) (segment landing_pad : ℕ) (words : List ℕ)
         (form : Form) (children : Trees) →

@@ -1,4 +1,4 @@
-//! The wire layout: pointer words, the objects that they lead to, and the words that a walk over
+//! The wire layout: pointer words, the objects that they point to, and the words that a walk over
 //! these counts.
 pub(crate) mod canonical;
 pub(crate) mod canonical_rules;

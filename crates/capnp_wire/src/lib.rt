@@ -1,7 +1,7 @@
 //! Objects of Cap'n Proto messages, read in place from the segments of a message.
 //!
 //! A [`ReaderArena`](arena::ReaderArena) holds the segments. From its root pointer on,
-//! [`any_pointer::Reader`] gives views of what pointers lead to: text, data, lists of numbers and
+//! [`any_pointer::Reader`] gives views of what pointers point to: text, data, lists of numbers and
 //! structs, which borrow from the segments and take no memory. Whatever bytes the segments have, a
 //! call returns a view of what is there by the [encoding document], or an error that says what is
 //! wrong.

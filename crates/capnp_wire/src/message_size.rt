@@ -1,4 +1,4 @@
-//! Sizes of what pointers lead to.
+//! Sizes of what pointers point to.
 
 /// The size of an object with all below it.
 #[derive(Clone, Copy, Debug)]

@@ -15,7 +15,7 @@ use capnp_layout::object::Object;
 
 /// A view of one kind of object, as `text::Reader` is one of a list of bytes.
 pub(crate) trait ObjectView<'a, S: ReaderSegments>: Sized {
-    /// The view shows what the pointer leads to, as `FromPointerReader` has it.
+    /// The view shows what the pointer points to, as `FromPointerReader` has it.
     ghost shows: { Pointer → Self → Type 0 };
 
     /// With which errors a view fails, as `FromPointerReader` has them.
@@ -40,7 +40,7 @@ pub(crate) trait ObjectView<'a, S: ReaderSegments>: Sized {
         fails pointer kind };
 }
 
-/// The view of what a pointer leads to: by the object in its own segment, or else by any path.
+/// The view of what a pointer points to: by the object in its own segment, or else by any path.
 #[inline(always)]
 pub(crate) fn read<'a, S: ReaderSegments, V: ObjectView<'a, S>>(
     reader: &any_pointer::Reader<'a, S>,
@@ -57,7 +57,7 @@ pub(crate) fn read<'a, S: ReaderSegments, V: ObjectView<'a, S>>(
     }
 }
 
-// The view of what a pointer leads to, by any path.
+// The view of what a pointer points to, by any path.
 // Speed: a function of its own, so `read` knows the kind of the fast path's object
 // (`tools/time-reading`).
 #[inline(never)]

@@ -15,16 +15,16 @@ pub use crate::list_iter::{IndexMove, ListIter};
 use capnp_frame::Result;
 use capnp_frame::message::ReaderSegments;
 
-/// A type of views of what a pointer leads to, as `text::Reader` is one.
+/// A type of views of what a pointer points to, as `text::Reader` is one.
 ///
 /// A view that doesn't name `S` has a lifetime of its own, as in
 /// `impl<'a: 'v, 'v, S: ReaderSegments> FromPointerReader<'a, S> for View<'v>`. A loop over a list of
 /// such views isn't proved where the impl names the one lifetime `'a` for both.
 pub trait FromPointerReader<'a, S: ReaderSegments>: Sized {
-    /// The view shows what the pointer leads to.
+    /// The view shows what the pointer points to.
     ghost shows: { Pointer → Self → Type 0 };
 
-    /// There is a view of what the pointer leads to.
+    /// There is a view of what the pointer points to.
     ghost accepts: { Pointer → Type 0 };
 
     /// With which errors a view fails: there is none, or it may not be read.
@@ -33,7 +33,7 @@ pub trait FromPointerReader<'a, S: ReaderSegments>: Sized {
     /// With which error a view fails where an object is there that it does not accept.
     ghost form_error: { Pointer → ErrorKind → Type 0 };
 
-    /// The view of what a pointer leads to. Fails with a kind that `fails` names.
+    /// The view of what a pointer points to. Fails with a kind that `fails` names.
     fn get_from_pointer(reader: any_pointer::Reader<'a, S>) -> Result<Self>
         ensures { let pointer = pointer_of S.segments reader.entry in
             IsViewOf pointer (shows pointer) (accepts pointer) (fails pointer) (form_error pointer)
@@ -43,7 +43,7 @@ pub trait FromPointerReader<'a, S: ReaderSegments>: Sized {
 /// A type of views that are also taken where the segment of the pointer is known, as it is in a
 /// struct.
 pub trait FromPointerInSegment<'a, S: ReaderSegments>: FromPointerReader<'a, S> {
-    /// The view of what a pointer in this segment leads to. Fails as `get_from_pointer` does.
+    /// The view of what a pointer in this segment points to. Fails as `get_from_pointer` does.
     fn get_from_segment(reader: any_pointer::Reader<'a, S>, segment: &'a [u8]) -> Result<Self>
         requires { HasSegment (pointer_of S.segments reader) (words_of segment.now) }
         ensures { let pointer = pointer_of S.segments reader.entry in

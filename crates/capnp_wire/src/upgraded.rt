@@ -22,8 +22,8 @@ pub use number_list::NumberList;
 pub use pointer_list::PointerList;
 pub use struct_list::StructList;
 
-/// A list of `Text` in a message, or of structs whose first pointer leads to one.
+/// A list of `Text` in a message, or of structs whose first pointer points to one.
 pub type TextList<'a, S> = ListList<'a, S, text::Reader<'a>>;
 
-/// A list of `Data` in a message, or of structs whose first pointer leads to one.
+/// A list of `Data` in a message, or of structs whose first pointer points to one.
 pub type DataList<'a, S> = ListList<'a, S, data::Reader<'a>>;

@@ -39,7 +39,7 @@ impl<'a, S: ReaderSegments> traits::SetterInput<OwnedList> for ListReader<'a, S>
 /// A struct of this type before it is written. What is not set has its default.
 #[derive(Clone, Copy)]
 pub struct Builder {
-    /// Its data words, and what its pointers lead to.
+    /// Its data words, and what its pointers point to.
     pub draft: StructDraft<Owned, @words@, @pointers@>,
 }
 
@@ -54,12 +54,12 @@ impl Builder {
         }
     }
 
-    /// One of what a reader shows, to be changed and written again. What its pointers lead to is
+    /// One of what a reader shows, to be changed and written again. What its pointers point to is
     /// copied, each object as an orphan, and null stays null. What a writer of another version of
     /// the type left out is zero and null, and what it had beyond this one is left out.
     ///
     /// What a setter replaces after that was copied, and stays in the bytes of the message, where no
-    /// pointer leads to it. Canonical words of the message are without it.
+    /// pointer points to it. Canonical words of the message are without it.
     ///
     /// It fails as `Orphanage::set` of the first pointer does that can't be copied.
     pub fn from_reader<R: ReaderSegments, S: GrowingSegment>(
@@ -89,7 +89,7 @@ impl Builder {
         }
     }
 
-    /// Writes it, as an object that a pointer can lead to.
+    /// Writes it, as an object that a pointer can point to.
     pub fn add<S: GrowingSegment>(&self, objects: &mut Orphanage<S>) -> Result<Orphan<Owned>>
         ensures adds { AddsOrphan (HoldsStruct (body_of objects.old) self.now.draft.words
             self.now.draft.pointers) objects.old objects.new word_of result }
@@ -190,7 +190,7 @@ pub const ENUM_CLAUSE: &str = "let words = @words@ in
 
 /// What is said of what a setter of a pointer replaces.
 pub const STAYS: &str = "///
-/// An object that it led to before stays in the bytes of the message.
+/// An object that it pointed to before stays in the bytes of the message.
 ";
 
 /// The setter of a pointer.

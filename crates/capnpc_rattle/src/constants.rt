@@ -16,7 +16,7 @@ const LEFT_OUT: &str = "// The constant `@name@` is left out.";
 // The most bytes of words that a law names: the time of its proof grows with their square.
 const MAX_BYTES: usize = 4096;
 
-/// A value that a pointer leads to, of a constant or of a default, as it is written: a `static` of
+/// A value that a pointer points to, of a constant or of a default, as it is written: a `static` of
 /// its words, and a getter that returns a view of them.
 #[derive(Drop)]
 pub struct StaticValue<'v> {

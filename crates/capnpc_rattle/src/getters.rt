@@ -174,7 +174,7 @@ fn shown_stored(alloc: Global, site: Site<'_>, place: &Place) -> Result<Option<S
     }
 }
 
-// A pointer that may lead to anything, by its number among the pointers.
+// A pointer that may point to anything, by its number among the pointers.
 fn shown_any_pointer(alloc: Global, offset: u32) -> Result<Option<Shown>, AllocError> {
     let offset = format!(in alloc; "{offset}")?;
     let offset = offset.as_str();
@@ -185,7 +185,7 @@ fn shown_any_pointer(alloc: Global, offset: u32) -> Result<Option<Shown>, AllocE
     )
 }
 
-// A view of what a pointer leads to.
+// A view of what a pointer points to.
 fn shown_view(
     alloc: Global,
     site: Site<'_>,

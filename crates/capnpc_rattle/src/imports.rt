@@ -145,7 +145,7 @@ fn push_items(
     push_words(alloc, lines, body)
 }
 
-// Adds the line that imports what a path leads to, with a key for its place among the others.
+// Adds the line that imports what a path points to, with a key for its place among the others.
 fn push_line(
     alloc: Global,
     lines: &mut Vec<(String, String)>,

@@ -5,7 +5,7 @@ use crate::paths::path_to;
 use crate::schema::{Base, Type};
 use std::alloc::{AllocError, Global};
 
-/// The type of the orphans that a pointer of this type may lead to, as the module of a site names
+/// The type of the orphans that a pointer of this type may point to, as the module of a site names
 /// it. It is not called for interfaces, which have no setters.
 pub fn owned_type(alloc: Global, site: Site<'_>, of: Type) -> Result<String, AllocError> {
     let inner = inner_type(alloc, site, of)?;

@@ -7,7 +7,7 @@ use std::alloc::{AllocError, Global};
 
 // The index of a pointer.
 const POINTER: &str = "
-/// Which pointer of the struct leads to `@field@`, for `fields.get_pointer`.
+/// Which pointer of the struct points to `@field@`, for `fields.get_pointer`.
 pub const @name@: u16 = @offset@;
 ";
 

@@ -2,7 +2,7 @@
 
 /// What comes before the table of a file's types.
 pub const MODULE: &str = "
-/// How the structs of this file are printed: by a table of the types that they lead to.
+/// How the structs of this file are printed: by a table of the types that they point to.
 pub mod the_schema {
 ";
 

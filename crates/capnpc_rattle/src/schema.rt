@@ -125,7 +125,7 @@ pub enum Value {
     Object(Object),
 }
 
-/// A value that a pointer leads to.
+/// A value that a pointer points to.
 #[derive(Drop)]
 pub struct Object {
     /// The words of a message of one segment whose root it is.

@@ -88,13 +88,13 @@ elim @value@ [
 @cases@
 ]";
 
-/// What a clause says of a view of what a pointer leads to.
+/// What a clause says of a view of what a pointer points to.
 pub const VIEW_FACT: &str = "IsViewOf pointer
 (λ view. @shows@)
 (Accepts pointer @takes@) (ViewError pointer @form_error@)
 (FormError pointer @form_error@) @result@";
 
-/// What a clause says of a view of what a pointer of a struct leads to.
+/// What a clause says of a view of what a pointer of a struct points to.
 pub const POINTER_FACT: &str = "let pointer = pointer_in fields @offset@ in
 @fact@";
 
@@ -191,10 +191,10 @@ pub const GET_WORDS: &str = "
 }
 ";
 
-/// What a clause says of a pointer, whatever it leads to.
+/// What a clause says of a pointer, whatever it points to.
 pub const ANY_POINTER_FACT: &str = "pointer_of S.segments @value@ ≡ pointer_in fields @offset@";
 
-/// How a pointer is read that may lead to anything.
+/// How a pointer is read that may point to anything.
 pub const ANY_POINTER_BODY: &str = "self.fields.get_pointer(@offset@)";
 
 /// How a float is read that has a default, by its bits, since a default may be a NaN.

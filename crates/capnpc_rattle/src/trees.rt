@@ -1,4 +1,4 @@
-//! Trees of values that pointers lead to, as clauses have them: terms of `Trees` of `capnp_wire`, in
+//! Trees of values that pointers point to, as clauses have them: terms of `Trees` of `capnp_wire`, in
 //! the names under which `imports.rt` imports its constructors.
 use crate::part::WIDTH;
 use anyhow::Result;
@@ -15,7 +15,7 @@ const MAX_TREE: usize = 32768;
 /// What is still to be written of a tree.
 #[derive(Drop)]
 enum Step<'a, S: ReaderSegments> {
-    /// What a pointer leads to.
+    /// What a pointer points to.
     Object(any_pointer::Reader<'a, S>),
     /// The end of a list of trees, by their number.
     End(u32),
@@ -29,7 +29,7 @@ struct TreeWriter<'a, S: ReaderSegments> {
     steps: Vec<Step<'a, S>>,
 }
 
-/// The tree that a pointer leads to. There is none where its code would be too long, and where a list
+/// The tree that a pointer points to. There is none where its code would be too long, and where a list
 /// of structs in it is empty, of which no view says how large its elements are.
 pub fn tree_at<S: ReaderSegments>(
     alloc: Global,
@@ -62,7 +62,7 @@ fn is_full(written: &str) -> bool {
 }
 
 impl<'a, S: ReaderSegments> TreeWriter<'a, S> {
-    // Adds the form of what a pointer leads to; its pointers, and the end of their trees, are still
+    // Adds the form of what a pointer points to; its pointers, and the end of their trees, are still
     // to be written. Returns whether the form is known.
     fn add_object(&mut self, pointer: &any_pointer::Reader<'a, S>) -> Result<bool> {
         self.written.push_str("(TreeOf ")?;

@@ -104,7 +104,7 @@ pub fn read_value<S: ReaderSegments>(alloc: Global, read: &value::Reader<'_, S>)
     })
 }
 
-// What a pointer leads to: the words of a message of one segment whose root it is, and its tree.
+// What a pointer points to: the words of a message of one segment whose root it is, and its tree.
 fn read_object<S: ReaderSegments>(
     alloc: Global,
     pointer: &any_pointer::Reader<'_, S>,
@@ -123,7 +123,7 @@ fn read_object<S: ReaderSegments>(
     }))
 }
 
-// Writes what a pointer leads to into zeros of exactly its words, and returns the pointer to it
+// Writes what a pointer points to into zeros of exactly its words, and returns the pointer to it
 // from just before these.
 fn write_object<S: ReaderSegments>(pointer: &any_pointer::Reader<'_, S>, block: &mut [u8]) -> u64
     requires words { (words : ℕ)

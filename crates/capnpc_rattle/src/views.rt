@@ -1,4 +1,4 @@
-//! The views of what pointers lead to, for each type.
+//! The views of what pointers point to, for each type.
 use crate::code::{Holes, fill};
 use crate::numbers::number_of;
 use crate::paths::path_to;
@@ -30,7 +30,7 @@ pub const CONSTANT: Lender = Lender {
     segments_of: "segments_of",
 };
 
-/// A view of what a pointer leads to, as a getter and its contract name it.
+/// A view of what a pointer points to, as a getter and its contract name it.
 #[derive(Drop)]
 pub struct View {
     /// Its type.
@@ -59,7 +59,7 @@ impl View {
         }))
     }
 
-    /// What a clause says of a view by this name, of what the pointer `pointer` leads to.
+    /// What a clause says of a view by this name, of what the pointer `pointer` points to.
     pub fn fact(&self, alloc: Global, name: &str) -> Result<String, AllocError> {
         let holes = Holes::new(alloc)
             .with("shows", self.shows.as_str())

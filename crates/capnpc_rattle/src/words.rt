@@ -1,4 +1,4 @@
-//! The words of constants and of defaults that pointers lead to.
+//! The words of constants and of defaults that pointers point to.
 use crate::code::{Code, Holes};
 use crate::schema::Value;
 use crate::templates::WORDS;
@@ -7,7 +7,7 @@ use capnp_layout::pointer_word::list_word;
 use std::alloc::{AllocError, Global};
 use std::fmt::Write;
 
-/// The bytes of a message of one segment whose root is a value that a pointer leads to.
+/// The bytes of a message of one segment whose root is a value that a pointer points to.
 pub fn words_of(alloc: Global, value: &Value) -> Result<Vec<u8>, AllocError> {
     match value {
         Value::Text(text) => list_of_bytes(alloc, text.as_bytes(), true),
@@ -17,7 +17,7 @@ pub fn words_of(alloc: Global, value: &Value) -> Result<Vec<u8>, AllocError> {
     }
 }
 
-/// The tree of a value that a pointer leads to, as a clause has it, where that is known.
+/// The tree of a value that a pointer points to, as a clause has it, where that is known.
 pub fn tree_of(alloc: Global, value: &Value) -> Result<Option<String>, AllocError> {
     match value {
         Value::Text(text) => Ok(Some(tree_of_bytes(alloc, text.as_bytes(), true)?)),
@@ -30,7 +30,7 @@ pub fn tree_of(alloc: Global, value: &Value) -> Result<Option<String>, AllocErro
     }
 }
 
-/// Whether a struct, which a pointer leads to, has pointers that are null alone: what follows its data
+/// Whether a struct, which a pointer points to, has pointers that are null alone: what follows its data
 /// words is zero (encoding document, "Structs").
 pub fn sets_no_pointers(value: &Value) -> bool {
     let Value::Object(object) = value else {

@@ -167,7 +167,7 @@ impl<'r, 'a, S: ReaderSegments> Walk<'r, 'a, S> {
         }
     }
 
-    // Adds what a pointer leads to, or begins it.
+    // Adds what a pointer points to, or begins it.
     fn push_pointer(
         &mut self,
         output: &mut String,
@@ -193,7 +193,7 @@ impl<'r, 'a, S: ReaderSegments> Walk<'r, 'a, S> {
         }
     }
 
-    // Begins a struct that a pointer leads to.
+    // Begins a struct that a pointer points to.
     fn open_struct(
         &mut self,
         output: &mut String,

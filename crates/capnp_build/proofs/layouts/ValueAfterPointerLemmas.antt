@@ -50,7 +50,7 @@ ready has_tree c word n block one w holds =
       body_is = tails whole;
     }
 
--- the root is the value whose body it leads to
+-- the root is the value whose body it points to
 pub value_set : (has_tree : Trees → Type 0) (c : Bool) (spaces last : List Space) (location : RootLocation) (v : HasValue has_tree c spaces location) → IsLaid last location v.form v.children → IsSet has_tree c last
 value_set has_tree c spaces last location v laid =
     let t = laid_root last location v.form v.children laid in

@@ -1,4 +1,4 @@
--- The root's word made zero, and before it the block that it leads to.
+-- The root's word made zero, and before it the block that it points to.
 use Rattle.std.proofs.Common.{◌≡◌, inl, inr, ℕ, ◌+◌, ◌*◌, ◌<◌, ◌≤◌, List, length, replicate, Some, None, slice_set, ap, sym, subst, ◌∙◌, refl, arith}
 use Rattle.std.proofs.lemmas.List.{length-replicate}
 use Rattle.capnp_layout.specs.Prelude.{word_at, root}

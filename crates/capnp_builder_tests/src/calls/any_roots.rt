@@ -1,4 +1,4 @@
-//! The calls that stand for the root of a message that is built, whatever it leads to.
+//! The calls that stand for the root of a message that is built, whatever it points to.
 use crate::calls::arenas::{Words, arena_of, set_text};
 use crate::fixtures::expect;
 use capnp_build::{any_pointer, any_struct, primitive_list, text};
@@ -7,7 +7,7 @@ use capnp_frame::message::ReaderSegments;
 use capnp_frame_tests::errors::allocation_error;
 use std::process::Abort;
 
-// Whether the root is null, and the words of what it leads to.
+// Whether the root is null, and the words of what it points to.
 fn outline(arena: &mut Words) -> Result<(bool, u64)> {
     let root = arena.get_root::<any_pointer::Owned>()?;
     Ok((root.is_null(), root.target_size()?.word_count))

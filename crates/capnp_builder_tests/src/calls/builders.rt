@@ -22,7 +22,7 @@ const HELLO: &[u8] = b"\x01\0\0\0\x72\0\0\0Hello, World!\0\0\0";
 // "Hello, World!" after two words of zeros, where another text was before.
 const SECOND: &[u8] = b"\x05\0\0\0\x72\0\0\0\0\0\0\0\0\0\0\0Hello, World!\0\0\0";
 
-// A far pointer, and the landing pad and text that it leads to.
+// A far pointer, and the landing pad and text that it points to.
 const FAR: &[u8] = b"\x02\0\0\0\x01\0\0\0";
 
 const PADDED: &[u8] = b"\x01\0\0\0\x6a\0\0\0hello world!\0\0\0\0";

@@ -20,7 +20,7 @@ pub passed_kind : {Y : Type 0} {error : Error} {kind : ErrorKind} (result : Resu
 passed_kind (Ok y) is same = absurd is
 passed_kind (Err e) is same = ap (λ (x : Error). x.kind) is ∙ same
 
--- what an offset from a word leads to, if that is in its segment
+-- what an offset from a word points to, if that is in its segment
 abbrev pub OffsetPointsTo : Option ℕ → ℕ → ℕ → Type 0
 OffsetPointsTo found bits word =
     MatchOption found ((start : ℕ) → start + 2 ^ 30 * (bits / 2 ^ 29) ≡ word + 1 + bits → ⊥) (λ start. start + 2 ^ 30 * (bits / 2 ^ 29) ≡ word + 1 + bits)

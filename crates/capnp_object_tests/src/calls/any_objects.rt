@@ -1,4 +1,4 @@
-//! Whatever a pointer leads to, as the view of its kind (encoding document, "Structs" and "Lists").
+//! Whatever a pointer points to, as the view of its kind (encoding document, "Structs" and "Lists").
 use crate::fixtures::{Arena, Numbered, arena_of, expect, root_as};
 use capnp_frame::message::{ReaderSegments, SegmentArray};
 use capnp_wire::any_object;
@@ -12,7 +12,7 @@ enum Kind {
     Numbers,
 }
 
-// Segments, and what their roots lead to: its kind, its data words or its elements, the bits of an
+// Segments, and what their roots point to: its kind, its data words or its elements, the bits of an
 // element of a list of numbers, and the first data word or the last number; or how they fail.
 #[rattlefmt::skip]
 const OBJECTS: [(&[u8], Numbered<(Kind, u32, u32, u64)>); 8] = [
@@ -62,7 +62,7 @@ fn outline<S: ReaderSegments>(view: any_object::Reader<'_, S>) -> (Kind, u32, u3
     }
 }
 
-// What the root leads to, or the number of its error.
+// What the root points to, or the number of its error.
 fn root_outline(arena: &Arena<'_>) -> Numbered<(Kind, u32, u32, u64)> {
     match root_as::<SegmentArray<'_>, Object<'_>>(arena) {
         Ok(view) => Ok(outline(view)),

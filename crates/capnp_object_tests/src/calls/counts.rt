@@ -42,7 +42,7 @@ const OBJECTS: [(&[u8], usize); 19] = [
     (b"\x01\0\0\0\x0f\0\0\0\x0c\0\0\0\0\0\0\0\0\0\0\0\0\0\0\0", 5),
 ];
 
-// What leads to an object: the root pointer, and what is after it up to the object's own pointer.
+// What points to an object: the root pointer, and what is after it up to the object's own pointer.
 // A struct of a pointer, a list of a pointer, a list of a struct of a pointer, and each of these
 // after a landing pad.
 const STRUCT: &[u8] = b"\0\0\0\0\0\0\x01\0";

@@ -1,5 +1,5 @@
 //! Lists of text, of data and of lists by their elements, and elements of each list one by one
-//! (encoding document, "Lists"). Which pointer leads to which list is in `conformance/lists.txt`.
+//! (encoding document, "Lists"). Which pointer points to which list is in `conformance/lists.txt`.
 use crate::fixtures::{Arena, Numbered, arena_of, expect, root_as};
 use capnp_frame::Result;
 use capnp_frame::message::SegmentArray;

@@ -125,7 +125,7 @@ fn are_structs(arena: &Arena<'_>) -> Result<bool> {
     Ok(index == MANY)
 }
 
-// Whether the pointers of a list, or the first ones of its structs, lead to the texts.
+// Whether the pointers of a list, or the first ones of its structs, point to the texts.
 fn are_pointers(arena: &Arena<'_>) -> Result<bool> {
     let pointers: PointerList<'_, SegmentArray<'_>> = root_as(arena)?;
     let texts: ListList<'_, SegmentArray<'_>, text::Reader<'_>> = root_as(arena)?;

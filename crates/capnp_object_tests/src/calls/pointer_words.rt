@@ -1,4 +1,4 @@
-//! What pointer words lead to, by words worked from the encoding document, "Structs", "Lists" and
+//! What pointer words point to, by words worked from the encoding document, "Structs", "Lists" and
 //! "Inter-Segment Pointers".
 use crate::fixtures::expect;
 use capnp_wire::pointer_word::{LocalShape, local_shape};

@@ -105,7 +105,7 @@ fn with_numbers(rt: &impl AllocGlobal, numbers: &[u32]) -> Result<Orphanage> {
     Ok(objects)
 }
 
-// A struct whose pointer leads to a copy of what another message's does.
+// A struct whose pointer points to a copy of what another message's does.
 fn with_copy(rt: &impl AllocGlobal, view: &Pointer<'_, '_>) -> Result<Orphanage> {
     let mut objects = empty(rt)?;
     let copy = objects.set::<any_pointer::Owned, Pointer<'_, '_>>(view)?;
@@ -115,7 +115,7 @@ fn with_copy(rt: &impl AllocGlobal, view: &Pointer<'_, '_>) -> Result<Orphanage>
     Ok(objects)
 }
 
-// What a pointer of another message leads to is copied, a list among it.
+// What a pointer of another message points to is copied, a list among it.
 #[test]
 fn what_a_view_shows_is_copied(rt: HostRuntime) -> Result<()> {
     let others = with_numbers(&rt, &[1, 2, 3])?;

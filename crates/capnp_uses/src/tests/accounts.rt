@@ -7,7 +7,7 @@ use capnp::{ErrorKind, Result};
 // A struct of one data word and one pointer, the number 7, and the text "Alice".
 const ALICE: &[u8] = b"\0\0\0\0\x01\0\x01\0\x07\0\0\0\0\0\0\0\x01\0\0\0\x32\0\0\0Alice\0\0\0";
 
-// A struct of no words; it leads to itself.
+// A struct of no words; it points to itself.
 const NO_FIELDS: &[u8] = b"\xfc\xff\xff\xff\0\0\0\0";
 
 // A list of one byte.

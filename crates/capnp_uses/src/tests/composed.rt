@@ -9,12 +9,12 @@ use capnp::serialize::OwnedSegments;
 use capnp::streams::Format;
 use capnp_frame_tests::messages::has_segments;
 
-// A number, pointers to a text and to a struct of no data words, and what these lead to.
+// A number, pointers to a text and to a struct of no data words, and what these point to.
 #[rattlefmt::skip]
 const PERSON: &[u8] = b"\0\0\0\0\x01\0\x02\0\x09\0\0\0\0\0\0\0\
     \x05\0\0\0\x22\0\0\0\x04\0\0\0\0\0\x01\0Ann\0\0\0\0\0\x01\0\0\0\x2a\0\0\0Bonn\0\0\0\0";
 
-// A number, pointers to two texts and to a list, and what these lead to: the list's tag, two
+// A number, pointers to two texts and to a list, and what these point to: the list's tag, two
 // structs of a word and a pointer each, and their texts.
 #[rattlefmt::skip]
 const CONTACT: &[u8] = b"\0\0\0\0\x01\0\x03\0\x09\0\0\0\0\0\0\0\

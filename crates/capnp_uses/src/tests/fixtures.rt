@@ -11,7 +11,7 @@ use std::process::Abort;
 /// A message that is read.
 pub type Message<'a> = Reader<SegmentArray<'a>>;
 
-/// What the root of such a message leads to.
+/// What the root of such a message points to.
 pub type Source<'a> = any_pointer::Reader<'a, SegmentArray<'a>>;
 
 /// What is found in a case is what is wanted there.

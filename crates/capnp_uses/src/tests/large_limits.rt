@@ -137,7 +137,7 @@ fn data_that_is_set(rt: HostRuntime) -> Result<()> {
     Ok(())
 }
 
-// 40 structs of two pointers, both of which lead to the next struct: a tree of 2^40 - 1 structs,
+// 40 structs of two pointers, both of which point to the next struct: a tree of 2^40 - 1 structs,
 // which a walk enters 4,194,304 times before the default limit of 8,388,608 words is met. In a
 // build with checks (`rt try`) that takes longer than the minute of a test, in one that is proved
 // (`rt test`) a moment.

@@ -5,7 +5,7 @@ use capnp::message::DEFAULT_READER_OPTIONS;
 use capnp::serialize::{self, OwnedSegments};
 use std::test::Fail;
 
-// A message of 24 words: a struct of six pointers, and the lists that these lead to, each of two
+// A message of 24 words: a struct of six pointers, and the lists that these point to, each of two
 // elements: "a" and "bc"; one byte and three; two numbers and one; structs of 5 and 6; 1 and 2 in
 // 16 bits; 7 and 8 in 32.
 #[rattlefmt::skip]

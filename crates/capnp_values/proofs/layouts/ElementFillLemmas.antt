@@ -1,4 +1,4 @@
--- Elements that are put into a block one by one, each with its pointers and what these lead to.
+-- Elements that are put into a block one by one, each with its pointers and what these point to.
 use Rattle.std.proofs.Common.{◌≡◌, ℕ, zero, suc, ◌+◌, ◌-◌, ◌*◌, ◌≤◌, List, [], ◌∷◌, ◌++◌, length, refl, sym, ◌∙◌, ap, arith}
 use Rattle.std.proofs.lemmas.List.Elements.{All-head, All-tail}
 use Rattle.capnp_layout.specs.Prelude.{Trees, none, tree, count, object_size, total_words, first, following, before, pointer, run, body, AllHaveRoom, put, put_data_sections, fill, section_slots}

@@ -1,4 +1,4 @@
--- Lists of structs: the words that are measured of what their elements lead to.
+-- Lists of structs: the words that are measured of what their elements point to.
 use Rattle.std.proofs.Common.{◌≡◌, ℕ, ◌+◌, ◌*◌, ◌<◌, ◌≤◌, ◌^◌, Bool, List, [], ◌∷◌, length, map, drop, Result, Ok, Err, inl, inr, refl, sym, ◌∙◌, ap, subst, arith, get_or}
 use Rattle.std.specs.Prelude.{All}
 use Rattle.std.proofs.Math.Nat.{mul-le-mul_left}

@@ -170,7 +170,7 @@ struct_list_error w h r c d p vs returned error t was elements =
       ];
     }
 
--- what its elements lead to has few words
+-- what its elements point to has few words
 pub elements_few : {V : Type 0} (w : V → List ℕ) (h : V → Trees → Type 0) (r : V → ErrorKind → Type 0) (c : Bool) (d p n : ℕ) → ((v : V) (t : Trees) → h v t → IsSettled p t) → (vs : List V) (words : TreeWords)
     → MeasuresElements w h r c d vs (Ok words) → n ≡ length vs → n * (d + p) < 2 ^ 29 → words.untrimmed + words.output < 2 ^ 59
 elements_few w h r c d p n s vs words elements same few =

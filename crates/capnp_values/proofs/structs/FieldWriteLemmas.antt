@@ -82,7 +82,7 @@ fields_step h hs c slot n m next old mid copied n_is r f before_it own long =
       free_from = λ new put_is new_long. free_after slot copied.next copied.next (copied.pointer ∷ []) mid new put_is new_long after (omega arith) room mid_free;
     }
 
--- the first pointer, with what it leads to, and those after it
+-- the first pointer, with what it points to, and those after it
 fill_first : (c : Bool) (slot m next : ℕ) (form : Form) (children rest : Trees) (block : List ℕ)
     → fill (run slot (suc m)) next (first (suc m) (output c (tree form children rest))) block
     ≡ fill (run (slot + 1) m) (next + part_total c form children) (first m (output c rest))
@@ -110,7 +110,7 @@ fields_written h hs c slot n m next free old mid new last copied n_is own new_is
       omega (arith, others.next_is is.rest is.others, d.next_is, first_total c is.form is.children is.rest t n m is.whole n_is);
 }
 
--- no pointers lead to nothing
+-- no pointers point to nothing
 pub none_fields_written : (h : Trees → Type 0) (c : Bool) (slot n next : ℕ) (block : List ℕ) → n ≡ 0 → AreFieldsWritten h c slot n next block block next
 none_fields_written h c slot n next block n_is =
     let none_there : (t : Trees) → first n (output c t) ≡ none = λ t. ap (λ (k : ℕ). first k (output c t)) n_is in

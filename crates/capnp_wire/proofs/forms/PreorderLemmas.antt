@@ -30,7 +30,7 @@ null_object : (segment : List ℕ) (word : ℕ) (shape : Shape) → slice_get se
 null_object segment word shape here (is_null e) = refl
 null_object segment word shape here (is_object {landing = c} lands w begins is_at) = absurd (null_lands_nowhere (segment ∷ []) (record { segment = 0; word = word }) c here lands)
 
--- an object with a pointer whose offset leads to the next free word
+-- an object with a pointer whose offset points to the next free word
 local_exactly : (segment : List ℕ) (word next tag : ℕ) (form : Form) (children : List Place) (traversed : ℕ) → word < next → next - (word + 1) < 2 ^ 29
     → slice_get segment word ≡ Some tag → 0 < tag → pointer_kind tag < 2 → offset tag ≡ next - (word + 1) → Padded segment next form
     → PointsTo (segment ∷ []) (record { segment = 0; word = word }) (record { form = form; children = children; traversed = traversed }) → Exactly segment next form children (length children)

@@ -1,4 +1,4 @@
--- What a pointer leads to that is copied.
+-- What a pointer points to that is copied.
 use Rattle.std.proofs.Common.{◌≡◌, ℕ, zero, suc, ◌+◌, ◌-◌, ◌*◌, ◌≤◌, Bool, true, false, List, [], ◌∷◌, ◌++◌, ◌<◌, ◌^◌, length, Some, slice_get, refl, sym, ◌∙◌, ap, subst, arith, length-append}
 use Rattle.std.proofs.lemmas.List.{append-nil}
 use Rattle.capnp_layout.specs.Prelude.{words_of, words_from, null, Trees, none, tree, total_words, nothing, places, word_at, is_null as null_there, IsObject, words_in, At, body, run, pointer_to, output, put, fill, section_sizes, section_count, first_section, kept_places, kept_in, slots_of, IsNarrower, output_body_of, pointer_of_body, local_struct_of}
@@ -88,7 +88,7 @@ null_is_copied {m} {place} {gap} {next} {block} c word = record {
       };
 }
 
--- an object's own words are copied, and then what its pointers lead to
+-- an object's own words are copied, and then what its pointers point to
 pub object_begins : {m : List (List ℕ)} {place : Place} {words : List ℕ} {start : Place} {from copied : Body} {nesting : ℕ} {c : Bool} {gap next pointer : ℕ}
     {old mid : List ℕ} (can : CanCopy m (place ∷ []) nesting c next (length old))
     → Opened m words start from copied (nesting - 1) c next (length old) can.trees → mid ≡ put_own words start.word from copied next old → length mid ≡ length old
@@ -109,7 +109,7 @@ object_begins {m} {place} {words} {start} {from} {copied} {nesting} {c} {gap} {n
       };
     }
 
--- a struct's, and then what its pointers lead to, which are consecutive
+-- a struct's, and then what its pointers point to, which are consecutive
 pub struct_begins : {m : List (List ℕ)} {place : Place} {found : LocalStruct} {size : StructSize} {nesting : ℕ} {c : Bool} {gap next following pointer : ℕ} {first : Place} {old mid : List ℕ}
     (can : CanCopy m (place ∷ []) nesting c next (length old)) → IsObject m place (local_struct_of found)
     → Struct size ≡ output_body_of c (words_of found.segment.now) found.start.word (Struct found.size) → size.pointers ≤ found.size.pointers

@@ -1,4 +1,4 @@
--- An object that is copied: its own words, then what its pointers lead to.
+-- An object that is copied: its own words, then what its pointers point to.
 use Rattle.std.proofs.lemmas.List.{append-nil}
 use Rattle.capnp_layout.proofs.pointers.SlotRunLemmas.{AllOf}
 use Rattle.capnp_layout.proofs.layouts.LayoutSizeLemmas.{length-woven, elements_even}

@@ -102,7 +102,7 @@ copies_both {m} {place} {others} {nesting} {c} {slot} {slots} {free} {room} {aft
       );
     }
 
--- How far the copying of what some pointers lead to has come: those that are left can be copied,
+-- How far the copying of what some pointers point to has come: those that are left can be copied,
 -- and then all are copied.
 pub record Copying (m : List (List ℕ)) (words : List ℕ) (nesting : ℕ) (c : Bool) (whole : CopyCursor) (start : ℕ) (old : List ℕ) (cursor : CopyCursor) (free : ℕ) (now : List ℕ) : Type 0 where
   pub can : CanCopyByCursor m words cursor nesting c free (length now)

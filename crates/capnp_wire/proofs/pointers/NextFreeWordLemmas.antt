@@ -1,4 +1,4 @@
--- A pointer leads to the next free word exactly where its word is that of a layout.
+-- A pointer points to the next free word exactly where its word is that of a layout.
 use Rattle.std.proofs.Common.{◌≡◌, ℕ, zero, suc, ◌+◌, ◌-◌, ◌*◌, ◌/◌, ◌^◌, ◌<◌, ◌≤◌, List, [], ◌∷◌, length, refl, sym, ◌∙◌, ap, arith, drop, length-take, length-drop}
 use Rattle.std.specs.Prelude.{◌↔◌}
 use Rattle.capnp_layout.specs.Prelude.{pointer_kind, offset, data_words, pointer_words, code, list_count, words_from, number_of, width, words_for, struct, object_size, Shape, ShapeIsAt, places, elements_from, elements, a_struct, some_numbers, some_pointers, some_structs, struct_pointer, list_pointer, minus_one, pointer, Reaches}

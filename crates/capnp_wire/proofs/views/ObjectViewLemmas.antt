@@ -1,4 +1,4 @@
--- What the view of whatever a pointer leads to shows.
+-- What the view of whatever a pointer points to shows.
 use Rattle.std.proofs.Common.{◌≡◌, ℕ, List, Result, Ok, Err, MatchResult, inl, sym, subst}
 use Rattle.capnp_frame.specs.declared.error.Error.{Error}
 use Rattle.capnp_frame.specs.declared.error.ErrorKind.{ErrorKind}

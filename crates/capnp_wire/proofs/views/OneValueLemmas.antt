@@ -46,7 +46,7 @@ pub measured_found : (h : Trees → Type 0) (r : ErrorKind → Type 0) → IsOne
 measured_found h r one c (Ok others) m words w = ap (λ (n : ℕ). Ok n) (one_measure h r one c others words m w)
 measured_found h r one c (Err error) m words w = absurd (has_or_error h r one c words error.kind w m)
 
--- the tree that a pointer leads to
+-- the tree that a pointer points to
 pub one_there : (o : Option Place) (m : List (List ℕ)) (nesting : ℕ) (limit : Option ℕ) (a b : Trees) → MatchOption o (a ≡ tree null none none) (λ place. TreeAt m place nesting limit a)
     → MatchOption o (b ≡ tree null none none) (λ place. TreeAt m place nesting limit b) → a ≡ b
 one_there None m nesting limit a b x y = x ∙ sym y

@@ -163,7 +163,7 @@ going_ends {segment} {children} {rest} {others} {place} {nesting} {limit} {left}
     (ends_after segment g.front (place ∷ others) g.passes.trees nesting g.traversed next now limit ending
     g.passes.are_at g.passes.shallow g.passes.in_preorder g.passes.trimmed g.passes.after_is g.passes.room g.within there)
 
--- An object is met, and then what its pointers lead to.
+-- An object is met, and then what its pointers point to.
 pub met_passes : {segment : List ℕ} {word nesting : ℕ} {limit left left_after : Option ℕ} {next now after : ℕ} {pointers : PointerSlots} → All (λ w. w < 2 ^ 64) segment → word < next
     → next ≤ length segment
     → MeetsPointers segment (record { segment = 0; word = word }) nesting limit left next now pointers → PassesAt segment (places_in pointers) (nesting - 1) left left_after now after

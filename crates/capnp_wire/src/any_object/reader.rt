@@ -1,4 +1,4 @@
-//! The view of whatever a pointer leads to.
+//! The view of whatever a pointer points to.
 ghost use Rattle.std.specs.Prelude.{MatchResult};
 
 use crate::any_object::Numbers;
@@ -10,8 +10,8 @@ use capnp_frame::Result;
 use capnp_frame::message::ReaderSegments;
 use capnp_layout::object::{Body, Object, words_fit};
 
-/// What a pointer leads to: null, or a view of the kind of object that is there. The object is
-/// counted once against the traversal limit. What its own pointers lead to is counted when they are
+/// What a pointer points to: null, or a view of the kind of object that is there. The object is
+/// counted once against the traversal limit. What its own pointers point to is counted when they are
 /// followed.
 #[derive(Drop)]
 pub enum Reader<'a, S: ReaderSegments> {
@@ -30,7 +30,7 @@ impl<'a, S: ReaderSegments> Reader<'a, S> {
     ghost use Rattle.capnp_wire.specs.Views.{ObjectError};
     ghost use Rattle.capnp_wire.specs.ObjectViews.{IsObjectView};
 
-    // The view of what a pointer leads to.
+    // The view of what a pointer points to.
     fn read(reader: &any_pointer::Reader<'a, S>) -> Result<Reader<'a, S>>
         ensures { let pointer = pointer_of S.segments reader.now in MatchResult result
             (λ view. IsObjectView S.segments pointer view)

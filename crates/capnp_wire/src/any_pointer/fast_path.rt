@@ -1,4 +1,4 @@
-//! Fast paths to what most pointers lead to.
+//! Fast paths to what most pointers point to.
 ghost use Rattle.std.specs.Prelude.{◌≡◌, ◌<◌, ℕ, List, IfSome, Some, slice_get};
 ghost use Rattle.std.specs.Option.{ForSome};
 ghost use Rattle.capnp_layout.specs.Prelude.{words_of, message_of, IsObject};
@@ -30,7 +30,7 @@ pub(crate) enum ObjectKind {
 // (`tools/time-reading`).
 
 impl<'a, S: ReaderSegments> Reader<'a, S> {
-    /// The object of this kind that the pointer leads to without a landing pad, counted against the
+    /// The object of this kind that the pointer points to without a landing pad, counted against the
     /// traversal limit: a fast path. `None` says nothing about what is there, and counts nothing;
     /// then `enter` is asked.
     #[inline(always)]
@@ -69,7 +69,7 @@ impl<'a, S: ReaderSegments> Reader<'a, S> {
     }
 }
 
-// The object of this kind that the pointer at a place of this segment leads to without a landing pad.
+// The object of this kind that the pointer at a place of this segment points to without a landing pad.
 // Speed: the size of numbers is looked at first, so the compiler knows it in the code after that
 // (`tools/time-reading`).
 #[inline(always)]

@@ -47,7 +47,7 @@ impl<'a, S: ReaderSegments> Reader<'a, S> {
         }
     }
 
-    /// Whether the pointer is null, and so leads to no object. Only its own word is read.
+    /// Whether the pointer is null, and so points to no object. Only its own word is read.
     pub fn is_null(&self) -> bool
         ensures { IsTrue result ↔ Denotes (pointer_of S.segments self.now) nothing }
     {
@@ -60,7 +60,7 @@ impl<'a, S: ReaderSegments> Reader<'a, S> {
         }
     }
 
-    /// The size of the object that the pointer leads to, with all below it, without the landing
+    /// The size of the object that the pointer points to, with all below it, without the landing
     /// pads of far pointers.
     ///
     /// Fails where the walk over these objects stops: with the error of a view of one of them, or
@@ -79,7 +79,7 @@ impl<'a, S: ReaderSegments> Reader<'a, S> {
         self.measure()
     }
 
-    // The size of all that the pointer leads to.
+    // The size of all that the pointer points to.
     fn measure(&self) -> Result<MessageSize>
         ensures returned { let pointer = pointer_of S.segments self.now in MatchResult result
             (λ size. Measures pointer size.word_count × (size.cap_count ≡ 0))
@@ -103,7 +103,7 @@ impl<'a, S: ReaderSegments> Reader<'a, S> {
         }
     }
 
-    /// The object that the pointer leads to, as a view that borrows it from the segments.
+    /// The object that the pointer points to, as a view that borrows it from the segments.
     ///
     /// Fails with `InvalidSegmentId`, `PointerOutOfBounds`, `CapabilityRefused` or
     /// `WrongPointerKind` where no object is there; with `NestingLimitExceeded` where the object is
@@ -147,7 +147,7 @@ impl<'a, S: ReaderSegments> Reader<'a, S> {
         }
     }
 
-    /// Counts the object that the pointer leads to against the traversal limit, and returns it;
+    /// Counts the object that the pointer points to against the traversal limit, and returns it;
     /// `None` for null.
     pub(crate) fn enter(&self) -> Result<Option<Object<'a>>>
         ensures found { let pointer = pointer_of S.segments self.now in

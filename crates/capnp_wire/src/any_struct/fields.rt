@@ -43,7 +43,7 @@ impl<'a, S: ReaderSegments> StructReader<'a, S> {
         !self.get_pointer(index).is_null()
     }
 
-    /// The view of what a pointer leads to, or the default where the pointer is null.
+    /// The view of what a pointer points to, or the default where the pointer is null.
     ///
     /// Fails as `any_pointer::Reader::get_as` does of a pointer that isn't null.
     pub fn get_pointer_or<T: FromPointerReader<'a, S> + Drop>(

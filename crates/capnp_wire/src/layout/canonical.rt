@@ -24,7 +24,7 @@ pub(crate) struct CanonicalWalk {
     next: usize,
 }
 
-/// What a pointer leads to: null; an object that isn't canonical; or an object that is canonical by
+/// What a pointer points to: null; an object that isn't canonical; or an object that is canonical by
 /// itself, with its pointers, which are still to be tested.
 #[derive(Drop)]
 pub(crate) enum Met {
@@ -52,7 +52,7 @@ impl CanonicalWalk {
         self.next
     }
 
-    /// Whether the object that the pointer at a word leads to, and all below it, are laid out as in
+    /// Whether the object that the pointer at a word points to, and all below it, are laid out as in
     /// canonical form, from the next free word on. It goes in preorder, and stops at the first
     /// object that isn't canonical, or at the first error.
     #[inline(always)]
@@ -92,7 +92,7 @@ impl CanonicalWalk {
         }
     }
 
-    // Tests all objects that these pointers lead to.
+    // Tests all objects that these pointers point to.
     // Speed: the recursion goes through this call, and all else is inlined (workload `canon`).
     #[inline(never)]
     #[cycle(testing)]
@@ -125,8 +125,8 @@ impl CanonicalWalk {
         Ok(true)
     }
 
-    // Enters the object that the pointer at a word leads to, and tests it alone.
-    // Speed: what most pointers lead to is found in the segment in hand (workload `canon`).
+    // Enters the object that the pointer at a word points to, and tests it alone.
+    // Speed: what most pointers point to is found in the segment in hand (workload `canon`).
     #[inline(always)]
     fn visit<S: ReaderSegments>(
         &mut self,
@@ -183,7 +183,7 @@ impl CanonicalWalk {
         self.enter(segment, pointer, word, &object)
     }
 
-    // Enters an object that the pointer at a word leads to, and tests it alone.
+    // Enters an object that the pointer at a word points to, and tests it alone.
     #[inline(always)]
     fn enter(
         &mut self,

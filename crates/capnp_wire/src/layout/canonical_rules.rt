@@ -10,7 +10,7 @@ use capnp_layout::object::{Body, Object};
 use capnp_layout::place::word;
 use capnp_layout::pointer::{Elements, Offset, list_count};
 
-/// Whether the pointer at a word leads to the next free word.
+/// Whether the pointer at a word points to the next free word.
 #[inline(always)]
 pub(crate) fn is_next(pointer: u64, word: usize, next: usize, body: Body) -> bool
     requires { word < next }

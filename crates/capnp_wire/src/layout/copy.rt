@@ -39,7 +39,7 @@ pub(crate) struct Destination {
     pub next: usize,
 }
 
-/// Copies the object that the pointer at a place leads to, with all below it, into a block.
+/// Copies the object that the pointer at a place points to, with all below it, into a block.
 #[inline(always)]
 pub(crate) fn copy<S: ReaderSegments, T: BlockItem>(
     source: &CopySource<'_, S>,
@@ -74,7 +74,7 @@ pub(crate) fn copy<S: ReaderSegments, T: BlockItem>(
 }
 
 // Copies from the segment of the pointer.
-// Speed: always inlined, so what most pointers lead to needs no call (workload `canon`); the
+// Speed: always inlined, so what most pointers point to needs no call (workload `canon`); the
 // recursion goes through `copy_object` and `copy_run`, which are not inlined.
 #[inline(always)]
 #[cycle(copy)]
@@ -131,7 +131,7 @@ pub(crate) fn copy_target<S: ReaderSegments, T: BlockItem>(
     }
 }
 
-// Copies what the pointer leads to, of any kind.
+// Copies what the pointer points to, of any kind.
 #[inline(never)]
 #[cycle(copy)]
 fn copy_object<S: ReaderSegments, T: BlockItem>(

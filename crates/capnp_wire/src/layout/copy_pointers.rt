@@ -1,4 +1,4 @@
-//! Copies of what the pointers of an object lead to, slot by slot.
+//! Copies of what the pointers of an object point to, slot by slot.
 ghost use Rattle.std.specs.Prelude.{◌≡◌, ◌≢◌, ◌+◌, ◌/◌, ◌^◌, ◌<◌, ◌≤◌, [], length, slice_get, Some};
 ghost use Rattle.capnp_layout.specs.Prelude.{words_of, message_of, places, room_of, words_in, run, section_sizes, kept_in, slots_of, places_in, slots_in, IsNarrower};
 ghost use Rattle.capnp_wire.specs.Copy.{CanCopy, CanCopyByCursor, CopiesAll};
@@ -10,7 +10,7 @@ use capnp_layout::block::{BlockItem, put_word};
 use capnp_layout::object::{Body, Object, words_fit};
 use capnp_layout::place::Place;
 
-/// Copies what the pointers of an object lead to, one after the other, to the words after the
+/// Copies what the pointers of an object point to, one after the other, to the words after the
 /// object's own copy, which begins at the word `next`, and puts the pointers to these copies into
 /// that copy. Returns the first free word.
 #[inline(always)]
@@ -59,7 +59,7 @@ pub(crate) fn copy_pointers<S: ReaderSegments, T: BlockItem>(
     copy_by_cursor(source, object.segment, cursor, nesting, block, free)
 }
 
-/// Copies what these pointers of a segment lead to, one after the other from the word `next` on,
+/// Copies what these pointers of a segment point to, one after the other from the word `next` on,
 /// and puts the pointers to these copies into their slots. Returns the first free word.
 #[inline(always)]
 #[cycle(copy)]
@@ -98,7 +98,7 @@ pub(crate) fn copy_by_cursor<S: ReaderSegments, T: BlockItem>(
     free
 }
 
-// Copies what this many consecutive pointers lead to, whose slots are consecutive, too.
+// Copies what this many consecutive pointers point to, whose slots are consecutive, too.
 // Speed: each argument is a scalar; with the pointers and slots as one struct, this function takes
 // 5 % more instructions (workload `canon`).
 #[inline(never)]

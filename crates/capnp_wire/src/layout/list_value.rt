@@ -39,7 +39,7 @@ pub(crate) fn measure<S: ReaderSegments>(
     checked_walk(walk.words(), canonical)
 }
 
-// Walks over all objects that the pointers of a list lead to, and finds their segment first.
+// Walks over all objects that the pointers of a list point to, and finds their segment first.
 fn walk_list<S: ReaderSegments>(
     walk: &mut Walk,
     segments: &S,

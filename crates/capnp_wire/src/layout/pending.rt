@@ -33,7 +33,7 @@ pub(crate) enum StructCopy {
     Pending(PendingPointers),
 }
 
-/// The pointer to a copy, and what is left to copy: what this many consecutive pointers lead to,
+/// The pointer to a copy, and what is left to copy: what this many consecutive pointers point to,
 /// whose slots are consecutive, too. It goes from the word `next` on.
 #[derive(Clone, Copy)]
 pub(crate) struct PendingPointers {
@@ -44,7 +44,7 @@ pub(crate) struct PendingPointers {
     pub next: usize,
 }
 
-/// Begins the copy of the object that the pointer at a place of this segment leads to; `None` for
+/// Begins the copy of the object that the pointer at a place of this segment points to; `None` for
 /// null.
 #[inline(always)]
 pub(crate) fn begin<'a, S: ReaderSegments, T: BlockItem>(

@@ -13,7 +13,7 @@ use capnp_layout::place::Place;
 use capnp_layout::pointer_run::PointerRun;
 
 impl Walk {
-    /// Enters the object that the pointer at a place of this segment leads to, and nothing below
+    /// Enters the object that the pointer at a place of this segment points to, and nothing below
     /// it; `None` for null.
     #[inline(always)]
     pub(crate) fn visit<'a, S: ReaderSegments>(

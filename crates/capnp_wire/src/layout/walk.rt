@@ -1,4 +1,4 @@
-//! Walks over all objects that a pointer leads to.
+//! Walks over all objects that a pointer points to.
 ghost use Rattle.std.specs.Prelude.{◌≡◌, ◌≢◌, ◌+◌, ◌-◌, ◌/◌, ◌^◌, ◌<◌, ◌≤◌, [], ◌∷◌, length, slice_get, Some, IfErr, IfOk, OnOk, MatchOption};
 ghost use Rattle.capnp_frame.specs.declared.error.ErrorKind.{ErrorKind};
 ghost use Rattle.capnp_layout.specs.Prelude.{words_of, message_of, places, room_of, words_in, Within, IsPastLimit, less, WalkError, output_body_of, segment_of, places_in};
@@ -101,7 +101,7 @@ impl Walk {
         self.overflowed |= overflows;
     }
 
-    /// Enters the object that the pointer at a place leads to, where it may be entered at this
+    /// Enters the object that the pointer at a place points to, where it may be entered at this
     /// nesting depth, and all below it, in preorder. It stops at the first error.
     #[inline(always)]
     pub(crate) fn walk<S: ReaderSegments>(
@@ -144,7 +144,7 @@ impl Walk {
         self.walk_run(segments, segment, place, 1, nesting, canonical)
     }
 
-    // Walks over what a pointer of this segment leads to, of any kind.
+    // Walks over what a pointer of this segment points to, of any kind.
     #[inline(never)]
     #[cycle(walk)]
     fn walk_object<S: ReaderSegments>(
@@ -175,7 +175,7 @@ impl Walk {
         )
     }
 
-    /// Walks over all objects that these pointers of a segment lead to.
+    /// Walks over all objects that these pointers of a segment point to.
     ///
     /// Speed: always inlined; `walk_object` and `walk_run` recurse (workload `canon`).
     #[inline(always)]
@@ -229,7 +229,7 @@ impl Walk {
         Ok(())
     }
 
-    // Takes these pointers one by one, and walks over what each leads to, until one leads to a
+    // Takes these pointers one by one, and walks over what each points to, until one points to a
     // struct with pointers that aren't null: that struct is entered, and its pointers are returned,
     // to be walked over next. `None` once no pointer is left.
     #[inline(always)]
@@ -258,7 +258,7 @@ impl Walk {
     {
         'pointers: while !pointers.is_empty() {
             let place = pointers.take();
-            // Speed: what most pointers lead to needs no call (`tools/time-building`).
+            // Speed: what most pointers point to needs no call (`tools/time-building`).
             if let Some(_) = null_or_empty_struct(segment, place.word, nesting) {
                 continue 'pointers;
             }
@@ -276,7 +276,7 @@ impl Walk {
         Ok(None)
     }
 
-    // Walks over what this many consecutive pointers lead to.
+    // Walks over what this many consecutive pointers point to.
     // Speed: each argument is a scalar; with the pointers as one struct, walks take 2 % more
     // instructions (workload `roots`).
     #[inline(never)]

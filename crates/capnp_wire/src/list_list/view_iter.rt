@@ -20,7 +20,7 @@ pub struct ViewIter<'l, L, T> {
 }
 
 impl<'l, L: IndexMove, T> ViewIter<'l, L, T> {
-    /// The elements that these pointers lead to.
+    /// The elements that these pointers point to.
     pub fn new(pointers: &'l L) -> ViewIter<'l, L, T>
         ensures { IsIterator pointers.now result.pointers }
     {

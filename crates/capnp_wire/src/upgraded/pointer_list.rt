@@ -47,7 +47,7 @@ impl<'a, S: ReaderSegments> PointerList<'a, S> {
         self.count
     }
 
-    /// The pointer at this index, which must be below `len`; `try_get` takes any. What it leads to
+    /// The pointer at this index, which must be below `len`; `try_get` takes any. What it points to
     /// is counted against the traversal limit when it is followed.
     pub fn get(&self, index: u32) -> any_pointer::Reader<'a, S>
         requires { index < length (upgraded_pointers_of S.segments self.now).children }

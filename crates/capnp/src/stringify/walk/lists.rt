@@ -148,7 +148,7 @@ impl<'r, 'a, S: ReaderSegments> Walk<'r, 'a, S> {
         }
     }
 
-    /// Adds what the next pointer of a list leads to, or the end of the list.
+    /// Adds what the next pointer of a list points to, or the end of the list.
     ///
     /// Fails only where memory is lacking.
     pub(super) fn push_next_pointer(

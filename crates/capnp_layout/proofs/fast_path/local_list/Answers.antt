@@ -1,4 +1,4 @@
--- A pointer leads to a list of numbers in its segment where there is room for the list.
+-- A pointer points to a list of numbers in its segment where there is room for the list.
 use Rattle.std.proofs.Common.{◌+◌, ◌/◌, ◌≤◌, length, refl, sym, arith}
 use Rattle.capnp_layout.specs.Prelude.{words_of, code_of, width, words_for}
 use Rattle.capnp_layout.proofs.pointers.LocalObjectLemmas.{word_there, number_list_is_at}

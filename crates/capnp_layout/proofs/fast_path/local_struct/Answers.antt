@@ -1,4 +1,4 @@
--- A pointer leads to a struct in its segment where there is room for the struct.
+-- A pointer points to a struct in its segment where there is room for the struct.
 use Rattle.std.proofs.Common.{◌+◌, ◌/◌, ◌≤◌, length, sym, arith}
 use Rattle.capnp_layout.specs.Prelude.{words_of}
 use Rattle.capnp_layout.proofs.pointers.LocalObjectLemmas.{word_there, struct_is_at_local}

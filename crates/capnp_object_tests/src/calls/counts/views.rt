@@ -149,7 +149,7 @@ fn at_pointer<'a, T: FromPointerReader<'a, Segments<'a>> + Drop>(pointer: &Point
     [first, second, is_limited(pointer.get_as::<T>())]
 }
 
-// As elements of lists, and else as what a pointer leads to.
+// As elements of lists, and else as what a pointer points to.
 fn pointer_views<'a, T: FromPointerReader<'a, Segments<'a>> + Drop>(
     arena: &'a Arena<'a>,
     root: Root,

@@ -1,4 +1,4 @@
-//! What made getters count against the traversal limit: the words of what leads to a struct once,
+//! What made getters count against the traversal limit: the words of what points to a struct once,
 //! and those of what a getter views each time.
 use crate::addressbook_capnp::person::phone_number;
 use crate::addressbook_capnp::{address_book, person};

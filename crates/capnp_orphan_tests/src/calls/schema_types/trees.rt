@@ -11,7 +11,7 @@ enum Branch {
     Node(Box<Branch>, i64, Box<Branch>),
 }
 
-/// The same tree in a message: children first, then the node that leads to them.
+/// The same tree in a message: children first, then the node that points to them.
 fn written(objects: &mut Orphanage, branch: &Branch) -> Result<Orphan<tree::Owned>> {
     match branch {
         Branch::None => Ok(Orphan::null()),

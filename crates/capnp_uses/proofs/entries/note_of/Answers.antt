@@ -1,4 +1,4 @@
--- The note is what the pointer of the element leads to.
+-- The note is what the pointer of the element points to.
 use Rattle.std.proofs.Common.{◌∙◌, ap, subst, MatchResult}
 use Rattle.capnp_wire.specs.Prelude.{IsText, Reads, ViewError, TextFormError, pointer_in}
 use Rattle.capnp_uses.proofs.entries.note_of.Goals as goal

@@ -1,4 +1,4 @@
--- The value's tree is the one that the pointer leads to.
+-- The value's tree is the one that the pointer points to.
 use Rattle.capnp_wire.specs.Prelude.{pointer_of}
 use Rattle.capnp_uses.proofs.SetTreeLemmas.{set_as}
 use Rattle.capnp_uses.proofs.setting.set_tree.Goals as goal

@@ -1,4 +1,4 @@
--- The words of what the structs so far lead to.
+-- The words of what the structs so far point to.
 use Rattle.capnp_values.proofs.struct_lists.ElementMeasureLemmas.{ElementsMeasured}
 use Rattle.capnp_values.proofs.struct_elements.measure_elements.Given as goal
 

@@ -1,4 +1,4 @@
--- The words of what the structs so far lead to.
+-- The words of what the structs so far point to.
 use Rattle.std.proofs.Common.{false}
 use Rattle.capnp_values.proofs.struct_lists.ElementMeasureLemmas.{ElementsMeasured}
 use Rattle.capnp_values.proofs.struct_elements.untrimmed_elements.Given as goal

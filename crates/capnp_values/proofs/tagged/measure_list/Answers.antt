@@ -1,4 +1,4 @@
--- A list of structs has a tag, its elements and what these lead to.
+-- A list of structs has a tag, its elements and what these point to.
 use Rattle.std.proofs.Common.{rules, ◌≡◌, ◌+◌, ◌*◌, ◌∙◌, ℕ, Err, Result, map, subst, sym, ap}
 use Rattle.capnp_frame.specs.declared.error.Error.{Error}
 use Rattle.capnp_values.specs.Measured.{MeasuresValue}

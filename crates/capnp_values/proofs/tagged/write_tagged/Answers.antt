@@ -1,4 +1,4 @@
--- The tag, the elements, and then what these lead to.
+-- The tag, the elements, and then what these point to.
 use Rattle.std.proofs.Common.{◌≡◌, ◌+◌, ◌-◌, ◌*◌, ◌∷◌, [], ◌∙◌, ℕ, List, length, subst, ap, arith}
 use Rattle.capnp_layout.specs.Prelude.{words_of, put, list_pointer, struct_pointer}
 use Rattle.capnp_layout.proofs.words.WordByteLemmas.{length-words_of}

@@ -1,4 +1,4 @@
--- An object is copied, and then what its pointers lead to, one after the other.
+-- An object is copied, and then what its pointers point to, one after the other.
 use Rattle.std.proofs.Common.{arith}
 use Rattle.capnp_wire.proofs.layouts.TreesCopyLemmas.{copying_first, copying_next, copying_ends}
 use Rattle.capnp_wire.proofs.layouts.CopiedTargetLemmas.{copyable}

@@ -1,4 +1,4 @@
--- How far the copying of what an object's pointers lead to has come.
+-- How far the copying of what an object's pointers point to has come.
 use Rattle.std.proofs.Common.{◌+◌, ◌*◌, length}
 use Rattle.capnp_layout.specs.Prelude.{words_of, message_of, places_in}
 use Rattle.capnp_wire.proofs.layouts.TreesCopyLemmas.{Copying}

@@ -1,4 +1,4 @@
--- The landing pad leads to the body, and the root's word to the landing pad.
+-- The landing pad points to the body, and the root's word to the landing pad.
 use Rattle.std.proofs.Common.{◌-◌, ◌*◌, ◌∙◌, length, ap, sym, arith}
 use Rattle.capnp_build.specs.Prelude.{BuilderState}
 use Rattle.capnp_build.proofs.states.StayingBytesLemmas.{kept_past, kept_before}

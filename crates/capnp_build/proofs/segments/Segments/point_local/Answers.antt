@@ -1,4 +1,4 @@
--- The root's word leads to the body.
+-- The root's word points to the body.
 use Rattle.std.proofs.Common.{length, w64, ap, sym, ◌∙◌, arith}
 use Rattle.std.specs.Int.{to_le_bytes}
 use Rattle.capnp_layout.specs.Prelude.{count}

@@ -1,4 +1,4 @@
--- The pointers, and then what they lead to.
+-- The pointers, and then what they point to.
 use Rattle.std.proofs.Common.{◌+◌, ◌-◌, ◌∙◌, ℕ, length, sym, ap, arith}
 use Rattle.capnp_layout.specs.Prelude.{words_of, list_pointer}
 use Rattle.capnp_wire.proofs.layouts.FreeBlockLemmas.{free_later}

@@ -1,4 +1,4 @@
--- A null pointer leads to no words.
+-- A null pointer points to no words.
 use Rattle.std.proofs.Common.{Ok}
 use Rattle.capnp_wire.proofs.views.OneValueLemmas.{measured_found, measured_exactly}
 use Rattle.capnp_values.proofs.values.NullValueLemmas.{IsNull, null_has, one_null}

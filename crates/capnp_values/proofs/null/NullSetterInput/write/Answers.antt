@@ -1,4 +1,4 @@
--- A null pointer leads to no words.
+-- A null pointer points to no words.
 use Rattle.std.proofs.Common.{◌-◌, ◌∙◌, sym}
 use Rattle.capnp_wire.proofs.layouts.FreeBlockLemmas.{null_copied, tree_body_long}
 use Rattle.capnp_values.proofs.values.NullValueLemmas.{IsNull}

@@ -1,4 +1,4 @@
--- A struct is its own words, and what its pointers lead to.
+-- A struct is its own words, and what its pointers point to.
 use Rattle.std.proofs.Common.{◌+◌, ◌-◌, arith}
 use Rattle.capnp_layout.specs.Prelude.{words_of}
 use Rattle.capnp_wire.proofs.layouts.FreeBlockLemmas.{free_later}

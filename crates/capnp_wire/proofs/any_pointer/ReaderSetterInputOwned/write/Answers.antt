@@ -1,4 +1,4 @@
--- A pointer leads to one tree.
+-- A pointer points to one tree.
 use Rattle.capnp_wire.specs.Prelude.{pointer_of, PointsToTree}
 use Rattle.capnp_wire.proofs.layouts.FreeBlockLemmas.{tree_body_long}
 use Rattle.capnp_wire.proofs.views.OneValueLemmas.{one_of_pointer}

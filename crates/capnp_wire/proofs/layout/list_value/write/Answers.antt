@@ -1,4 +1,4 @@
--- A list of pointers has no other words, so what they lead to is all that is copied.
+-- A list of pointers has no other words, so what they point to is all that is copied.
 use Rattle.std.proofs.Common.{◌-◌, ◌+◌, ℕ, sym, refl, ap, subst}
 use Rattle.capnp_layout.specs.Prelude.{words_of, pointers, Trees, message_of, places, run, output}
 use Rattle.capnp_wire.specs.Prelude.{IsCopied}

@@ -1,4 +1,4 @@
--- A tree is after its landing pad, and the root leads to it.
+-- A tree is after its landing pad, and the root points to it.
 use Rattle.std.proofs.Common.{ℕ, ◌≡◌, ◌+◌, ◌*◌, ◌<◌, ◌≤◌, length, replicate, ap, sym, subst, ◌∙◌, arith}
 use Rattle.std.proofs.lemmas.List.{length-replicate}
 use Rattle.capnp_build.specs.Prelude.{space_at, KeepsOthers, size_in_words, Built, state_of, KeepsBytes}

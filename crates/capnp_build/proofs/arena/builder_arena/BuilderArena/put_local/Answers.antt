@@ -1,4 +1,4 @@
--- A tree is after the used words of the first segment, and the root leads to it.
+-- A tree is after the used words of the first segment, and the root points to it.
 use Rattle.std.proofs.Common.{◌≡◌, ◌<◌, length, Option, Some, None, ap, sym, subst, ◌∙◌, arith}
 use Rattle.capnp_build.specs.Prelude.{space_at, KeepsOthers, size_in_words, Built, state_of, IsBuilt, KeepsBytes, IsAtEnd}
 use Rattle.capnp_build.specs.declared.arena.location.RootLocation.{RootLocation}

@@ -1,4 +1,4 @@
--- No pointers lead to nothing.
+-- No pointers point to nothing.
 use Rattle.std.proofs.Common.{ap, arith}
 use Rattle.capnp_layout.specs.Prelude.{count}
 use Rattle.capnp_values.proofs.structs.FieldWriteLemmas.{none_fields_written}

@@ -1,4 +1,4 @@
--- What a pointer leads to is entered once it is counted against the traversal limit; the call fails
+-- What a pointer points to is entered once it is counted against the traversal limit; the call fails
 -- where no object is there or the limit is met.
 use Rattle.std.proofs.Common.{inl, inr}
 use Rattle.std.proofs.lemmas.Result.{err_from_is_err_and}

@@ -1,4 +1,4 @@
--- A walk tests an object, and then what its pointers lead to.
+-- A walk tests an object, and then what its pointers point to.
 use Rattle.std.proofs.Common.{◌≤◌, ◌-◌, ◌∙◌, length, arith}
 use Rattle.capnp_layout.specs.Prelude.{words_of, places_in}
 use Rattle.capnp_layout.proofs.words.WordByteLemmas.{length-words_of}
