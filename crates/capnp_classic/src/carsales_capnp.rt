@@ -1,9 +1,9 @@
 //! Types of `carsales.capnp`, made by `capnpc-rattle`: change that file, and make them again.
 ghost use Rattle.std.specs.Prelude.{◌≡◌, ◌≤◌, ◌<◌, ◌==◌, ◌↔◌, ◌≢◌, if◌then◌else◌, IfOk, IsTrue, from_bits, to_bits, length, map, replicate, slice_index_or, slice_set};
 ghost use Rattle.std.specs.Float.{binary32};
-ghost use Rattle.capnp_orphans.specs.Adding.{Adds, AddsRoot, Fails, Writes};
-ghost use Rattle.capnp_orphans.specs.Copied.{words_in, Copies};
-ghost use Rattle.capnp_orphans.specs.Held.{word_of, HoldsStruct, HoldsStructs, TakesStruct as StructWords, TakesStructs, ExceedsPointer, ManyStructs};
+ghost use Rattle.capnp_orphans.specs.Adding.{AddsOrphan, AddsRoot, FailsToAdd, Writes};
+ghost use Rattle.capnp_orphans.specs.Copied.{data_up_to, CopiesPointers};
+ghost use Rattle.capnp_orphans.specs.Holds.{word_of, HoldsStruct, HoldsStructs, TakesStructWords as StructWords, TakesStructsWords, StructSizeError, ManyStructs};
 ghost use Rattle.capnp_orphans.specs.Segments.{body_of};
 ghost use Rattle.capnp_values.specs.DataSections.{with_field};
 ghost use Rattle.capnp_wire.specs.Fields.{field};
@@ -12,9 +12,9 @@ ghost use Rattle.capnp_wire.specs.Lists.{FindsElement, IsIterator};
 ghost use Rattle.capnp_wire.specs.Object.{nothing};
 ghost use Rattle.capnp_wire.specs.Readers.{struct_of, pointer_of};
 ghost use Rattle.capnp_wire.specs.UpgradedReaders.{upgraded_structs_of};
-ghost use Rattle.capnp_wire.specs.UpgradedValues.{IsStructListValue, RefusesStructList, one_struct_list};
-ghost use Rattle.capnp_wire.specs.UpgradedViews.{IsUpgradedStructs, TakesRows, DeclinesRows};
-ghost use Rattle.capnp_wire.specs.Views.{Struct, IsViewOf, IsStruct, IsText, Accepts, Refuses, Declines, Denotes, Reads, TakesStruct, TakesText, DeclinesStruct, DeclinesText, pointer_in};
+ghost use Rattle.capnp_wire.specs.UpgradedValues.{IsStructListValue, StructListValueError, one_struct_list};
+ghost use Rattle.capnp_wire.specs.UpgradedViews.{IsUpgradedStructs, TakesAsStructs, ElementsFormError};
+ghost use Rattle.capnp_wire.specs.Views.{Struct, IsViewOf, IsStruct, IsText, Accepts, ViewError, FormError, Denotes, Reads, TakesStruct, TakesText, StructFormError, TextFormError, pointer_in};
 
 pub mod parking_lot {
     use capnp_frame::Result;
@@ -45,8 +45,8 @@ pub mod parking_lot {
                 let pointer = pointer_in fields 0 in
                 IsViewOf pointer
                 (λ view. IsUpgradedStructs pointer (upgraded_structs_of S.segments view.elements))
-                (Accepts pointer TakesRows) (Refuses pointer DeclinesRows)
-                (Declines pointer DeclinesRows) result }
+                (Accepts pointer TakesAsStructs) (ViewError pointer ElementsFormError)
+                (FormError pointer ElementsFormError) result }
         {
             match self.fields.get_pointer_as(0) {
                 Ok(elements) => Ok(super::car::ListReader { elements }),
@@ -68,16 +68,16 @@ pub mod parking_lot {
 
         ghost accepts = { λ pointer. Accepts pointer TakesStruct };
 
-        ghost refuses = { λ pointer kind. Refuses pointer DeclinesStruct kind };
+        ghost fails = { λ pointer kind. ViewError pointer StructFormError kind };
 
-        ghost declines = { λ pointer kind. Declines pointer DeclinesStruct kind };
+        ghost form_error = { λ pointer kind. FormError pointer StructFormError kind };
 
         #[inline(always)]
         fn get_from_pointer(reader: any_pointer::Reader<'a, S>) -> Result<Self>
             ensures { let pointer = pointer_of S.segments reader.entry in IsViewOf pointer
                 (λ view. IsStruct pointer (struct_of S.segments view.fields))
-                (Accepts pointer TakesStruct) (Refuses pointer DeclinesStruct)
-                (Declines pointer DeclinesStruct) result }
+                (Accepts pointer TakesStruct) (ViewError pointer StructFormError)
+                (FormError pointer StructFormError) result }
         {
             match StructReader::get_from_pointer(reader) {
                 Ok(fields) => Ok(Reader { fields }),
@@ -96,14 +96,14 @@ pub mod parking_lot {
     impl<'a, S: ReaderSegments> ListReader<'a, S> {
         /// The number of elements.
         pub fn len(&self) -> u32
-            ensures { result ≡ length (upgraded_structs_of S.segments self.now.elements).rows }
+            ensures { result ≡ length (upgraded_structs_of S.segments self.now.elements).elements }
         {
             self.elements.len()
         }
 
         /// The element of this index.
         pub fn get(&self, index: u32) -> Reader<'a, S>
-            requires { index < length (upgraded_structs_of S.segments self.now.elements).rows }
+            requires { index < length (upgraded_structs_of S.segments self.now.elements).elements }
             ensures { struct_of S.segments result.fields
                 ≡ element_of (upgraded_structs_of S.segments self.now.elements) index }
         {
@@ -115,7 +115,7 @@ pub mod parking_lot {
         /// The element of this index, or `None` where there are no more elements than it.
         pub fn try_get(&self, index: u32) -> Option<Reader<'a, S>>
             ensures { let list = upgraded_structs_of S.segments self.now.elements in
-                FindsElement (length list.rows) index
+                FindsElement (length list.elements) index
                 (λ item. struct_of S.segments item.fields ≡ element_of list index) result }
         {
             self.try_index_move(index)
@@ -136,7 +136,7 @@ pub mod parking_lot {
 
         ghost seen = { λ item. struct_of S.segments item.fields };
 
-        ghost size = { λ list. length (upgraded_structs_of S.segments list.elements).rows };
+        ghost size = { λ list. length (upgraded_structs_of S.segments list.elements).elements };
 
         ghost element = { λ list index.
             element_of (upgraded_structs_of S.segments list.elements) index };
@@ -166,17 +166,17 @@ pub mod parking_lot {
         ghost shows = { λ pointer view.
             IsUpgradedStructs pointer (upgraded_structs_of S.segments view.elements) };
 
-        ghost accepts = { λ pointer. Accepts pointer TakesRows };
+        ghost accepts = { λ pointer. Accepts pointer TakesAsStructs };
 
-        ghost refuses = { λ pointer kind. Refuses pointer DeclinesRows kind };
+        ghost fails = { λ pointer kind. ViewError pointer ElementsFormError kind };
 
-        ghost declines = { λ pointer kind. Declines pointer DeclinesRows kind };
+        ghost form_error = { λ pointer kind. FormError pointer ElementsFormError kind };
 
         fn get_from_pointer(reader: any_pointer::Reader<'a, S>) -> Result<Self>
             ensures { let pointer = pointer_of S.segments reader.entry in IsViewOf pointer
                 (λ view. IsUpgradedStructs pointer (upgraded_structs_of S.segments view.elements))
-                (Accepts pointer TakesRows) (Refuses pointer DeclinesRows)
-                (Declines pointer DeclinesRows) result }
+                (Accepts pointer TakesAsStructs) (ViewError pointer ElementsFormError)
+                (FormError pointer ElementsFormError) result }
         {
             match upgraded::StructList::get_from_pointer(reader) {
                 Ok(elements) => Ok(ListReader { elements }),
@@ -196,7 +196,7 @@ pub mod parking_lot {
     impl<'a, S: ReaderSegments> traits::SetterInput<OwnedList> for ListReader<'a, S> {
         ghost has_tree = { λ list trees. IsStructListValue S.segments list.elements trees };
 
-        ghost refuses = { λ list kind. RefusesStructList S.segments list.elements kind };
+        ghost fails = { λ list kind. StructListValueError S.segments list.elements kind };
 
         ghost one = { λ list trees is. one_struct_list S.segments list.elements trees is };
 
@@ -222,7 +222,7 @@ pub mod parking_lot {
     /// A struct of this type before it is written. What is not set has its default.
     #[derive(Clone, Copy)]
     pub struct Builder {
-        /// Its data words, and what its pointers lead to.
+        /// Its data words, and what its pointers point to.
         pub draft: StructDraft<Owned, 0, 1>,
     }
 
@@ -237,12 +237,12 @@ pub mod parking_lot {
             }
         }
 
-        /// One of what a reader shows, to be changed and written again. What its pointers lead to is
+        /// One of what a reader shows, to be changed and written again. What its pointers point to is
         /// copied, each object as an orphan, and null stays null. What a writer of another version of
         /// the type left out is zero and null, and what it had beyond this one is left out.
         ///
         /// What a setter replaces after that was copied, and stays in the bytes of the message, where no
-        /// pointer leads to it. Canonical words of the message are without it.
+        /// pointer points to it. Canonical words of the message are without it.
         ///
         /// It fails as `Orphanage::set` of the first pointer does that can't be copied.
         pub fn from_reader<R: ReaderSegments, S: GrowingSegment>(
@@ -250,8 +250,8 @@ pub mod parking_lot {
             objects: &mut Orphanage<S>,
         ) -> Result<Builder>
             ensures words { IfOk result (λ made. made.draft.words
-                ≡ words_in (struct_of R.segments read.now.fields) 0) }
-            ensures copies { Copies (struct_of R.segments read.now.fields) 1
+                ≡ data_up_to (struct_of R.segments read.now.fields) 0) }
+            ensures copies { CopiesPointers (struct_of R.segments read.now.fields) 1
                 objects.old objects.new (λ made. made.draft.pointers) result }
         {
             match StructDraft::from_reader(&read.fields, objects) {
@@ -264,7 +264,7 @@ pub mod parking_lot {
         /// pointers are null.
         pub fn from_data_section<R: ReaderSegments>(read: &Reader<'_, R>) -> Builder
             ensures words { result.draft.words
-                ≡ words_in (struct_of R.segments read.now.fields) 0 }
+                ≡ data_up_to (struct_of R.segments read.now.fields) 0 }
             ensures pointers { result.draft.pointers ≡ replicate 1 0 }
         {
             Builder {
@@ -272,11 +272,11 @@ pub mod parking_lot {
             }
         }
 
-        /// Writes it, as an object that a pointer can lead to.
+        /// Writes it, as an object that a pointer can point to.
         pub fn add<S: GrowingSegment>(&self, objects: &mut Orphanage<S>) -> Result<Orphan<Owned>>
-            ensures adds { Adds (HoldsStruct (body_of objects.old) self.now.draft.words
+            ensures adds { AddsOrphan (HoldsStruct (body_of objects.old) self.now.draft.words
                 self.now.draft.pointers) objects.old objects.new word_of result }
-            ensures writes { Writes (StructWords 0 1) (ExceedsPointer 0 1)
+            ensures writes { Writes (StructWords 0 1) (StructSizeError 0 1)
                 objects.old objects.new result }
         {
             objects.add(&self.draft)
@@ -286,7 +286,7 @@ pub mod parking_lot {
         pub fn add_root<S: GrowingSegment>(&self, objects: &mut Orphanage<S>) -> Result<()>
             ensures adds { AddsRoot (StructWords 0 1) (HoldsStruct (body_of objects.old)
                 self.now.draft.words self.now.draft.pointers) objects.old objects.new result }
-            ensures fails { Fails (StructWords 0 1) (ExceedsPointer 0 1)
+            ensures fails { FailsToAdd (StructWords 0 1) (StructSizeError 0 1)
                 objects.old result }
         {
             objects.add_root(&self.draft)
@@ -297,10 +297,10 @@ pub mod parking_lot {
             elements: &[Builder],
             objects: &mut Orphanage<S>,
         ) -> Result<Orphan<OwnedList>>
-            ensures adds { Adds (HoldsStructs (body_of objects.old)
+            ensures adds { AddsOrphan (HoldsStructs (body_of objects.old)
                 (map (λ element. element.draft) elements.now)) objects.old objects.new word_of result }
             ensures writes { let count = length elements.now in
-                Writes (TakesStructs 0 1 count) (ManyStructs 0 1 count)
+                Writes (TakesStructsWords 0 1 count) (ManyStructs 0 1 count)
                 objects.old objects.new result }
         {
             objects.draft_list(elements)
@@ -318,7 +318,7 @@ pub mod parking_lot {
     impl Builder {
         /// Sets the field `cars`.
         ///
-        /// An object that it led to before stays in the bytes of the message.
+        /// An object that it pointed to before stays in the bytes of the message.
         pub fn set_cars(&mut self, value: Orphan<super::car::OwnedList>)
             ensures words { self.new.draft.words ≡ self.old.draft.words }
             ensures pointers { self.new.draft.pointers
@@ -335,7 +335,7 @@ pub mod parking_lot {
         }
     }
 
-    /// Which pointer of the struct leads to `cars`, for `fields.get_pointer`.
+    /// Which pointer of the struct points to `cars`, for `fields.get_pointer`.
     pub const CARS_POINTER: u16 = 0;
 }
 
@@ -376,16 +376,16 @@ pub mod total_value {
 
         ghost accepts = { λ pointer. Accepts pointer TakesStruct };
 
-        ghost refuses = { λ pointer kind. Refuses pointer DeclinesStruct kind };
+        ghost fails = { λ pointer kind. ViewError pointer StructFormError kind };
 
-        ghost declines = { λ pointer kind. Declines pointer DeclinesStruct kind };
+        ghost form_error = { λ pointer kind. FormError pointer StructFormError kind };
 
         #[inline(always)]
         fn get_from_pointer(reader: any_pointer::Reader<'a, S>) -> Result<Self>
             ensures { let pointer = pointer_of S.segments reader.entry in IsViewOf pointer
                 (λ view. IsStruct pointer (struct_of S.segments view.fields))
-                (Accepts pointer TakesStruct) (Refuses pointer DeclinesStruct)
-                (Declines pointer DeclinesStruct) result }
+                (Accepts pointer TakesStruct) (ViewError pointer StructFormError)
+                (FormError pointer StructFormError) result }
         {
             match StructReader::get_from_pointer(reader) {
                 Ok(fields) => Ok(Reader { fields }),
@@ -404,14 +404,14 @@ pub mod total_value {
     impl<'a, S: ReaderSegments> ListReader<'a, S> {
         /// The number of elements.
         pub fn len(&self) -> u32
-            ensures { result ≡ length (upgraded_structs_of S.segments self.now.elements).rows }
+            ensures { result ≡ length (upgraded_structs_of S.segments self.now.elements).elements }
         {
             self.elements.len()
         }
 
         /// The element of this index.
         pub fn get(&self, index: u32) -> Reader<'a, S>
-            requires { index < length (upgraded_structs_of S.segments self.now.elements).rows }
+            requires { index < length (upgraded_structs_of S.segments self.now.elements).elements }
             ensures { struct_of S.segments result.fields
                 ≡ element_of (upgraded_structs_of S.segments self.now.elements) index }
         {
@@ -423,7 +423,7 @@ pub mod total_value {
         /// The element of this index, or `None` where there are no more elements than it.
         pub fn try_get(&self, index: u32) -> Option<Reader<'a, S>>
             ensures { let list = upgraded_structs_of S.segments self.now.elements in
-                FindsElement (length list.rows) index
+                FindsElement (length list.elements) index
                 (λ item. struct_of S.segments item.fields ≡ element_of list index) result }
         {
             self.try_index_move(index)
@@ -444,7 +444,7 @@ pub mod total_value {
 
         ghost seen = { λ item. struct_of S.segments item.fields };
 
-        ghost size = { λ list. length (upgraded_structs_of S.segments list.elements).rows };
+        ghost size = { λ list. length (upgraded_structs_of S.segments list.elements).elements };
 
         ghost element = { λ list index.
             element_of (upgraded_structs_of S.segments list.elements) index };
@@ -474,17 +474,17 @@ pub mod total_value {
         ghost shows = { λ pointer view.
             IsUpgradedStructs pointer (upgraded_structs_of S.segments view.elements) };
 
-        ghost accepts = { λ pointer. Accepts pointer TakesRows };
+        ghost accepts = { λ pointer. Accepts pointer TakesAsStructs };
 
-        ghost refuses = { λ pointer kind. Refuses pointer DeclinesRows kind };
+        ghost fails = { λ pointer kind. ViewError pointer ElementsFormError kind };
 
-        ghost declines = { λ pointer kind. Declines pointer DeclinesRows kind };
+        ghost form_error = { λ pointer kind. FormError pointer ElementsFormError kind };
 
         fn get_from_pointer(reader: any_pointer::Reader<'a, S>) -> Result<Self>
             ensures { let pointer = pointer_of S.segments reader.entry in IsViewOf pointer
                 (λ view. IsUpgradedStructs pointer (upgraded_structs_of S.segments view.elements))
-                (Accepts pointer TakesRows) (Refuses pointer DeclinesRows)
-                (Declines pointer DeclinesRows) result }
+                (Accepts pointer TakesAsStructs) (ViewError pointer ElementsFormError)
+                (FormError pointer ElementsFormError) result }
         {
             match upgraded::StructList::get_from_pointer(reader) {
                 Ok(elements) => Ok(ListReader { elements }),
@@ -504,7 +504,7 @@ pub mod total_value {
     impl<'a, S: ReaderSegments> traits::SetterInput<OwnedList> for ListReader<'a, S> {
         ghost has_tree = { λ list trees. IsStructListValue S.segments list.elements trees };
 
-        ghost refuses = { λ list kind. RefusesStructList S.segments list.elements kind };
+        ghost fails = { λ list kind. StructListValueError S.segments list.elements kind };
 
         ghost one = { λ list trees is. one_struct_list S.segments list.elements trees is };
 
@@ -530,7 +530,7 @@ pub mod total_value {
     /// A struct of this type before it is written. What is not set has its default.
     #[derive(Clone, Copy)]
     pub struct Builder {
-        /// Its data words, and what its pointers lead to.
+        /// Its data words, and what its pointers point to.
         pub draft: StructDraft<Owned, 1, 0>,
     }
 
@@ -545,12 +545,12 @@ pub mod total_value {
             }
         }
 
-        /// One of what a reader shows, to be changed and written again. What its pointers lead to is
+        /// One of what a reader shows, to be changed and written again. What its pointers point to is
         /// copied, each object as an orphan, and null stays null. What a writer of another version of
         /// the type left out is zero and null, and what it had beyond this one is left out.
         ///
         /// What a setter replaces after that was copied, and stays in the bytes of the message, where no
-        /// pointer leads to it. Canonical words of the message are without it.
+        /// pointer points to it. Canonical words of the message are without it.
         ///
         /// It fails as `Orphanage::set` of the first pointer does that can't be copied.
         pub fn from_reader<R: ReaderSegments, S: GrowingSegment>(
@@ -558,8 +558,8 @@ pub mod total_value {
             objects: &mut Orphanage<S>,
         ) -> Result<Builder>
             ensures words { IfOk result (λ made. made.draft.words
-                ≡ words_in (struct_of R.segments read.now.fields) 1) }
-            ensures copies { Copies (struct_of R.segments read.now.fields) 0
+                ≡ data_up_to (struct_of R.segments read.now.fields) 1) }
+            ensures copies { CopiesPointers (struct_of R.segments read.now.fields) 0
                 objects.old objects.new (λ made. made.draft.pointers) result }
         {
             match StructDraft::from_reader(&read.fields, objects) {
@@ -572,7 +572,7 @@ pub mod total_value {
         /// pointers are null.
         pub fn from_data_section<R: ReaderSegments>(read: &Reader<'_, R>) -> Builder
             ensures words { result.draft.words
-                ≡ words_in (struct_of R.segments read.now.fields) 1 }
+                ≡ data_up_to (struct_of R.segments read.now.fields) 1 }
             ensures pointers { result.draft.pointers ≡ replicate 0 0 }
         {
             Builder {
@@ -580,11 +580,11 @@ pub mod total_value {
             }
         }
 
-        /// Writes it, as an object that a pointer can lead to.
+        /// Writes it, as an object that a pointer can point to.
         pub fn add<S: GrowingSegment>(&self, objects: &mut Orphanage<S>) -> Result<Orphan<Owned>>
-            ensures adds { Adds (HoldsStruct (body_of objects.old) self.now.draft.words
+            ensures adds { AddsOrphan (HoldsStruct (body_of objects.old) self.now.draft.words
                 self.now.draft.pointers) objects.old objects.new word_of result }
-            ensures writes { Writes (StructWords 1 0) (ExceedsPointer 1 0)
+            ensures writes { Writes (StructWords 1 0) (StructSizeError 1 0)
                 objects.old objects.new result }
         {
             objects.add(&self.draft)
@@ -594,7 +594,7 @@ pub mod total_value {
         pub fn add_root<S: GrowingSegment>(&self, objects: &mut Orphanage<S>) -> Result<()>
             ensures adds { AddsRoot (StructWords 1 0) (HoldsStruct (body_of objects.old)
                 self.now.draft.words self.now.draft.pointers) objects.old objects.new result }
-            ensures fails { Fails (StructWords 1 0) (ExceedsPointer 1 0)
+            ensures fails { FailsToAdd (StructWords 1 0) (StructSizeError 1 0)
                 objects.old result }
         {
             objects.add_root(&self.draft)
@@ -605,10 +605,10 @@ pub mod total_value {
             elements: &[Builder],
             objects: &mut Orphanage<S>,
         ) -> Result<Orphan<OwnedList>>
-            ensures adds { Adds (HoldsStructs (body_of objects.old)
+            ensures adds { AddsOrphan (HoldsStructs (body_of objects.old)
                 (map (λ element. element.draft) elements.now)) objects.old objects.new word_of result }
             ensures writes { let count = length elements.now in
-                Writes (TakesStructs 1 0 count) (ManyStructs 1 0 count)
+                Writes (TakesStructsWords 1 0 count) (ManyStructs 1 0 count)
                 objects.old objects.new result }
         {
             objects.draft_list(elements)
@@ -673,8 +673,8 @@ pub mod car {
                 let pointer = pointer_in fields 0 in
                 IsViewOf pointer
                 (λ view. Reads pointer (λ form. IsText form view.bytes.now))
-                (Accepts pointer TakesText) (Refuses pointer DeclinesText)
-                (Declines pointer DeclinesText) result }
+                (Accepts pointer TakesText) (ViewError pointer TextFormError)
+                (FormError pointer TextFormError) result }
         {
             self.fields.get_pointer_as(0)
         }
@@ -693,8 +693,8 @@ pub mod car {
                 let pointer = pointer_in fields 1 in
                 IsViewOf pointer
                 (λ view. Reads pointer (λ form. IsText form view.bytes.now))
-                (Accepts pointer TakesText) (Refuses pointer DeclinesText)
-                (Declines pointer DeclinesText) result }
+                (Accepts pointer TakesText) (ViewError pointer TextFormError)
+                (FormError pointer TextFormError) result }
         {
             self.fields.get_pointer_as(1)
         }
@@ -749,8 +749,8 @@ pub mod car {
                 let pointer = pointer_in fields 2 in
                 IsViewOf pointer
                 (λ view. IsUpgradedStructs pointer (upgraded_structs_of S.segments view.elements))
-                (Accepts pointer TakesRows) (Refuses pointer DeclinesRows)
-                (Declines pointer DeclinesRows) result }
+                (Accepts pointer TakesAsStructs) (ViewError pointer ElementsFormError)
+                (FormError pointer ElementsFormError) result }
         {
             match self.fields.get_pointer_as(2) {
                 Ok(elements) => Ok(super::wheel::ListReader { elements }),
@@ -804,8 +804,8 @@ pub mod car {
                 let pointer = pointer_in fields 3 in
                 IsViewOf pointer
                 (λ view. IsStruct pointer (struct_of S.segments view.fields))
-                (Accepts pointer TakesStruct) (Refuses pointer DeclinesStruct)
-                (Declines pointer DeclinesStruct) result }
+                (Accepts pointer TakesStruct) (ViewError pointer StructFormError)
+                (FormError pointer StructFormError) result }
         {
             match self.fields.get_pointer_as(3) {
                 Ok(fields) => Ok(super::engine::Reader { fields }),
@@ -883,16 +883,16 @@ pub mod car {
 
         ghost accepts = { λ pointer. Accepts pointer TakesStruct };
 
-        ghost refuses = { λ pointer kind. Refuses pointer DeclinesStruct kind };
+        ghost fails = { λ pointer kind. ViewError pointer StructFormError kind };
 
-        ghost declines = { λ pointer kind. Declines pointer DeclinesStruct kind };
+        ghost form_error = { λ pointer kind. FormError pointer StructFormError kind };
 
         #[inline(always)]
         fn get_from_pointer(reader: any_pointer::Reader<'a, S>) -> Result<Self>
             ensures { let pointer = pointer_of S.segments reader.entry in IsViewOf pointer
                 (λ view. IsStruct pointer (struct_of S.segments view.fields))
-                (Accepts pointer TakesStruct) (Refuses pointer DeclinesStruct)
-                (Declines pointer DeclinesStruct) result }
+                (Accepts pointer TakesStruct) (ViewError pointer StructFormError)
+                (FormError pointer StructFormError) result }
         {
             match StructReader::get_from_pointer(reader) {
                 Ok(fields) => Ok(Reader { fields }),
@@ -911,14 +911,14 @@ pub mod car {
     impl<'a, S: ReaderSegments> ListReader<'a, S> {
         /// The number of elements.
         pub fn len(&self) -> u32
-            ensures { result ≡ length (upgraded_structs_of S.segments self.now.elements).rows }
+            ensures { result ≡ length (upgraded_structs_of S.segments self.now.elements).elements }
         {
             self.elements.len()
         }
 
         /// The element of this index.
         pub fn get(&self, index: u32) -> Reader<'a, S>
-            requires { index < length (upgraded_structs_of S.segments self.now.elements).rows }
+            requires { index < length (upgraded_structs_of S.segments self.now.elements).elements }
             ensures { struct_of S.segments result.fields
                 ≡ element_of (upgraded_structs_of S.segments self.now.elements) index }
         {
@@ -930,7 +930,7 @@ pub mod car {
         /// The element of this index, or `None` where there are no more elements than it.
         pub fn try_get(&self, index: u32) -> Option<Reader<'a, S>>
             ensures { let list = upgraded_structs_of S.segments self.now.elements in
-                FindsElement (length list.rows) index
+                FindsElement (length list.elements) index
                 (λ item. struct_of S.segments item.fields ≡ element_of list index) result }
         {
             self.try_index_move(index)
@@ -951,7 +951,7 @@ pub mod car {
 
         ghost seen = { λ item. struct_of S.segments item.fields };
 
-        ghost size = { λ list. length (upgraded_structs_of S.segments list.elements).rows };
+        ghost size = { λ list. length (upgraded_structs_of S.segments list.elements).elements };
 
         ghost element = { λ list index.
             element_of (upgraded_structs_of S.segments list.elements) index };
@@ -981,17 +981,17 @@ pub mod car {
         ghost shows = { λ pointer view.
             IsUpgradedStructs pointer (upgraded_structs_of S.segments view.elements) };
 
-        ghost accepts = { λ pointer. Accepts pointer TakesRows };
+        ghost accepts = { λ pointer. Accepts pointer TakesAsStructs };
 
-        ghost refuses = { λ pointer kind. Refuses pointer DeclinesRows kind };
+        ghost fails = { λ pointer kind. ViewError pointer ElementsFormError kind };
 
-        ghost declines = { λ pointer kind. Declines pointer DeclinesRows kind };
+        ghost form_error = { λ pointer kind. FormError pointer ElementsFormError kind };
 
         fn get_from_pointer(reader: any_pointer::Reader<'a, S>) -> Result<Self>
             ensures { let pointer = pointer_of S.segments reader.entry in IsViewOf pointer
                 (λ view. IsUpgradedStructs pointer (upgraded_structs_of S.segments view.elements))
-                (Accepts pointer TakesRows) (Refuses pointer DeclinesRows)
-                (Declines pointer DeclinesRows) result }
+                (Accepts pointer TakesAsStructs) (ViewError pointer ElementsFormError)
+                (FormError pointer ElementsFormError) result }
         {
             match upgraded::StructList::get_from_pointer(reader) {
                 Ok(elements) => Ok(ListReader { elements }),
@@ -1011,7 +1011,7 @@ pub mod car {
     impl<'a, S: ReaderSegments> traits::SetterInput<OwnedList> for ListReader<'a, S> {
         ghost has_tree = { λ list trees. IsStructListValue S.segments list.elements trees };
 
-        ghost refuses = { λ list kind. RefusesStructList S.segments list.elements kind };
+        ghost fails = { λ list kind. StructListValueError S.segments list.elements kind };
 
         ghost one = { λ list trees is. one_struct_list S.segments list.elements trees is };
 
@@ -1037,7 +1037,7 @@ pub mod car {
     /// A struct of this type before it is written. What is not set has its default.
     #[derive(Clone, Copy)]
     pub struct Builder {
-        /// Its data words, and what its pointers lead to.
+        /// Its data words, and what its pointers point to.
         pub draft: StructDraft<Owned, 3, 4>,
     }
 
@@ -1052,12 +1052,12 @@ pub mod car {
             }
         }
 
-        /// One of what a reader shows, to be changed and written again. What its pointers lead to is
+        /// One of what a reader shows, to be changed and written again. What its pointers point to is
         /// copied, each object as an orphan, and null stays null. What a writer of another version of
         /// the type left out is zero and null, and what it had beyond this one is left out.
         ///
         /// What a setter replaces after that was copied, and stays in the bytes of the message, where no
-        /// pointer leads to it. Canonical words of the message are without it.
+        /// pointer points to it. Canonical words of the message are without it.
         ///
         /// It fails as `Orphanage::set` of the first pointer does that can't be copied.
         pub fn from_reader<R: ReaderSegments, S: GrowingSegment>(
@@ -1065,8 +1065,8 @@ pub mod car {
             objects: &mut Orphanage<S>,
         ) -> Result<Builder>
             ensures words { IfOk result (λ made. made.draft.words
-                ≡ words_in (struct_of R.segments read.now.fields) 3) }
-            ensures copies { Copies (struct_of R.segments read.now.fields) 4
+                ≡ data_up_to (struct_of R.segments read.now.fields) 3) }
+            ensures copies { CopiesPointers (struct_of R.segments read.now.fields) 4
                 objects.old objects.new (λ made. made.draft.pointers) result }
         {
             match StructDraft::from_reader(&read.fields, objects) {
@@ -1079,7 +1079,7 @@ pub mod car {
         /// pointers are null.
         pub fn from_data_section<R: ReaderSegments>(read: &Reader<'_, R>) -> Builder
             ensures words { result.draft.words
-                ≡ words_in (struct_of R.segments read.now.fields) 3 }
+                ≡ data_up_to (struct_of R.segments read.now.fields) 3 }
             ensures pointers { result.draft.pointers ≡ replicate 4 0 }
         {
             Builder {
@@ -1087,11 +1087,11 @@ pub mod car {
             }
         }
 
-        /// Writes it, as an object that a pointer can lead to.
+        /// Writes it, as an object that a pointer can point to.
         pub fn add<S: GrowingSegment>(&self, objects: &mut Orphanage<S>) -> Result<Orphan<Owned>>
-            ensures adds { Adds (HoldsStruct (body_of objects.old) self.now.draft.words
+            ensures adds { AddsOrphan (HoldsStruct (body_of objects.old) self.now.draft.words
                 self.now.draft.pointers) objects.old objects.new word_of result }
-            ensures writes { Writes (StructWords 3 4) (ExceedsPointer 3 4)
+            ensures writes { Writes (StructWords 3 4) (StructSizeError 3 4)
                 objects.old objects.new result }
         {
             objects.add(&self.draft)
@@ -1101,7 +1101,7 @@ pub mod car {
         pub fn add_root<S: GrowingSegment>(&self, objects: &mut Orphanage<S>) -> Result<()>
             ensures adds { AddsRoot (StructWords 3 4) (HoldsStruct (body_of objects.old)
                 self.now.draft.words self.now.draft.pointers) objects.old objects.new result }
-            ensures fails { Fails (StructWords 3 4) (ExceedsPointer 3 4)
+            ensures fails { FailsToAdd (StructWords 3 4) (StructSizeError 3 4)
                 objects.old result }
         {
             objects.add_root(&self.draft)
@@ -1112,10 +1112,10 @@ pub mod car {
             elements: &[Builder],
             objects: &mut Orphanage<S>,
         ) -> Result<Orphan<OwnedList>>
-            ensures adds { Adds (HoldsStructs (body_of objects.old)
+            ensures adds { AddsOrphan (HoldsStructs (body_of objects.old)
                 (map (λ element. element.draft) elements.now)) objects.old objects.new word_of result }
             ensures writes { let count = length elements.now in
-                Writes (TakesStructs 3 4 count) (ManyStructs 3 4 count)
+                Writes (TakesStructsWords 3 4 count) (ManyStructs 3 4 count)
                 objects.old objects.new result }
         {
             objects.draft_list(elements)
@@ -1133,7 +1133,7 @@ pub mod car {
     impl Builder {
         /// Sets the field `make`.
         ///
-        /// An object that it led to before stays in the bytes of the message.
+        /// An object that it pointed to before stays in the bytes of the message.
         pub fn set_make(&mut self, value: Orphan<text::Owned>)
             ensures words { self.new.draft.words ≡ self.old.draft.words }
             ensures pointers { self.new.draft.pointers
@@ -1151,7 +1151,7 @@ pub mod car {
 
         /// Sets the field `model`.
         ///
-        /// An object that it led to before stays in the bytes of the message.
+        /// An object that it pointed to before stays in the bytes of the message.
         pub fn set_model(&mut self, value: Orphan<text::Owned>)
             ensures words { self.new.draft.words ≡ self.old.draft.words }
             ensures pointers { self.new.draft.pointers
@@ -1243,7 +1243,7 @@ pub mod car {
 
         /// Sets the field `wheels`.
         ///
-        /// An object that it led to before stays in the bytes of the message.
+        /// An object that it pointed to before stays in the bytes of the message.
         pub fn set_wheels(&mut self, value: Orphan<super::wheel::OwnedList>)
             ensures words { self.new.draft.words ≡ self.old.draft.words }
             ensures pointers { self.new.draft.pointers
@@ -1329,7 +1329,7 @@ pub mod car {
 
         /// Sets the field `engine`.
         ///
-        /// An object that it led to before stays in the bytes of the message.
+        /// An object that it pointed to before stays in the bytes of the message.
         pub fn set_engine(&mut self, value: Orphan<super::engine::Owned>)
             ensures words { self.new.draft.words ≡ self.old.draft.words }
             ensures pointers { self.new.draft.pointers
@@ -1465,16 +1465,16 @@ pub mod car {
         }
     }
 
-    /// Which pointer of the struct leads to `make`, for `fields.get_pointer`.
+    /// Which pointer of the struct points to `make`, for `fields.get_pointer`.
     pub const MAKE_POINTER: u16 = 0;
 
-    /// Which pointer of the struct leads to `model`, for `fields.get_pointer`.
+    /// Which pointer of the struct points to `model`, for `fields.get_pointer`.
     pub const MODEL_POINTER: u16 = 1;
 
-    /// Which pointer of the struct leads to `wheels`, for `fields.get_pointer`.
+    /// Which pointer of the struct points to `wheels`, for `fields.get_pointer`.
     pub const WHEELS_POINTER: u16 = 2;
 
-    /// Which pointer of the struct leads to `engine`, for `fields.get_pointer`.
+    /// Which pointer of the struct points to `engine`, for `fields.get_pointer`.
     pub const ENGINE_POINTER: u16 = 3;
 }
 
@@ -1616,16 +1616,16 @@ pub mod wheel {
 
         ghost accepts = { λ pointer. Accepts pointer TakesStruct };
 
-        ghost refuses = { λ pointer kind. Refuses pointer DeclinesStruct kind };
+        ghost fails = { λ pointer kind. ViewError pointer StructFormError kind };
 
-        ghost declines = { λ pointer kind. Declines pointer DeclinesStruct kind };
+        ghost form_error = { λ pointer kind. FormError pointer StructFormError kind };
 
         #[inline(always)]
         fn get_from_pointer(reader: any_pointer::Reader<'a, S>) -> Result<Self>
             ensures { let pointer = pointer_of S.segments reader.entry in IsViewOf pointer
                 (λ view. IsStruct pointer (struct_of S.segments view.fields))
-                (Accepts pointer TakesStruct) (Refuses pointer DeclinesStruct)
-                (Declines pointer DeclinesStruct) result }
+                (Accepts pointer TakesStruct) (ViewError pointer StructFormError)
+                (FormError pointer StructFormError) result }
         {
             match StructReader::get_from_pointer(reader) {
                 Ok(fields) => Ok(Reader { fields }),
@@ -1644,14 +1644,14 @@ pub mod wheel {
     impl<'a, S: ReaderSegments> ListReader<'a, S> {
         /// The number of elements.
         pub fn len(&self) -> u32
-            ensures { result ≡ length (upgraded_structs_of S.segments self.now.elements).rows }
+            ensures { result ≡ length (upgraded_structs_of S.segments self.now.elements).elements }
         {
             self.elements.len()
         }
 
         /// The element of this index.
         pub fn get(&self, index: u32) -> Reader<'a, S>
-            requires { index < length (upgraded_structs_of S.segments self.now.elements).rows }
+            requires { index < length (upgraded_structs_of S.segments self.now.elements).elements }
             ensures { struct_of S.segments result.fields
                 ≡ element_of (upgraded_structs_of S.segments self.now.elements) index }
         {
@@ -1663,7 +1663,7 @@ pub mod wheel {
         /// The element of this index, or `None` where there are no more elements than it.
         pub fn try_get(&self, index: u32) -> Option<Reader<'a, S>>
             ensures { let list = upgraded_structs_of S.segments self.now.elements in
-                FindsElement (length list.rows) index
+                FindsElement (length list.elements) index
                 (λ item. struct_of S.segments item.fields ≡ element_of list index) result }
         {
             self.try_index_move(index)
@@ -1684,7 +1684,7 @@ pub mod wheel {
 
         ghost seen = { λ item. struct_of S.segments item.fields };
 
-        ghost size = { λ list. length (upgraded_structs_of S.segments list.elements).rows };
+        ghost size = { λ list. length (upgraded_structs_of S.segments list.elements).elements };
 
         ghost element = { λ list index.
             element_of (upgraded_structs_of S.segments list.elements) index };
@@ -1714,17 +1714,17 @@ pub mod wheel {
         ghost shows = { λ pointer view.
             IsUpgradedStructs pointer (upgraded_structs_of S.segments view.elements) };
 
-        ghost accepts = { λ pointer. Accepts pointer TakesRows };
+        ghost accepts = { λ pointer. Accepts pointer TakesAsStructs };
 
-        ghost refuses = { λ pointer kind. Refuses pointer DeclinesRows kind };
+        ghost fails = { λ pointer kind. ViewError pointer ElementsFormError kind };
 
-        ghost declines = { λ pointer kind. Declines pointer DeclinesRows kind };
+        ghost form_error = { λ pointer kind. FormError pointer ElementsFormError kind };
 
         fn get_from_pointer(reader: any_pointer::Reader<'a, S>) -> Result<Self>
             ensures { let pointer = pointer_of S.segments reader.entry in IsViewOf pointer
                 (λ view. IsUpgradedStructs pointer (upgraded_structs_of S.segments view.elements))
-                (Accepts pointer TakesRows) (Refuses pointer DeclinesRows)
-                (Declines pointer DeclinesRows) result }
+                (Accepts pointer TakesAsStructs) (ViewError pointer ElementsFormError)
+                (FormError pointer ElementsFormError) result }
         {
             match upgraded::StructList::get_from_pointer(reader) {
                 Ok(elements) => Ok(ListReader { elements }),
@@ -1744,7 +1744,7 @@ pub mod wheel {
     impl<'a, S: ReaderSegments> traits::SetterInput<OwnedList> for ListReader<'a, S> {
         ghost has_tree = { λ list trees. IsStructListValue S.segments list.elements trees };
 
-        ghost refuses = { λ list kind. RefusesStructList S.segments list.elements kind };
+        ghost fails = { λ list kind. StructListValueError S.segments list.elements kind };
 
         ghost one = { λ list trees is. one_struct_list S.segments list.elements trees is };
 
@@ -1770,7 +1770,7 @@ pub mod wheel {
     /// A struct of this type before it is written. What is not set has its default.
     #[derive(Clone, Copy)]
     pub struct Builder {
-        /// Its data words, and what its pointers lead to.
+        /// Its data words, and what its pointers point to.
         pub draft: StructDraft<Owned, 1, 0>,
     }
 
@@ -1785,12 +1785,12 @@ pub mod wheel {
             }
         }
 
-        /// One of what a reader shows, to be changed and written again. What its pointers lead to is
+        /// One of what a reader shows, to be changed and written again. What its pointers point to is
         /// copied, each object as an orphan, and null stays null. What a writer of another version of
         /// the type left out is zero and null, and what it had beyond this one is left out.
         ///
         /// What a setter replaces after that was copied, and stays in the bytes of the message, where no
-        /// pointer leads to it. Canonical words of the message are without it.
+        /// pointer points to it. Canonical words of the message are without it.
         ///
         /// It fails as `Orphanage::set` of the first pointer does that can't be copied.
         pub fn from_reader<R: ReaderSegments, S: GrowingSegment>(
@@ -1798,8 +1798,8 @@ pub mod wheel {
             objects: &mut Orphanage<S>,
         ) -> Result<Builder>
             ensures words { IfOk result (λ made. made.draft.words
-                ≡ words_in (struct_of R.segments read.now.fields) 1) }
-            ensures copies { Copies (struct_of R.segments read.now.fields) 0
+                ≡ data_up_to (struct_of R.segments read.now.fields) 1) }
+            ensures copies { CopiesPointers (struct_of R.segments read.now.fields) 0
                 objects.old objects.new (λ made. made.draft.pointers) result }
         {
             match StructDraft::from_reader(&read.fields, objects) {
@@ -1812,7 +1812,7 @@ pub mod wheel {
         /// pointers are null.
         pub fn from_data_section<R: ReaderSegments>(read: &Reader<'_, R>) -> Builder
             ensures words { result.draft.words
-                ≡ words_in (struct_of R.segments read.now.fields) 1 }
+                ≡ data_up_to (struct_of R.segments read.now.fields) 1 }
             ensures pointers { result.draft.pointers ≡ replicate 0 0 }
         {
             Builder {
@@ -1820,11 +1820,11 @@ pub mod wheel {
             }
         }
 
-        /// Writes it, as an object that a pointer can lead to.
+        /// Writes it, as an object that a pointer can point to.
         pub fn add<S: GrowingSegment>(&self, objects: &mut Orphanage<S>) -> Result<Orphan<Owned>>
-            ensures adds { Adds (HoldsStruct (body_of objects.old) self.now.draft.words
+            ensures adds { AddsOrphan (HoldsStruct (body_of objects.old) self.now.draft.words
                 self.now.draft.pointers) objects.old objects.new word_of result }
-            ensures writes { Writes (StructWords 1 0) (ExceedsPointer 1 0)
+            ensures writes { Writes (StructWords 1 0) (StructSizeError 1 0)
                 objects.old objects.new result }
         {
             objects.add(&self.draft)
@@ -1834,7 +1834,7 @@ pub mod wheel {
         pub fn add_root<S: GrowingSegment>(&self, objects: &mut Orphanage<S>) -> Result<()>
             ensures adds { AddsRoot (StructWords 1 0) (HoldsStruct (body_of objects.old)
                 self.now.draft.words self.now.draft.pointers) objects.old objects.new result }
-            ensures fails { Fails (StructWords 1 0) (ExceedsPointer 1 0)
+            ensures fails { FailsToAdd (StructWords 1 0) (StructSizeError 1 0)
                 objects.old result }
         {
             objects.add_root(&self.draft)
@@ -1845,10 +1845,10 @@ pub mod wheel {
             elements: &[Builder],
             objects: &mut Orphanage<S>,
         ) -> Result<Orphan<OwnedList>>
-            ensures adds { Adds (HoldsStructs (body_of objects.old)
+            ensures adds { AddsOrphan (HoldsStructs (body_of objects.old)
                 (map (λ element. element.draft) elements.now)) objects.old objects.new word_of result }
             ensures writes { let count = length elements.now in
-                Writes (TakesStructs 1 0 count) (ManyStructs 1 0 count)
+                Writes (TakesStructsWords 1 0 count) (ManyStructs 1 0 count)
                 objects.old objects.new result }
         {
             objects.draft_list(elements)
@@ -1986,16 +1986,16 @@ pub mod engine {
 
         ghost accepts = { λ pointer. Accepts pointer TakesStruct };
 
-        ghost refuses = { λ pointer kind. Refuses pointer DeclinesStruct kind };
+        ghost fails = { λ pointer kind. ViewError pointer StructFormError kind };
 
-        ghost declines = { λ pointer kind. Declines pointer DeclinesStruct kind };
+        ghost form_error = { λ pointer kind. FormError pointer StructFormError kind };
 
         #[inline(always)]
         fn get_from_pointer(reader: any_pointer::Reader<'a, S>) -> Result<Self>
             ensures { let pointer = pointer_of S.segments reader.entry in IsViewOf pointer
                 (λ view. IsStruct pointer (struct_of S.segments view.fields))
-                (Accepts pointer TakesStruct) (Refuses pointer DeclinesStruct)
-                (Declines pointer DeclinesStruct) result }
+                (Accepts pointer TakesStruct) (ViewError pointer StructFormError)
+                (FormError pointer StructFormError) result }
         {
             match StructReader::get_from_pointer(reader) {
                 Ok(fields) => Ok(Reader { fields }),
@@ -2014,14 +2014,14 @@ pub mod engine {
     impl<'a, S: ReaderSegments> ListReader<'a, S> {
         /// The number of elements.
         pub fn len(&self) -> u32
-            ensures { result ≡ length (upgraded_structs_of S.segments self.now.elements).rows }
+            ensures { result ≡ length (upgraded_structs_of S.segments self.now.elements).elements }
         {
             self.elements.len()
         }
 
         /// The element of this index.
         pub fn get(&self, index: u32) -> Reader<'a, S>
-            requires { index < length (upgraded_structs_of S.segments self.now.elements).rows }
+            requires { index < length (upgraded_structs_of S.segments self.now.elements).elements }
             ensures { struct_of S.segments result.fields
                 ≡ element_of (upgraded_structs_of S.segments self.now.elements) index }
         {
@@ -2033,7 +2033,7 @@ pub mod engine {
         /// The element of this index, or `None` where there are no more elements than it.
         pub fn try_get(&self, index: u32) -> Option<Reader<'a, S>>
             ensures { let list = upgraded_structs_of S.segments self.now.elements in
-                FindsElement (length list.rows) index
+                FindsElement (length list.elements) index
                 (λ item. struct_of S.segments item.fields ≡ element_of list index) result }
         {
             self.try_index_move(index)
@@ -2054,7 +2054,7 @@ pub mod engine {
 
         ghost seen = { λ item. struct_of S.segments item.fields };
 
-        ghost size = { λ list. length (upgraded_structs_of S.segments list.elements).rows };
+        ghost size = { λ list. length (upgraded_structs_of S.segments list.elements).elements };
 
         ghost element = { λ list index.
             element_of (upgraded_structs_of S.segments list.elements) index };
@@ -2084,17 +2084,17 @@ pub mod engine {
         ghost shows = { λ pointer view.
             IsUpgradedStructs pointer (upgraded_structs_of S.segments view.elements) };
 
-        ghost accepts = { λ pointer. Accepts pointer TakesRows };
+        ghost accepts = { λ pointer. Accepts pointer TakesAsStructs };
 
-        ghost refuses = { λ pointer kind. Refuses pointer DeclinesRows kind };
+        ghost fails = { λ pointer kind. ViewError pointer ElementsFormError kind };
 
-        ghost declines = { λ pointer kind. Declines pointer DeclinesRows kind };
+        ghost form_error = { λ pointer kind. FormError pointer ElementsFormError kind };
 
         fn get_from_pointer(reader: any_pointer::Reader<'a, S>) -> Result<Self>
             ensures { let pointer = pointer_of S.segments reader.entry in IsViewOf pointer
                 (λ view. IsUpgradedStructs pointer (upgraded_structs_of S.segments view.elements))
-                (Accepts pointer TakesRows) (Refuses pointer DeclinesRows)
-                (Declines pointer DeclinesRows) result }
+                (Accepts pointer TakesAsStructs) (ViewError pointer ElementsFormError)
+                (FormError pointer ElementsFormError) result }
         {
             match upgraded::StructList::get_from_pointer(reader) {
                 Ok(elements) => Ok(ListReader { elements }),
@@ -2114,7 +2114,7 @@ pub mod engine {
     impl<'a, S: ReaderSegments> traits::SetterInput<OwnedList> for ListReader<'a, S> {
         ghost has_tree = { λ list trees. IsStructListValue S.segments list.elements trees };
 
-        ghost refuses = { λ list kind. RefusesStructList S.segments list.elements kind };
+        ghost fails = { λ list kind. StructListValueError S.segments list.elements kind };
 
         ghost one = { λ list trees is. one_struct_list S.segments list.elements trees is };
 
@@ -2140,7 +2140,7 @@ pub mod engine {
     /// A struct of this type before it is written. What is not set has its default.
     #[derive(Clone, Copy)]
     pub struct Builder {
-        /// Its data words, and what its pointers lead to.
+        /// Its data words, and what its pointers point to.
         pub draft: StructDraft<Owned, 1, 0>,
     }
 
@@ -2155,12 +2155,12 @@ pub mod engine {
             }
         }
 
-        /// One of what a reader shows, to be changed and written again. What its pointers lead to is
+        /// One of what a reader shows, to be changed and written again. What its pointers point to is
         /// copied, each object as an orphan, and null stays null. What a writer of another version of
         /// the type left out is zero and null, and what it had beyond this one is left out.
         ///
         /// What a setter replaces after that was copied, and stays in the bytes of the message, where no
-        /// pointer leads to it. Canonical words of the message are without it.
+        /// pointer points to it. Canonical words of the message are without it.
         ///
         /// It fails as `Orphanage::set` of the first pointer does that can't be copied.
         pub fn from_reader<R: ReaderSegments, S: GrowingSegment>(
@@ -2168,8 +2168,8 @@ pub mod engine {
             objects: &mut Orphanage<S>,
         ) -> Result<Builder>
             ensures words { IfOk result (λ made. made.draft.words
-                ≡ words_in (struct_of R.segments read.now.fields) 1) }
-            ensures copies { Copies (struct_of R.segments read.now.fields) 0
+                ≡ data_up_to (struct_of R.segments read.now.fields) 1) }
+            ensures copies { CopiesPointers (struct_of R.segments read.now.fields) 0
                 objects.old objects.new (λ made. made.draft.pointers) result }
         {
             match StructDraft::from_reader(&read.fields, objects) {
@@ -2182,7 +2182,7 @@ pub mod engine {
         /// pointers are null.
         pub fn from_data_section<R: ReaderSegments>(read: &Reader<'_, R>) -> Builder
             ensures words { result.draft.words
-                ≡ words_in (struct_of R.segments read.now.fields) 1 }
+                ≡ data_up_to (struct_of R.segments read.now.fields) 1 }
             ensures pointers { result.draft.pointers ≡ replicate 0 0 }
         {
             Builder {
@@ -2190,11 +2190,11 @@ pub mod engine {
             }
         }
 
-        /// Writes it, as an object that a pointer can lead to.
+        /// Writes it, as an object that a pointer can point to.
         pub fn add<S: GrowingSegment>(&self, objects: &mut Orphanage<S>) -> Result<Orphan<Owned>>
-            ensures adds { Adds (HoldsStruct (body_of objects.old) self.now.draft.words
+            ensures adds { AddsOrphan (HoldsStruct (body_of objects.old) self.now.draft.words
                 self.now.draft.pointers) objects.old objects.new word_of result }
-            ensures writes { Writes (StructWords 1 0) (ExceedsPointer 1 0)
+            ensures writes { Writes (StructWords 1 0) (StructSizeError 1 0)
                 objects.old objects.new result }
         {
             objects.add(&self.draft)
@@ -2204,7 +2204,7 @@ pub mod engine {
         pub fn add_root<S: GrowingSegment>(&self, objects: &mut Orphanage<S>) -> Result<()>
             ensures adds { AddsRoot (StructWords 1 0) (HoldsStruct (body_of objects.old)
                 self.now.draft.words self.now.draft.pointers) objects.old objects.new result }
-            ensures fails { Fails (StructWords 1 0) (ExceedsPointer 1 0)
+            ensures fails { FailsToAdd (StructWords 1 0) (StructSizeError 1 0)
                 objects.old result }
         {
             objects.add_root(&self.draft)
@@ -2215,10 +2215,10 @@ pub mod engine {
             elements: &[Builder],
             objects: &mut Orphanage<S>,
         ) -> Result<Orphan<OwnedList>>
-            ensures adds { Adds (HoldsStructs (body_of objects.old)
+            ensures adds { AddsOrphan (HoldsStructs (body_of objects.old)
                 (map (λ element. element.draft) elements.now)) objects.old objects.new word_of result }
             ensures writes { let count = length elements.now in
-                Writes (TakesStructs 1 0 count) (ManyStructs 1 0 count)
+                Writes (TakesStructsWords 1 0 count) (ManyStructs 1 0 count)
                 objects.old objects.new result }
         {
             objects.draft_list(elements)

@@ -1,9 +1,9 @@
 //! Types of `catrank.capnp`, made by `capnpc-rattle`: change that file, and make them again.
 ghost use Rattle.std.specs.Prelude.{◌≡◌, ◌<◌, ◌↔◌, ◌≢◌, IfOk, IsTrue, from_bits, to_bits, length, map, replicate, slice_index_or, slice_set};
 ghost use Rattle.std.specs.Float.{binary64};
-ghost use Rattle.capnp_orphans.specs.Adding.{Adds, AddsRoot, Fails, Writes};
-ghost use Rattle.capnp_orphans.specs.Copied.{words_in, Copies};
-ghost use Rattle.capnp_orphans.specs.Held.{word_of, HoldsStruct, HoldsStructs, TakesStruct as StructWords, TakesStructs, ExceedsPointer, ManyStructs};
+ghost use Rattle.capnp_orphans.specs.Adding.{AddsOrphan, AddsRoot, FailsToAdd, Writes};
+ghost use Rattle.capnp_orphans.specs.Copied.{data_up_to, CopiesPointers};
+ghost use Rattle.capnp_orphans.specs.Holds.{word_of, HoldsStruct, HoldsStructs, TakesStructWords as StructWords, TakesStructsWords, StructSizeError, ManyStructs};
 ghost use Rattle.capnp_orphans.specs.Segments.{body_of};
 ghost use Rattle.capnp_values.specs.DataSections.{with_field};
 ghost use Rattle.capnp_wire.specs.Fields.{field};
@@ -12,9 +12,9 @@ ghost use Rattle.capnp_wire.specs.Lists.{FindsElement, IsIterator};
 ghost use Rattle.capnp_wire.specs.Object.{nothing};
 ghost use Rattle.capnp_wire.specs.Readers.{struct_of, pointer_of};
 ghost use Rattle.capnp_wire.specs.UpgradedReaders.{upgraded_structs_of};
-ghost use Rattle.capnp_wire.specs.UpgradedValues.{IsStructListValue, RefusesStructList, one_struct_list};
-ghost use Rattle.capnp_wire.specs.UpgradedViews.{IsUpgradedStructs, TakesRows, DeclinesRows};
-ghost use Rattle.capnp_wire.specs.Views.{Struct, IsViewOf, IsStruct, IsText, Accepts, Refuses, Declines, Denotes, Reads, TakesStruct, TakesText, DeclinesStruct, DeclinesText, pointer_in};
+ghost use Rattle.capnp_wire.specs.UpgradedValues.{IsStructListValue, StructListValueError, one_struct_list};
+ghost use Rattle.capnp_wire.specs.UpgradedViews.{IsUpgradedStructs, TakesAsStructs, ElementsFormError};
+ghost use Rattle.capnp_wire.specs.Views.{Struct, IsViewOf, IsStruct, IsText, Accepts, ViewError, FormError, Denotes, Reads, TakesStruct, TakesText, StructFormError, TextFormError, pointer_in};
 
 pub mod search_result_list {
     use capnp_frame::Result;
@@ -45,8 +45,8 @@ pub mod search_result_list {
                 let pointer = pointer_in fields 0 in
                 IsViewOf pointer
                 (λ view. IsUpgradedStructs pointer (upgraded_structs_of S.segments view.elements))
-                (Accepts pointer TakesRows) (Refuses pointer DeclinesRows)
-                (Declines pointer DeclinesRows) result }
+                (Accepts pointer TakesAsStructs) (ViewError pointer ElementsFormError)
+                (FormError pointer ElementsFormError) result }
         {
             match self.fields.get_pointer_as(0) {
                 Ok(elements) => Ok(super::search_result::ListReader { elements }),
@@ -68,16 +68,16 @@ pub mod search_result_list {
 
         ghost accepts = { λ pointer. Accepts pointer TakesStruct };
 
-        ghost refuses = { λ pointer kind. Refuses pointer DeclinesStruct kind };
+        ghost fails = { λ pointer kind. ViewError pointer StructFormError kind };
 
-        ghost declines = { λ pointer kind. Declines pointer DeclinesStruct kind };
+        ghost form_error = { λ pointer kind. FormError pointer StructFormError kind };
 
         #[inline(always)]
         fn get_from_pointer(reader: any_pointer::Reader<'a, S>) -> Result<Self>
             ensures { let pointer = pointer_of S.segments reader.entry in IsViewOf pointer
                 (λ view. IsStruct pointer (struct_of S.segments view.fields))
-                (Accepts pointer TakesStruct) (Refuses pointer DeclinesStruct)
-                (Declines pointer DeclinesStruct) result }
+                (Accepts pointer TakesStruct) (ViewError pointer StructFormError)
+                (FormError pointer StructFormError) result }
         {
             match StructReader::get_from_pointer(reader) {
                 Ok(fields) => Ok(Reader { fields }),
@@ -96,14 +96,14 @@ pub mod search_result_list {
     impl<'a, S: ReaderSegments> ListReader<'a, S> {
         /// The number of elements.
         pub fn len(&self) -> u32
-            ensures { result ≡ length (upgraded_structs_of S.segments self.now.elements).rows }
+            ensures { result ≡ length (upgraded_structs_of S.segments self.now.elements).elements }
         {
             self.elements.len()
         }
 
         /// The element of this index.
         pub fn get(&self, index: u32) -> Reader<'a, S>
-            requires { index < length (upgraded_structs_of S.segments self.now.elements).rows }
+            requires { index < length (upgraded_structs_of S.segments self.now.elements).elements }
             ensures { struct_of S.segments result.fields
                 ≡ element_of (upgraded_structs_of S.segments self.now.elements) index }
         {
@@ -115,7 +115,7 @@ pub mod search_result_list {
         /// The element of this index, or `None` where there are no more elements than it.
         pub fn try_get(&self, index: u32) -> Option<Reader<'a, S>>
             ensures { let list = upgraded_structs_of S.segments self.now.elements in
-                FindsElement (length list.rows) index
+                FindsElement (length list.elements) index
                 (λ item. struct_of S.segments item.fields ≡ element_of list index) result }
         {
             self.try_index_move(index)
@@ -136,7 +136,7 @@ pub mod search_result_list {
 
         ghost seen = { λ item. struct_of S.segments item.fields };
 
-        ghost size = { λ list. length (upgraded_structs_of S.segments list.elements).rows };
+        ghost size = { λ list. length (upgraded_structs_of S.segments list.elements).elements };
 
         ghost element = { λ list index.
             element_of (upgraded_structs_of S.segments list.elements) index };
@@ -166,17 +166,17 @@ pub mod search_result_list {
         ghost shows = { λ pointer view.
             IsUpgradedStructs pointer (upgraded_structs_of S.segments view.elements) };
 
-        ghost accepts = { λ pointer. Accepts pointer TakesRows };
+        ghost accepts = { λ pointer. Accepts pointer TakesAsStructs };
 
-        ghost refuses = { λ pointer kind. Refuses pointer DeclinesRows kind };
+        ghost fails = { λ pointer kind. ViewError pointer ElementsFormError kind };
 
-        ghost declines = { λ pointer kind. Declines pointer DeclinesRows kind };
+        ghost form_error = { λ pointer kind. FormError pointer ElementsFormError kind };
 
         fn get_from_pointer(reader: any_pointer::Reader<'a, S>) -> Result<Self>
             ensures { let pointer = pointer_of S.segments reader.entry in IsViewOf pointer
                 (λ view. IsUpgradedStructs pointer (upgraded_structs_of S.segments view.elements))
-                (Accepts pointer TakesRows) (Refuses pointer DeclinesRows)
-                (Declines pointer DeclinesRows) result }
+                (Accepts pointer TakesAsStructs) (ViewError pointer ElementsFormError)
+                (FormError pointer ElementsFormError) result }
         {
             match upgraded::StructList::get_from_pointer(reader) {
                 Ok(elements) => Ok(ListReader { elements }),
@@ -196,7 +196,7 @@ pub mod search_result_list {
     impl<'a, S: ReaderSegments> traits::SetterInput<OwnedList> for ListReader<'a, S> {
         ghost has_tree = { λ list trees. IsStructListValue S.segments list.elements trees };
 
-        ghost refuses = { λ list kind. RefusesStructList S.segments list.elements kind };
+        ghost fails = { λ list kind. StructListValueError S.segments list.elements kind };
 
         ghost one = { λ list trees is. one_struct_list S.segments list.elements trees is };
 
@@ -222,7 +222,7 @@ pub mod search_result_list {
     /// A struct of this type before it is written. What is not set has its default.
     #[derive(Clone, Copy)]
     pub struct Builder {
-        /// Its data words, and what its pointers lead to.
+        /// Its data words, and what its pointers point to.
         pub draft: StructDraft<Owned, 0, 1>,
     }
 
@@ -237,12 +237,12 @@ pub mod search_result_list {
             }
         }
 
-        /// One of what a reader shows, to be changed and written again. What its pointers lead to is
+        /// One of what a reader shows, to be changed and written again. What its pointers point to is
         /// copied, each object as an orphan, and null stays null. What a writer of another version of
         /// the type left out is zero and null, and what it had beyond this one is left out.
         ///
         /// What a setter replaces after that was copied, and stays in the bytes of the message, where no
-        /// pointer leads to it. Canonical words of the message are without it.
+        /// pointer points to it. Canonical words of the message are without it.
         ///
         /// It fails as `Orphanage::set` of the first pointer does that can't be copied.
         pub fn from_reader<R: ReaderSegments, S: GrowingSegment>(
@@ -250,8 +250,8 @@ pub mod search_result_list {
             objects: &mut Orphanage<S>,
         ) -> Result<Builder>
             ensures words { IfOk result (λ made. made.draft.words
-                ≡ words_in (struct_of R.segments read.now.fields) 0) }
-            ensures copies { Copies (struct_of R.segments read.now.fields) 1
+                ≡ data_up_to (struct_of R.segments read.now.fields) 0) }
+            ensures copies { CopiesPointers (struct_of R.segments read.now.fields) 1
                 objects.old objects.new (λ made. made.draft.pointers) result }
         {
             match StructDraft::from_reader(&read.fields, objects) {
@@ -264,7 +264,7 @@ pub mod search_result_list {
         /// pointers are null.
         pub fn from_data_section<R: ReaderSegments>(read: &Reader<'_, R>) -> Builder
             ensures words { result.draft.words
-                ≡ words_in (struct_of R.segments read.now.fields) 0 }
+                ≡ data_up_to (struct_of R.segments read.now.fields) 0 }
             ensures pointers { result.draft.pointers ≡ replicate 1 0 }
         {
             Builder {
@@ -272,11 +272,11 @@ pub mod search_result_list {
             }
         }
 
-        /// Writes it, as an object that a pointer can lead to.
+        /// Writes it, as an object that a pointer can point to.
         pub fn add<S: GrowingSegment>(&self, objects: &mut Orphanage<S>) -> Result<Orphan<Owned>>
-            ensures adds { Adds (HoldsStruct (body_of objects.old) self.now.draft.words
+            ensures adds { AddsOrphan (HoldsStruct (body_of objects.old) self.now.draft.words
                 self.now.draft.pointers) objects.old objects.new word_of result }
-            ensures writes { Writes (StructWords 0 1) (ExceedsPointer 0 1)
+            ensures writes { Writes (StructWords 0 1) (StructSizeError 0 1)
                 objects.old objects.new result }
         {
             objects.add(&self.draft)
@@ -286,7 +286,7 @@ pub mod search_result_list {
         pub fn add_root<S: GrowingSegment>(&self, objects: &mut Orphanage<S>) -> Result<()>
             ensures adds { AddsRoot (StructWords 0 1) (HoldsStruct (body_of objects.old)
                 self.now.draft.words self.now.draft.pointers) objects.old objects.new result }
-            ensures fails { Fails (StructWords 0 1) (ExceedsPointer 0 1)
+            ensures fails { FailsToAdd (StructWords 0 1) (StructSizeError 0 1)
                 objects.old result }
         {
             objects.add_root(&self.draft)
@@ -297,10 +297,10 @@ pub mod search_result_list {
             elements: &[Builder],
             objects: &mut Orphanage<S>,
         ) -> Result<Orphan<OwnedList>>
-            ensures adds { Adds (HoldsStructs (body_of objects.old)
+            ensures adds { AddsOrphan (HoldsStructs (body_of objects.old)
                 (map (λ element. element.draft) elements.now)) objects.old objects.new word_of result }
             ensures writes { let count = length elements.now in
-                Writes (TakesStructs 0 1 count) (ManyStructs 0 1 count)
+                Writes (TakesStructsWords 0 1 count) (ManyStructs 0 1 count)
                 objects.old objects.new result }
         {
             objects.draft_list(elements)
@@ -318,7 +318,7 @@ pub mod search_result_list {
     impl Builder {
         /// Sets the field `results`.
         ///
-        /// An object that it led to before stays in the bytes of the message.
+        /// An object that it pointed to before stays in the bytes of the message.
         pub fn set_results(&mut self, value: Orphan<super::search_result::OwnedList>)
             ensures words { self.new.draft.words ≡ self.old.draft.words }
             ensures pointers { self.new.draft.pointers
@@ -335,7 +335,7 @@ pub mod search_result_list {
         }
     }
 
-    /// Which pointer of the struct leads to `results`, for `fields.get_pointer`.
+    /// Which pointer of the struct points to `results`, for `fields.get_pointer`.
     pub const RESULTS_POINTER: u16 = 0;
 }
 
@@ -368,8 +368,8 @@ pub mod search_result {
                 let pointer = pointer_in fields 0 in
                 IsViewOf pointer
                 (λ view. Reads pointer (λ form. IsText form view.bytes.now))
-                (Accepts pointer TakesText) (Refuses pointer DeclinesText)
-                (Declines pointer DeclinesText) result }
+                (Accepts pointer TakesText) (ViewError pointer TextFormError)
+                (FormError pointer TextFormError) result }
         {
             self.fields.get_pointer_as(0)
         }
@@ -396,8 +396,8 @@ pub mod search_result {
                 let pointer = pointer_in fields 1 in
                 IsViewOf pointer
                 (λ view. Reads pointer (λ form. IsText form view.bytes.now))
-                (Accepts pointer TakesText) (Refuses pointer DeclinesText)
-                (Declines pointer DeclinesText) result }
+                (Accepts pointer TakesText) (ViewError pointer TextFormError)
+                (FormError pointer TextFormError) result }
         {
             self.fields.get_pointer_as(1)
         }
@@ -416,16 +416,16 @@ pub mod search_result {
 
         ghost accepts = { λ pointer. Accepts pointer TakesStruct };
 
-        ghost refuses = { λ pointer kind. Refuses pointer DeclinesStruct kind };
+        ghost fails = { λ pointer kind. ViewError pointer StructFormError kind };
 
-        ghost declines = { λ pointer kind. Declines pointer DeclinesStruct kind };
+        ghost form_error = { λ pointer kind. FormError pointer StructFormError kind };
 
         #[inline(always)]
         fn get_from_pointer(reader: any_pointer::Reader<'a, S>) -> Result<Self>
             ensures { let pointer = pointer_of S.segments reader.entry in IsViewOf pointer
                 (λ view. IsStruct pointer (struct_of S.segments view.fields))
-                (Accepts pointer TakesStruct) (Refuses pointer DeclinesStruct)
-                (Declines pointer DeclinesStruct) result }
+                (Accepts pointer TakesStruct) (ViewError pointer StructFormError)
+                (FormError pointer StructFormError) result }
         {
             match StructReader::get_from_pointer(reader) {
                 Ok(fields) => Ok(Reader { fields }),
@@ -444,14 +444,14 @@ pub mod search_result {
     impl<'a, S: ReaderSegments> ListReader<'a, S> {
         /// The number of elements.
         pub fn len(&self) -> u32
-            ensures { result ≡ length (upgraded_structs_of S.segments self.now.elements).rows }
+            ensures { result ≡ length (upgraded_structs_of S.segments self.now.elements).elements }
         {
             self.elements.len()
         }
 
         /// The element of this index.
         pub fn get(&self, index: u32) -> Reader<'a, S>
-            requires { index < length (upgraded_structs_of S.segments self.now.elements).rows }
+            requires { index < length (upgraded_structs_of S.segments self.now.elements).elements }
             ensures { struct_of S.segments result.fields
                 ≡ element_of (upgraded_structs_of S.segments self.now.elements) index }
         {
@@ -463,7 +463,7 @@ pub mod search_result {
         /// The element of this index, or `None` where there are no more elements than it.
         pub fn try_get(&self, index: u32) -> Option<Reader<'a, S>>
             ensures { let list = upgraded_structs_of S.segments self.now.elements in
-                FindsElement (length list.rows) index
+                FindsElement (length list.elements) index
                 (λ item. struct_of S.segments item.fields ≡ element_of list index) result }
         {
             self.try_index_move(index)
@@ -484,7 +484,7 @@ pub mod search_result {
 
         ghost seen = { λ item. struct_of S.segments item.fields };
 
-        ghost size = { λ list. length (upgraded_structs_of S.segments list.elements).rows };
+        ghost size = { λ list. length (upgraded_structs_of S.segments list.elements).elements };
 
         ghost element = { λ list index.
             element_of (upgraded_structs_of S.segments list.elements) index };
@@ -514,17 +514,17 @@ pub mod search_result {
         ghost shows = { λ pointer view.
             IsUpgradedStructs pointer (upgraded_structs_of S.segments view.elements) };
 
-        ghost accepts = { λ pointer. Accepts pointer TakesRows };
+        ghost accepts = { λ pointer. Accepts pointer TakesAsStructs };
 
-        ghost refuses = { λ pointer kind. Refuses pointer DeclinesRows kind };
+        ghost fails = { λ pointer kind. ViewError pointer ElementsFormError kind };
 
-        ghost declines = { λ pointer kind. Declines pointer DeclinesRows kind };
+        ghost form_error = { λ pointer kind. FormError pointer ElementsFormError kind };
 
         fn get_from_pointer(reader: any_pointer::Reader<'a, S>) -> Result<Self>
             ensures { let pointer = pointer_of S.segments reader.entry in IsViewOf pointer
                 (λ view. IsUpgradedStructs pointer (upgraded_structs_of S.segments view.elements))
-                (Accepts pointer TakesRows) (Refuses pointer DeclinesRows)
-                (Declines pointer DeclinesRows) result }
+                (Accepts pointer TakesAsStructs) (ViewError pointer ElementsFormError)
+                (FormError pointer ElementsFormError) result }
         {
             match upgraded::StructList::get_from_pointer(reader) {
                 Ok(elements) => Ok(ListReader { elements }),
@@ -544,7 +544,7 @@ pub mod search_result {
     impl<'a, S: ReaderSegments> traits::SetterInput<OwnedList> for ListReader<'a, S> {
         ghost has_tree = { λ list trees. IsStructListValue S.segments list.elements trees };
 
-        ghost refuses = { λ list kind. RefusesStructList S.segments list.elements kind };
+        ghost fails = { λ list kind. StructListValueError S.segments list.elements kind };
 
         ghost one = { λ list trees is. one_struct_list S.segments list.elements trees is };
 
@@ -570,7 +570,7 @@ pub mod search_result {
     /// A struct of this type before it is written. What is not set has its default.
     #[derive(Clone, Copy)]
     pub struct Builder {
-        /// Its data words, and what its pointers lead to.
+        /// Its data words, and what its pointers point to.
         pub draft: StructDraft<Owned, 1, 2>,
     }
 
@@ -585,12 +585,12 @@ pub mod search_result {
             }
         }
 
-        /// One of what a reader shows, to be changed and written again. What its pointers lead to is
+        /// One of what a reader shows, to be changed and written again. What its pointers point to is
         /// copied, each object as an orphan, and null stays null. What a writer of another version of
         /// the type left out is zero and null, and what it had beyond this one is left out.
         ///
         /// What a setter replaces after that was copied, and stays in the bytes of the message, where no
-        /// pointer leads to it. Canonical words of the message are without it.
+        /// pointer points to it. Canonical words of the message are without it.
         ///
         /// It fails as `Orphanage::set` of the first pointer does that can't be copied.
         pub fn from_reader<R: ReaderSegments, S: GrowingSegment>(
@@ -598,8 +598,8 @@ pub mod search_result {
             objects: &mut Orphanage<S>,
         ) -> Result<Builder>
             ensures words { IfOk result (λ made. made.draft.words
-                ≡ words_in (struct_of R.segments read.now.fields) 1) }
-            ensures copies { Copies (struct_of R.segments read.now.fields) 2
+                ≡ data_up_to (struct_of R.segments read.now.fields) 1) }
+            ensures copies { CopiesPointers (struct_of R.segments read.now.fields) 2
                 objects.old objects.new (λ made. made.draft.pointers) result }
         {
             match StructDraft::from_reader(&read.fields, objects) {
@@ -612,7 +612,7 @@ pub mod search_result {
         /// pointers are null.
         pub fn from_data_section<R: ReaderSegments>(read: &Reader<'_, R>) -> Builder
             ensures words { result.draft.words
-                ≡ words_in (struct_of R.segments read.now.fields) 1 }
+                ≡ data_up_to (struct_of R.segments read.now.fields) 1 }
             ensures pointers { result.draft.pointers ≡ replicate 2 0 }
         {
             Builder {
@@ -620,11 +620,11 @@ pub mod search_result {
             }
         }
 
-        /// Writes it, as an object that a pointer can lead to.
+        /// Writes it, as an object that a pointer can point to.
         pub fn add<S: GrowingSegment>(&self, objects: &mut Orphanage<S>) -> Result<Orphan<Owned>>
-            ensures adds { Adds (HoldsStruct (body_of objects.old) self.now.draft.words
+            ensures adds { AddsOrphan (HoldsStruct (body_of objects.old) self.now.draft.words
                 self.now.draft.pointers) objects.old objects.new word_of result }
-            ensures writes { Writes (StructWords 1 2) (ExceedsPointer 1 2)
+            ensures writes { Writes (StructWords 1 2) (StructSizeError 1 2)
                 objects.old objects.new result }
         {
             objects.add(&self.draft)
@@ -634,7 +634,7 @@ pub mod search_result {
         pub fn add_root<S: GrowingSegment>(&self, objects: &mut Orphanage<S>) -> Result<()>
             ensures adds { AddsRoot (StructWords 1 2) (HoldsStruct (body_of objects.old)
                 self.now.draft.words self.now.draft.pointers) objects.old objects.new result }
-            ensures fails { Fails (StructWords 1 2) (ExceedsPointer 1 2)
+            ensures fails { FailsToAdd (StructWords 1 2) (StructSizeError 1 2)
                 objects.old result }
         {
             objects.add_root(&self.draft)
@@ -645,10 +645,10 @@ pub mod search_result {
             elements: &[Builder],
             objects: &mut Orphanage<S>,
         ) -> Result<Orphan<OwnedList>>
-            ensures adds { Adds (HoldsStructs (body_of objects.old)
+            ensures adds { AddsOrphan (HoldsStructs (body_of objects.old)
                 (map (λ element. element.draft) elements.now)) objects.old objects.new word_of result }
             ensures writes { let count = length elements.now in
-                Writes (TakesStructs 1 2 count) (ManyStructs 1 2 count)
+                Writes (TakesStructsWords 1 2 count) (ManyStructs 1 2 count)
                 objects.old objects.new result }
         {
             objects.draft_list(elements)
@@ -666,7 +666,7 @@ pub mod search_result {
     impl Builder {
         /// Sets the field `url`.
         ///
-        /// An object that it led to before stays in the bytes of the message.
+        /// An object that it pointed to before stays in the bytes of the message.
         pub fn set_url(&mut self, value: Orphan<text::Owned>)
             ensures words { self.new.draft.words ≡ self.old.draft.words }
             ensures pointers { self.new.draft.pointers
@@ -701,7 +701,7 @@ pub mod search_result {
 
         /// Sets the field `snippet`.
         ///
-        /// An object that it led to before stays in the bytes of the message.
+        /// An object that it pointed to before stays in the bytes of the message.
         pub fn set_snippet(&mut self, value: Orphan<text::Owned>)
             ensures words { self.new.draft.words ≡ self.old.draft.words }
             ensures pointers { self.new.draft.pointers
@@ -718,9 +718,9 @@ pub mod search_result {
         }
     }
 
-    /// Which pointer of the struct leads to `url`, for `fields.get_pointer`.
+    /// Which pointer of the struct points to `url`, for `fields.get_pointer`.
     pub const URL_POINTER: u16 = 0;
 
-    /// Which pointer of the struct leads to `snippet`, for `fields.get_pointer`.
+    /// Which pointer of the struct points to `snippet`, for `fields.get_pointer`.
     pub const SNIPPET_POINTER: u16 = 1;
 }

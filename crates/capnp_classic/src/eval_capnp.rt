@@ -1,9 +1,9 @@
 //! Types of `eval.capnp`, made by `capnpc-rattle`: change that file, and make them again.
 ghost use Rattle.std.specs.Prelude.{◌≡◌, ◌≤◌, ◌<◌, ◌↔◌, ◌≢◌, IfOk, IsTrue, length, map, replicate, slice_index_or, slice_set};
 ghost use Rattle.std.specs.Int.{w32, cast_signed, cast_unsigned};
-ghost use Rattle.capnp_orphans.specs.Adding.{Adds, AddsRoot, Fails, Writes};
-ghost use Rattle.capnp_orphans.specs.Copied.{words_in, Copies};
-ghost use Rattle.capnp_orphans.specs.Held.{word_of, HoldsStruct, HoldsStructs, TakesStruct as StructWords, TakesStructs, ExceedsPointer, ManyStructs};
+ghost use Rattle.capnp_orphans.specs.Adding.{AddsOrphan, AddsRoot, FailsToAdd, Writes};
+ghost use Rattle.capnp_orphans.specs.Copied.{data_up_to, CopiesPointers};
+ghost use Rattle.capnp_orphans.specs.Holds.{word_of, HoldsStruct, HoldsStructs, TakesStructWords as StructWords, TakesStructsWords, StructSizeError, ManyStructs};
 ghost use Rattle.capnp_orphans.specs.Segments.{body_of};
 ghost use Rattle.capnp_values.specs.DataSections.{with_field};
 ghost use Rattle.capnp_wire.specs.Fields.{field};
@@ -12,9 +12,9 @@ ghost use Rattle.capnp_wire.specs.Lists.{FindsElement, IsIterator};
 ghost use Rattle.capnp_wire.specs.Object.{nothing};
 ghost use Rattle.capnp_wire.specs.Readers.{struct_of, pointer_of};
 ghost use Rattle.capnp_wire.specs.UpgradedReaders.{upgraded_structs_of};
-ghost use Rattle.capnp_wire.specs.UpgradedValues.{IsStructListValue, RefusesStructList, one_struct_list};
-ghost use Rattle.capnp_wire.specs.UpgradedViews.{IsUpgradedStructs, TakesRows, DeclinesRows};
-ghost use Rattle.capnp_wire.specs.Views.{Struct, IsViewOf, IsStruct, Accepts, Refuses, Declines, Denotes, TakesStruct, DeclinesStruct, pointer_in};
+ghost use Rattle.capnp_wire.specs.UpgradedValues.{IsStructListValue, StructListValueError, one_struct_list};
+ghost use Rattle.capnp_wire.specs.UpgradedViews.{IsUpgradedStructs, TakesAsStructs, ElementsFormError};
+ghost use Rattle.capnp_wire.specs.Views.{Struct, IsViewOf, IsStruct, Accepts, ViewError, FormError, Denotes, TakesStruct, StructFormError, pointer_in};
 
 #[derive(Clone, Copy, PartialEq, Eq, Hash, Debug)]
 pub enum Operation {
@@ -149,16 +149,16 @@ pub mod expression {
 
         ghost accepts = { λ pointer. Accepts pointer TakesStruct };
 
-        ghost refuses = { λ pointer kind. Refuses pointer DeclinesStruct kind };
+        ghost fails = { λ pointer kind. ViewError pointer StructFormError kind };
 
-        ghost declines = { λ pointer kind. Declines pointer DeclinesStruct kind };
+        ghost form_error = { λ pointer kind. FormError pointer StructFormError kind };
 
         #[inline(always)]
         fn get_from_pointer(reader: any_pointer::Reader<'a, S>) -> Result<Self>
             ensures { let pointer = pointer_of S.segments reader.entry in IsViewOf pointer
                 (λ view. IsStruct pointer (struct_of S.segments view.fields))
-                (Accepts pointer TakesStruct) (Refuses pointer DeclinesStruct)
-                (Declines pointer DeclinesStruct) result }
+                (Accepts pointer TakesStruct) (ViewError pointer StructFormError)
+                (FormError pointer StructFormError) result }
         {
             match StructReader::get_from_pointer(reader) {
                 Ok(fields) => Ok(Reader { fields }),
@@ -177,14 +177,14 @@ pub mod expression {
     impl<'a, S: ReaderSegments> ListReader<'a, S> {
         /// The number of elements.
         pub fn len(&self) -> u32
-            ensures { result ≡ length (upgraded_structs_of S.segments self.now.elements).rows }
+            ensures { result ≡ length (upgraded_structs_of S.segments self.now.elements).elements }
         {
             self.elements.len()
         }
 
         /// The element of this index.
         pub fn get(&self, index: u32) -> Reader<'a, S>
-            requires { index < length (upgraded_structs_of S.segments self.now.elements).rows }
+            requires { index < length (upgraded_structs_of S.segments self.now.elements).elements }
             ensures { struct_of S.segments result.fields
                 ≡ element_of (upgraded_structs_of S.segments self.now.elements) index }
         {
@@ -196,7 +196,7 @@ pub mod expression {
         /// The element of this index, or `None` where there are no more elements than it.
         pub fn try_get(&self, index: u32) -> Option<Reader<'a, S>>
             ensures { let list = upgraded_structs_of S.segments self.now.elements in
-                FindsElement (length list.rows) index
+                FindsElement (length list.elements) index
                 (λ item. struct_of S.segments item.fields ≡ element_of list index) result }
         {
             self.try_index_move(index)
@@ -217,7 +217,7 @@ pub mod expression {
 
         ghost seen = { λ item. struct_of S.segments item.fields };
 
-        ghost size = { λ list. length (upgraded_structs_of S.segments list.elements).rows };
+        ghost size = { λ list. length (upgraded_structs_of S.segments list.elements).elements };
 
         ghost element = { λ list index.
             element_of (upgraded_structs_of S.segments list.elements) index };
@@ -247,17 +247,17 @@ pub mod expression {
         ghost shows = { λ pointer view.
             IsUpgradedStructs pointer (upgraded_structs_of S.segments view.elements) };
 
-        ghost accepts = { λ pointer. Accepts pointer TakesRows };
+        ghost accepts = { λ pointer. Accepts pointer TakesAsStructs };
 
-        ghost refuses = { λ pointer kind. Refuses pointer DeclinesRows kind };
+        ghost fails = { λ pointer kind. ViewError pointer ElementsFormError kind };
 
-        ghost declines = { λ pointer kind. Declines pointer DeclinesRows kind };
+        ghost form_error = { λ pointer kind. FormError pointer ElementsFormError kind };
 
         fn get_from_pointer(reader: any_pointer::Reader<'a, S>) -> Result<Self>
             ensures { let pointer = pointer_of S.segments reader.entry in IsViewOf pointer
                 (λ view. IsUpgradedStructs pointer (upgraded_structs_of S.segments view.elements))
-                (Accepts pointer TakesRows) (Refuses pointer DeclinesRows)
-                (Declines pointer DeclinesRows) result }
+                (Accepts pointer TakesAsStructs) (ViewError pointer ElementsFormError)
+                (FormError pointer ElementsFormError) result }
         {
             match upgraded::StructList::get_from_pointer(reader) {
                 Ok(elements) => Ok(ListReader { elements }),
@@ -277,7 +277,7 @@ pub mod expression {
     impl<'a, S: ReaderSegments> traits::SetterInput<OwnedList> for ListReader<'a, S> {
         ghost has_tree = { λ list trees. IsStructListValue S.segments list.elements trees };
 
-        ghost refuses = { λ list kind. RefusesStructList S.segments list.elements kind };
+        ghost fails = { λ list kind. StructListValueError S.segments list.elements kind };
 
         ghost one = { λ list trees is. one_struct_list S.segments list.elements trees is };
 
@@ -303,7 +303,7 @@ pub mod expression {
     /// A struct of this type before it is written. What is not set has its default.
     #[derive(Clone, Copy)]
     pub struct Builder {
-        /// Its data words, and what its pointers lead to.
+        /// Its data words, and what its pointers point to.
         pub draft: StructDraft<Owned, 2, 2>,
     }
 
@@ -318,12 +318,12 @@ pub mod expression {
             }
         }
 
-        /// One of what a reader shows, to be changed and written again. What its pointers lead to is
+        /// One of what a reader shows, to be changed and written again. What its pointers point to is
         /// copied, each object as an orphan, and null stays null. What a writer of another version of
         /// the type left out is zero and null, and what it had beyond this one is left out.
         ///
         /// What a setter replaces after that was copied, and stays in the bytes of the message, where no
-        /// pointer leads to it. Canonical words of the message are without it.
+        /// pointer points to it. Canonical words of the message are without it.
         ///
         /// It fails as `Orphanage::set` of the first pointer does that can't be copied.
         pub fn from_reader<R: ReaderSegments, S: GrowingSegment>(
@@ -331,8 +331,8 @@ pub mod expression {
             objects: &mut Orphanage<S>,
         ) -> Result<Builder>
             ensures words { IfOk result (λ made. made.draft.words
-                ≡ words_in (struct_of R.segments read.now.fields) 2) }
-            ensures copies { Copies (struct_of R.segments read.now.fields) 2
+                ≡ data_up_to (struct_of R.segments read.now.fields) 2) }
+            ensures copies { CopiesPointers (struct_of R.segments read.now.fields) 2
                 objects.old objects.new (λ made. made.draft.pointers) result }
         {
             match StructDraft::from_reader(&read.fields, objects) {
@@ -345,7 +345,7 @@ pub mod expression {
         /// pointers are null.
         pub fn from_data_section<R: ReaderSegments>(read: &Reader<'_, R>) -> Builder
             ensures words { result.draft.words
-                ≡ words_in (struct_of R.segments read.now.fields) 2 }
+                ≡ data_up_to (struct_of R.segments read.now.fields) 2 }
             ensures pointers { result.draft.pointers ≡ replicate 2 0 }
         {
             Builder {
@@ -353,11 +353,11 @@ pub mod expression {
             }
         }
 
-        /// Writes it, as an object that a pointer can lead to.
+        /// Writes it, as an object that a pointer can point to.
         pub fn add<S: GrowingSegment>(&self, objects: &mut Orphanage<S>) -> Result<Orphan<Owned>>
-            ensures adds { Adds (HoldsStruct (body_of objects.old) self.now.draft.words
+            ensures adds { AddsOrphan (HoldsStruct (body_of objects.old) self.now.draft.words
                 self.now.draft.pointers) objects.old objects.new word_of result }
-            ensures writes { Writes (StructWords 2 2) (ExceedsPointer 2 2)
+            ensures writes { Writes (StructWords 2 2) (StructSizeError 2 2)
                 objects.old objects.new result }
         {
             objects.add(&self.draft)
@@ -367,7 +367,7 @@ pub mod expression {
         pub fn add_root<S: GrowingSegment>(&self, objects: &mut Orphanage<S>) -> Result<()>
             ensures adds { AddsRoot (StructWords 2 2) (HoldsStruct (body_of objects.old)
                 self.now.draft.words self.now.draft.pointers) objects.old objects.new result }
-            ensures fails { Fails (StructWords 2 2) (ExceedsPointer 2 2)
+            ensures fails { FailsToAdd (StructWords 2 2) (StructSizeError 2 2)
                 objects.old result }
         {
             objects.add_root(&self.draft)
@@ -378,10 +378,10 @@ pub mod expression {
             elements: &[Builder],
             objects: &mut Orphanage<S>,
         ) -> Result<Orphan<OwnedList>>
-            ensures adds { Adds (HoldsStructs (body_of objects.old)
+            ensures adds { AddsOrphan (HoldsStructs (body_of objects.old)
                 (map (λ element. element.draft) elements.now)) objects.old objects.new word_of result }
             ensures writes { let count = length elements.now in
-                Writes (TakesStructs 2 2 count) (ManyStructs 2 2 count)
+                Writes (TakesStructsWords 2 2 count) (ManyStructs 2 2 count)
                 objects.old objects.new result }
         {
             objects.draft_list(elements)
@@ -458,8 +458,8 @@ pub mod expression {
                     let pointer = pointer_in fields 0 in
                     IsViewOf pointer
                     (λ view. IsStruct pointer (struct_of S.segments view.fields))
-                    (Accepts pointer TakesStruct) (Refuses pointer DeclinesStruct)
-                    (Declines pointer DeclinesStruct) result }
+                    (Accepts pointer TakesStruct) (ViewError pointer StructFormError)
+                    (FormError pointer StructFormError) result }
             {
                 match self.fields.get_pointer_as(0) {
                     Ok(fields) => Ok(super::super::expression::Reader { fields }),
@@ -486,8 +486,8 @@ pub mod expression {
                           (let pointer = pointer_in fields 0 in
                           IsViewOf pointer
                           (λ view. IsStruct pointer (struct_of S.segments view.fields))
-                          (Accepts pointer TakesStruct) (Refuses pointer DeclinesStruct)
-                          (Declines pointer DeclinesStruct) value)
+                          (Accepts pointer TakesStruct) (ViewError pointer StructFormError)
+                          (FormError pointer StructFormError) value)
                       | Which.NotInSchema unknown ↦ (unknown ≡ number) × (2 ≤ number)
                     ] }
             {
@@ -529,7 +529,7 @@ pub mod expression {
 
             /// Sets the field `expression`.
             ///
-            /// An object that it led to before stays in the bytes of the message.
+            /// An object that it pointed to before stays in the bytes of the message.
             pub fn set_left_expression(&mut self, value: Orphan<super::super::expression::Owned>)
                 ensures words { self.new.draft.words
                     ≡ (with_field self.old.draft.words 16 1 1) }
@@ -548,7 +548,7 @@ pub mod expression {
             }
         }
 
-        /// Which pointer of the struct leads to `expression`, for `fields.get_pointer`.
+        /// Which pointer of the struct points to `expression`, for `fields.get_pointer`.
         pub const EXPRESSION_POINTER: u16 = 0;
     }
 
@@ -580,8 +580,8 @@ pub mod expression {
                     let pointer = pointer_in fields 1 in
                     IsViewOf pointer
                     (λ view. IsStruct pointer (struct_of S.segments view.fields))
-                    (Accepts pointer TakesStruct) (Refuses pointer DeclinesStruct)
-                    (Declines pointer DeclinesStruct) result }
+                    (Accepts pointer TakesStruct) (ViewError pointer StructFormError)
+                    (FormError pointer StructFormError) result }
             {
                 match self.fields.get_pointer_as(1) {
                     Ok(fields) => Ok(super::super::expression::Reader { fields }),
@@ -608,8 +608,8 @@ pub mod expression {
                           (let pointer = pointer_in fields 1 in
                           IsViewOf pointer
                           (λ view. IsStruct pointer (struct_of S.segments view.fields))
-                          (Accepts pointer TakesStruct) (Refuses pointer DeclinesStruct)
-                          (Declines pointer DeclinesStruct) value)
+                          (Accepts pointer TakesStruct) (ViewError pointer StructFormError)
+                          (FormError pointer StructFormError) value)
                       | Which.NotInSchema unknown ↦ (unknown ≡ number) × (2 ≤ number)
                     ] }
             {
@@ -651,7 +651,7 @@ pub mod expression {
 
             /// Sets the field `expression`.
             ///
-            /// An object that it led to before stays in the bytes of the message.
+            /// An object that it pointed to before stays in the bytes of the message.
             pub fn set_right_expression(&mut self, value: Orphan<super::super::expression::Owned>)
                 ensures words { self.new.draft.words
                     ≡ (with_field self.old.draft.words 16 6 1) }
@@ -670,7 +670,7 @@ pub mod expression {
             }
         }
 
-        /// Which pointer of the struct leads to `expression`, for `fields.get_pointer`.
+        /// Which pointer of the struct points to `expression`, for `fields.get_pointer`.
         pub const EXPRESSION_POINTER: u16 = 1;
     }
 }
@@ -712,16 +712,16 @@ pub mod evaluation_result {
 
         ghost accepts = { λ pointer. Accepts pointer TakesStruct };
 
-        ghost refuses = { λ pointer kind. Refuses pointer DeclinesStruct kind };
+        ghost fails = { λ pointer kind. ViewError pointer StructFormError kind };
 
-        ghost declines = { λ pointer kind. Declines pointer DeclinesStruct kind };
+        ghost form_error = { λ pointer kind. FormError pointer StructFormError kind };
 
         #[inline(always)]
         fn get_from_pointer(reader: any_pointer::Reader<'a, S>) -> Result<Self>
             ensures { let pointer = pointer_of S.segments reader.entry in IsViewOf pointer
                 (λ view. IsStruct pointer (struct_of S.segments view.fields))
-                (Accepts pointer TakesStruct) (Refuses pointer DeclinesStruct)
-                (Declines pointer DeclinesStruct) result }
+                (Accepts pointer TakesStruct) (ViewError pointer StructFormError)
+                (FormError pointer StructFormError) result }
         {
             match StructReader::get_from_pointer(reader) {
                 Ok(fields) => Ok(Reader { fields }),
@@ -740,14 +740,14 @@ pub mod evaluation_result {
     impl<'a, S: ReaderSegments> ListReader<'a, S> {
         /// The number of elements.
         pub fn len(&self) -> u32
-            ensures { result ≡ length (upgraded_structs_of S.segments self.now.elements).rows }
+            ensures { result ≡ length (upgraded_structs_of S.segments self.now.elements).elements }
         {
             self.elements.len()
         }
 
         /// The element of this index.
         pub fn get(&self, index: u32) -> Reader<'a, S>
-            requires { index < length (upgraded_structs_of S.segments self.now.elements).rows }
+            requires { index < length (upgraded_structs_of S.segments self.now.elements).elements }
             ensures { struct_of S.segments result.fields
                 ≡ element_of (upgraded_structs_of S.segments self.now.elements) index }
         {
@@ -759,7 +759,7 @@ pub mod evaluation_result {
         /// The element of this index, or `None` where there are no more elements than it.
         pub fn try_get(&self, index: u32) -> Option<Reader<'a, S>>
             ensures { let list = upgraded_structs_of S.segments self.now.elements in
-                FindsElement (length list.rows) index
+                FindsElement (length list.elements) index
                 (λ item. struct_of S.segments item.fields ≡ element_of list index) result }
         {
             self.try_index_move(index)
@@ -780,7 +780,7 @@ pub mod evaluation_result {
 
         ghost seen = { λ item. struct_of S.segments item.fields };
 
-        ghost size = { λ list. length (upgraded_structs_of S.segments list.elements).rows };
+        ghost size = { λ list. length (upgraded_structs_of S.segments list.elements).elements };
 
         ghost element = { λ list index.
             element_of (upgraded_structs_of S.segments list.elements) index };
@@ -810,17 +810,17 @@ pub mod evaluation_result {
         ghost shows = { λ pointer view.
             IsUpgradedStructs pointer (upgraded_structs_of S.segments view.elements) };
 
-        ghost accepts = { λ pointer. Accepts pointer TakesRows };
+        ghost accepts = { λ pointer. Accepts pointer TakesAsStructs };
 
-        ghost refuses = { λ pointer kind. Refuses pointer DeclinesRows kind };
+        ghost fails = { λ pointer kind. ViewError pointer ElementsFormError kind };
 
-        ghost declines = { λ pointer kind. Declines pointer DeclinesRows kind };
+        ghost form_error = { λ pointer kind. FormError pointer ElementsFormError kind };
 
         fn get_from_pointer(reader: any_pointer::Reader<'a, S>) -> Result<Self>
             ensures { let pointer = pointer_of S.segments reader.entry in IsViewOf pointer
                 (λ view. IsUpgradedStructs pointer (upgraded_structs_of S.segments view.elements))
-                (Accepts pointer TakesRows) (Refuses pointer DeclinesRows)
-                (Declines pointer DeclinesRows) result }
+                (Accepts pointer TakesAsStructs) (ViewError pointer ElementsFormError)
+                (FormError pointer ElementsFormError) result }
         {
             match upgraded::StructList::get_from_pointer(reader) {
                 Ok(elements) => Ok(ListReader { elements }),
@@ -840,7 +840,7 @@ pub mod evaluation_result {
     impl<'a, S: ReaderSegments> traits::SetterInput<OwnedList> for ListReader<'a, S> {
         ghost has_tree = { λ list trees. IsStructListValue S.segments list.elements trees };
 
-        ghost refuses = { λ list kind. RefusesStructList S.segments list.elements kind };
+        ghost fails = { λ list kind. StructListValueError S.segments list.elements kind };
 
         ghost one = { λ list trees is. one_struct_list S.segments list.elements trees is };
 
@@ -866,7 +866,7 @@ pub mod evaluation_result {
     /// A struct of this type before it is written. What is not set has its default.
     #[derive(Clone, Copy)]
     pub struct Builder {
-        /// Its data words, and what its pointers lead to.
+        /// Its data words, and what its pointers point to.
         pub draft: StructDraft<Owned, 1, 0>,
     }
 
@@ -881,12 +881,12 @@ pub mod evaluation_result {
             }
         }
 
-        /// One of what a reader shows, to be changed and written again. What its pointers lead to is
+        /// One of what a reader shows, to be changed and written again. What its pointers point to is
         /// copied, each object as an orphan, and null stays null. What a writer of another version of
         /// the type left out is zero and null, and what it had beyond this one is left out.
         ///
         /// What a setter replaces after that was copied, and stays in the bytes of the message, where no
-        /// pointer leads to it. Canonical words of the message are without it.
+        /// pointer points to it. Canonical words of the message are without it.
         ///
         /// It fails as `Orphanage::set` of the first pointer does that can't be copied.
         pub fn from_reader<R: ReaderSegments, S: GrowingSegment>(
@@ -894,8 +894,8 @@ pub mod evaluation_result {
             objects: &mut Orphanage<S>,
         ) -> Result<Builder>
             ensures words { IfOk result (λ made. made.draft.words
-                ≡ words_in (struct_of R.segments read.now.fields) 1) }
-            ensures copies { Copies (struct_of R.segments read.now.fields) 0
+                ≡ data_up_to (struct_of R.segments read.now.fields) 1) }
+            ensures copies { CopiesPointers (struct_of R.segments read.now.fields) 0
                 objects.old objects.new (λ made. made.draft.pointers) result }
         {
             match StructDraft::from_reader(&read.fields, objects) {
@@ -908,7 +908,7 @@ pub mod evaluation_result {
         /// pointers are null.
         pub fn from_data_section<R: ReaderSegments>(read: &Reader<'_, R>) -> Builder
             ensures words { result.draft.words
-                ≡ words_in (struct_of R.segments read.now.fields) 1 }
+                ≡ data_up_to (struct_of R.segments read.now.fields) 1 }
             ensures pointers { result.draft.pointers ≡ replicate 0 0 }
         {
             Builder {
@@ -916,11 +916,11 @@ pub mod evaluation_result {
             }
         }
 
-        /// Writes it, as an object that a pointer can lead to.
+        /// Writes it, as an object that a pointer can point to.
         pub fn add<S: GrowingSegment>(&self, objects: &mut Orphanage<S>) -> Result<Orphan<Owned>>
-            ensures adds { Adds (HoldsStruct (body_of objects.old) self.now.draft.words
+            ensures adds { AddsOrphan (HoldsStruct (body_of objects.old) self.now.draft.words
                 self.now.draft.pointers) objects.old objects.new word_of result }
-            ensures writes { Writes (StructWords 1 0) (ExceedsPointer 1 0)
+            ensures writes { Writes (StructWords 1 0) (StructSizeError 1 0)
                 objects.old objects.new result }
         {
             objects.add(&self.draft)
@@ -930,7 +930,7 @@ pub mod evaluation_result {
         pub fn add_root<S: GrowingSegment>(&self, objects: &mut Orphanage<S>) -> Result<()>
             ensures adds { AddsRoot (StructWords 1 0) (HoldsStruct (body_of objects.old)
                 self.now.draft.words self.now.draft.pointers) objects.old objects.new result }
-            ensures fails { Fails (StructWords 1 0) (ExceedsPointer 1 0)
+            ensures fails { FailsToAdd (StructWords 1 0) (StructSizeError 1 0)
                 objects.old result }
         {
             objects.add_root(&self.draft)
@@ -941,10 +941,10 @@ pub mod evaluation_result {
             elements: &[Builder],
             objects: &mut Orphanage<S>,
         ) -> Result<Orphan<OwnedList>>
-            ensures adds { Adds (HoldsStructs (body_of objects.old)
+            ensures adds { AddsOrphan (HoldsStructs (body_of objects.old)
                 (map (λ element. element.draft) elements.now)) objects.old objects.new word_of result }
             ensures writes { let count = length elements.now in
-                Writes (TakesStructs 1 0 count) (ManyStructs 1 0 count)
+                Writes (TakesStructsWords 1 0 count) (ManyStructs 1 0 count)
                 objects.old objects.new result }
         {
             objects.draft_list(elements)

@@ -12,8 +12,8 @@ ghost use Rattle.capnp_wire.specs.Pointer.{words_of};
 ghost use Rattle.capnp_wire.specs.Readers.{struct_of, pointer_of};
 ghost use Rattle.capnp_wire.specs.Tree.{none as NoTrees, tree as TreeOf, numbers as NumbersForm};
 ghost use Rattle.capnp_wire.specs.UpgradedReaders.{upgraded_structs_of, upgraded_numbers_of};
-ghost use Rattle.capnp_wire.specs.UpgradedViews.{IsUpgradedStructs, ReadsAsNumbers, TakesRows, TakesFields, DeclinesRows, DeclinesFields};
-ghost use Rattle.capnp_wire.specs.Views.{Struct, IsViewOf, IsStruct, IsText, IsData, Accepts, Refuses, Declines, Denotes, Reads, TakesStruct, TakesText, TakesNumbers, DeclinesStruct, DeclinesText, DeclinesNumbers, pointer_in};
+ghost use Rattle.capnp_wire.specs.UpgradedViews.{IsUpgradedStructs, ReadsAsNumbers, TakesAsStructs, TakesFields, ElementsFormError, FieldsFormError};
+ghost use Rattle.capnp_wire.specs.Views.{Struct, IsViewOf, IsStruct, IsText, IsData, Accepts, ViewError, FormError, Denotes, Reads, TakesStruct, TakesText, TakesNumbers, StructFormError, TextFormError, NumbersFormError, pointer_in};
 
 pub mod printed {
     use capnp_frame::Result;
@@ -73,8 +73,8 @@ pub mod printed {
                 let pointer = pointer_in fields 0 in
                 IsViewOf pointer
                 (λ view. Reads pointer (λ form. IsText form view.bytes.now))
-                (Accepts pointer TakesText) (Refuses pointer DeclinesText)
-                (Declines pointer DeclinesText) result }
+                (Accepts pointer TakesText) (ViewError pointer TextFormError)
+                (FormError pointer TextFormError) result }
         {
             self.fields.get_pointer_as(0)
         }
@@ -93,8 +93,8 @@ pub mod printed {
                 let pointer = pointer_in fields 1 in
                 IsViewOf pointer
                 (λ view. Reads pointer (λ form. IsData form view.now))
-                (Accepts pointer (TakesNumbers 2)) (Refuses pointer (DeclinesNumbers 2))
-                (Declines pointer (DeclinesNumbers 2)) result }
+                (Accepts pointer (TakesNumbers 2)) (ViewError pointer (NumbersFormError 2))
+                (FormError pointer (NumbersFormError 2)) result }
         {
             self.fields.get_pointer_as(1)
         }
@@ -113,8 +113,8 @@ pub mod printed {
                 let pointer = pointer_in fields 2 in
                 IsViewOf pointer
                 (λ view. IsUpgradedStructs pointer (upgraded_structs_of S.segments view.elements))
-                (Accepts pointer TakesRows) (Refuses pointer DeclinesRows)
-                (Declines pointer DeclinesRows) result }
+                (Accepts pointer TakesAsStructs) (ViewError pointer ElementsFormError)
+                (FormError pointer ElementsFormError) result }
         {
             match self.fields.get_pointer_as(2) {
                 Ok(elements) => Ok(point::ListReader { elements }),
@@ -137,8 +137,8 @@ pub mod printed {
                 IsViewOf pointer
                 (λ view. Reads pointer (λ form.
                 ReadsAsNumbers 3 form (upgraded_numbers_of 3 view.numbers)))
-                (Accepts pointer (TakesFields 3)) (Refuses pointer (DeclinesFields 3))
-                (Declines pointer (DeclinesFields 3)) result }
+                (Accepts pointer (TakesFields 3)) (ViewError pointer (FieldsFormError 3))
+                (FormError pointer (FieldsFormError 3)) result }
         {
             self.fields.get_pointer_as(3)
         }
@@ -187,13 +187,13 @@ pub mod printed {
                 let pointer = pointer_in fields 5 in
                 ((Denotes pointer nothing → ⊥) → IsViewOf pointer
                 (λ view. Reads pointer (λ form. IsText form view.bytes.now))
-                (Accepts pointer TakesText) (Refuses pointer DeclinesText)
-                (Declines pointer DeclinesText) result)
+                (Accepts pointer TakesText) (ViewError pointer TextFormError)
+                (FormError pointer TextFormError) result)
                 × (Denotes pointer nothing → (let pointer = root_of LABEL_DEFAULT in
                 IsViewOf pointer
                 (λ view. Reads pointer (λ form. IsText form view.bytes.now))
-                (Accepts pointer TakesText) (Refuses pointer DeclinesText)
-                (Declines pointer DeclinesText) result)) }
+                (Accepts pointer TakesText) (ViewError pointer TextFormError)
+                (FormError pointer TextFormError) result)) }
         {
             let pointer = self.fields.get_pointer(5);
             if pointer.is_null() {
@@ -217,8 +217,8 @@ pub mod printed {
                 let pointer = pointer_in fields 5 in
                 IsViewOf pointer
                 (λ view. IsStruct pointer (struct_of S.segments view.fields))
-                (Accepts pointer TakesStruct) (Refuses pointer DeclinesStruct)
-                (Declines pointer DeclinesStruct) result }
+                (Accepts pointer TakesStruct) (ViewError pointer StructFormError)
+                (FormError pointer StructFormError) result }
         {
             match self.fields.get_pointer_as(5) {
                 Ok(fields) => Ok(super::printed::Reader { fields }),
@@ -245,19 +245,19 @@ pub mod printed {
                       (let pointer = pointer_in fields 5 in
                       ((Denotes pointer nothing → ⊥) → IsViewOf pointer
                       (λ view. Reads pointer (λ form. IsText form view.bytes.now))
-                      (Accepts pointer TakesText) (Refuses pointer DeclinesText)
-                      (Declines pointer DeclinesText) value)
+                      (Accepts pointer TakesText) (ViewError pointer TextFormError)
+                      (FormError pointer TextFormError) value)
                       × (Denotes pointer nothing → (let pointer = root_of LABEL_DEFAULT in
                       IsViewOf pointer
                       (λ view. Reads pointer (λ form. IsText form view.bytes.now))
-                      (Accepts pointer TakesText) (Refuses pointer DeclinesText)
-                      (Declines pointer DeclinesText) value)))
+                      (Accepts pointer TakesText) (ViewError pointer TextFormError)
+                      (FormError pointer TextFormError) value)))
                   | Which.Inner value ↦ (number ≡ 2) ×
                       (let pointer = pointer_in fields 5 in
                       IsViewOf pointer
                       (λ view. IsStruct pointer (struct_of S.segments view.fields))
-                      (Accepts pointer TakesStruct) (Refuses pointer DeclinesStruct)
-                      (Declines pointer DeclinesStruct) value)
+                      (Accepts pointer TakesStruct) (ViewError pointer StructFormError)
+                      (FormError pointer StructFormError) value)
                   | Which.NotInSchema unknown ↦ (unknown ≡ number) × (3 ≤ number)
                 ] }
         {
@@ -285,16 +285,16 @@ pub mod printed {
 
         ghost accepts = { λ pointer. Accepts pointer TakesStruct };
 
-        ghost refuses = { λ pointer kind. Refuses pointer DeclinesStruct kind };
+        ghost fails = { λ pointer kind. ViewError pointer StructFormError kind };
 
-        ghost declines = { λ pointer kind. Declines pointer DeclinesStruct kind };
+        ghost form_error = { λ pointer kind. FormError pointer StructFormError kind };
 
         #[inline(always)]
         fn get_from_pointer(reader: any_pointer::Reader<'a, S>) -> Result<Self>
             ensures { let pointer = pointer_of S.segments reader.entry in IsViewOf pointer
                 (λ view. IsStruct pointer (struct_of S.segments view.fields))
-                (Accepts pointer TakesStruct) (Refuses pointer DeclinesStruct)
-                (Declines pointer DeclinesStruct) result }
+                (Accepts pointer TakesStruct) (ViewError pointer StructFormError)
+                (FormError pointer StructFormError) result }
         {
             match StructReader::get_from_pointer(reader) {
                 Ok(fields) => Ok(Reader { fields }),
@@ -313,14 +313,14 @@ pub mod printed {
     impl<'a, S: ReaderSegments> ListReader<'a, S> {
         /// The number of elements.
         pub fn len(&self) -> u32
-            ensures { result ≡ length (upgraded_structs_of S.segments self.now.elements).rows }
+            ensures { result ≡ length (upgraded_structs_of S.segments self.now.elements).elements }
         {
             self.elements.len()
         }
 
         /// The element of this index.
         pub fn get(&self, index: u32) -> Reader<'a, S>
-            requires { index < length (upgraded_structs_of S.segments self.now.elements).rows }
+            requires { index < length (upgraded_structs_of S.segments self.now.elements).elements }
             ensures { struct_of S.segments result.fields
                 ≡ element_of (upgraded_structs_of S.segments self.now.elements) index }
         {
@@ -332,7 +332,7 @@ pub mod printed {
         /// The element of this index, or `None` where there are no more elements than it.
         pub fn try_get(&self, index: u32) -> Option<Reader<'a, S>>
             ensures { let list = upgraded_structs_of S.segments self.now.elements in
-                FindsElement (length list.rows) index
+                FindsElement (length list.elements) index
                 (λ item. struct_of S.segments item.fields ≡ element_of list index) result }
         {
             self.try_index_move(index)
@@ -353,7 +353,7 @@ pub mod printed {
 
         ghost seen = { λ item. struct_of S.segments item.fields };
 
-        ghost size = { λ list. length (upgraded_structs_of S.segments list.elements).rows };
+        ghost size = { λ list. length (upgraded_structs_of S.segments list.elements).elements };
 
         ghost element = { λ list index.
             element_of (upgraded_structs_of S.segments list.elements) index };
@@ -383,17 +383,17 @@ pub mod printed {
         ghost shows = { λ pointer view.
             IsUpgradedStructs pointer (upgraded_structs_of S.segments view.elements) };
 
-        ghost accepts = { λ pointer. Accepts pointer TakesRows };
+        ghost accepts = { λ pointer. Accepts pointer TakesAsStructs };
 
-        ghost refuses = { λ pointer kind. Refuses pointer DeclinesRows kind };
+        ghost fails = { λ pointer kind. ViewError pointer ElementsFormError kind };
 
-        ghost declines = { λ pointer kind. Declines pointer DeclinesRows kind };
+        ghost form_error = { λ pointer kind. FormError pointer ElementsFormError kind };
 
         fn get_from_pointer(reader: any_pointer::Reader<'a, S>) -> Result<Self>
             ensures { let pointer = pointer_of S.segments reader.entry in IsViewOf pointer
                 (λ view. IsUpgradedStructs pointer (upgraded_structs_of S.segments view.elements))
-                (Accepts pointer TakesRows) (Refuses pointer DeclinesRows)
-                (Declines pointer DeclinesRows) result }
+                (Accepts pointer TakesAsStructs) (ViewError pointer ElementsFormError)
+                (FormError pointer ElementsFormError) result }
         {
             match upgraded::StructList::get_from_pointer(reader) {
                 Ok(elements) => Ok(ListReader { elements }),
@@ -402,25 +402,25 @@ pub mod printed {
         }
     }
 
-    /// Which pointer of the struct leads to `title`, for `fields.get_pointer`.
+    /// Which pointer of the struct points to `title`, for `fields.get_pointer`.
     pub const TITLE_POINTER: u16 = 0;
 
-    /// Which pointer of the struct leads to `payload`, for `fields.get_pointer`.
+    /// Which pointer of the struct points to `payload`, for `fields.get_pointer`.
     pub const PAYLOAD_POINTER: u16 = 1;
 
-    /// Which pointer of the struct leads to `points`, for `fields.get_pointer`.
+    /// Which pointer of the struct points to `points`, for `fields.get_pointer`.
     pub const POINTS_POINTER: u16 = 2;
 
-    /// Which pointer of the struct leads to `colors`, for `fields.get_pointer`.
+    /// Which pointer of the struct points to `colors`, for `fields.get_pointer`.
     pub const COLORS_POINTER: u16 = 3;
 
-    /// Which pointer of the struct leads to `any`, for `fields.get_pointer`.
+    /// Which pointer of the struct points to `any`, for `fields.get_pointer`.
     pub const ANY_POINTER: u16 = 4;
 
-    /// Which pointer of the struct leads to `label`, for `fields.get_pointer`.
+    /// Which pointer of the struct points to `label`, for `fields.get_pointer`.
     pub const LABEL_POINTER: u16 = 5;
 
-    /// Which pointer of the struct leads to `inner`, for `fields.get_pointer`.
+    /// Which pointer of the struct points to `inner`, for `fields.get_pointer`.
     pub const INNER_POINTER: u16 = 5;
 
     #[rattlefmt::skip]
@@ -440,8 +440,8 @@ pub mod printed {
         ensures { let pointer = root_of LABEL_DEFAULT in
             IsViewOf pointer
             (λ view. Reads pointer (λ form. IsText form view.bytes.now))
-            (Accepts pointer TakesText) (Refuses pointer DeclinesText)
-            (Declines pointer DeclinesText) result }
+            (Accepts pointer TakesText) (ViewError pointer TextFormError)
+            (FormError pointer TextFormError) result }
     {
         capnp_wire::constant::view_of(&LABEL_DEFAULT)
     }
@@ -545,16 +545,16 @@ pub mod printed {
 
             ghost accepts = { λ pointer. Accepts pointer TakesStruct };
 
-            ghost refuses = { λ pointer kind. Refuses pointer DeclinesStruct kind };
+            ghost fails = { λ pointer kind. ViewError pointer StructFormError kind };
 
-            ghost declines = { λ pointer kind. Declines pointer DeclinesStruct kind };
+            ghost form_error = { λ pointer kind. FormError pointer StructFormError kind };
 
             #[inline(always)]
             fn get_from_pointer(reader: any_pointer::Reader<'a, S>) -> Result<Self>
                 ensures { let pointer = pointer_of S.segments reader.entry in IsViewOf pointer
                     (λ view. IsStruct pointer (struct_of S.segments view.fields))
-                    (Accepts pointer TakesStruct) (Refuses pointer DeclinesStruct)
-                    (Declines pointer DeclinesStruct) result }
+                    (Accepts pointer TakesStruct) (ViewError pointer StructFormError)
+                    (FormError pointer StructFormError) result }
             {
                 match StructReader::get_from_pointer(reader) {
                     Ok(fields) => Ok(Reader { fields }),
@@ -573,14 +573,14 @@ pub mod printed {
         impl<'a, S: ReaderSegments> ListReader<'a, S> {
             /// The number of elements.
             pub fn len(&self) -> u32
-                ensures { result ≡ length (upgraded_structs_of S.segments self.now.elements).rows }
+                ensures { result ≡ length (upgraded_structs_of S.segments self.now.elements).elements }
             {
                 self.elements.len()
             }
 
             /// The element of this index.
             pub fn get(&self, index: u32) -> Reader<'a, S>
-                requires { index < length (upgraded_structs_of S.segments self.now.elements).rows }
+                requires { index < length (upgraded_structs_of S.segments self.now.elements).elements }
                 ensures { struct_of S.segments result.fields
                     ≡ element_of (upgraded_structs_of S.segments self.now.elements) index }
             {
@@ -592,7 +592,7 @@ pub mod printed {
             /// The element of this index, or `None` where there are no more elements than it.
             pub fn try_get(&self, index: u32) -> Option<Reader<'a, S>>
                 ensures { let list = upgraded_structs_of S.segments self.now.elements in
-                    FindsElement (length list.rows) index
+                    FindsElement (length list.elements) index
                     (λ item. struct_of S.segments item.fields ≡ element_of list index) result }
             {
                 self.try_index_move(index)
@@ -613,7 +613,7 @@ pub mod printed {
 
             ghost seen = { λ item. struct_of S.segments item.fields };
 
-            ghost size = { λ list. length (upgraded_structs_of S.segments list.elements).rows };
+            ghost size = { λ list. length (upgraded_structs_of S.segments list.elements).elements };
 
             ghost element = { λ list index.
                 element_of (upgraded_structs_of S.segments list.elements) index };
@@ -643,17 +643,17 @@ pub mod printed {
             ghost shows = { λ pointer view.
                 IsUpgradedStructs pointer (upgraded_structs_of S.segments view.elements) };
 
-            ghost accepts = { λ pointer. Accepts pointer TakesRows };
+            ghost accepts = { λ pointer. Accepts pointer TakesAsStructs };
 
-            ghost refuses = { λ pointer kind. Refuses pointer DeclinesRows kind };
+            ghost fails = { λ pointer kind. ViewError pointer ElementsFormError kind };
 
-            ghost declines = { λ pointer kind. Declines pointer DeclinesRows kind };
+            ghost form_error = { λ pointer kind. FormError pointer ElementsFormError kind };
 
             fn get_from_pointer(reader: any_pointer::Reader<'a, S>) -> Result<Self>
                 ensures { let pointer = pointer_of S.segments reader.entry in IsViewOf pointer
                     (λ view. IsUpgradedStructs pointer (upgraded_structs_of S.segments view.elements))
-                    (Accepts pointer TakesRows) (Refuses pointer DeclinesRows)
-                    (Declines pointer DeclinesRows) result }
+                    (Accepts pointer TakesAsStructs) (ViewError pointer ElementsFormError)
+                    (FormError pointer ElementsFormError) result }
             {
                 match upgraded::StructList::get_from_pointer(reader) {
                     Ok(elements) => Ok(ListReader { elements }),
@@ -664,7 +664,7 @@ pub mod printed {
     }
 }
 
-/// How the structs of this file are printed: by a table of the types that they lead to.
+/// How the structs of this file are printed: by a table of the types that they point to.
 pub mod the_schema {
     use capnp::stringify::{self, Base, DefaultValue, Field, Schema, StructType, Type};
     use capnp_frame::message::ReaderSegments;

@@ -8,8 +8,8 @@ ghost use Rattle.capnp_wire.specs.Lists.{FindsElement, IsIterator};
 ghost use Rattle.capnp_wire.specs.Object.{nothing};
 ghost use Rattle.capnp_wire.specs.Readers.{struct_of, pointer_of};
 ghost use Rattle.capnp_wire.specs.UpgradedReaders.{upgraded_structs_of};
-ghost use Rattle.capnp_wire.specs.UpgradedViews.{IsUpgradedStructs, TakesRows, DeclinesRows};
-ghost use Rattle.capnp_wire.specs.Views.{Struct, IsViewOf, IsStruct, IsText, IsData, Accepts, Refuses, Declines, Denotes, Reads, TakesStruct, TakesText, TakesNumbers, DeclinesStruct, DeclinesText, DeclinesNumbers, pointer_in};
+ghost use Rattle.capnp_wire.specs.UpgradedViews.{IsUpgradedStructs, TakesAsStructs, ElementsFormError};
+ghost use Rattle.capnp_wire.specs.Views.{Struct, IsViewOf, IsStruct, IsText, IsData, Accepts, ViewError, FormError, Denotes, Reads, TakesStruct, TakesText, TakesNumbers, StructFormError, TextFormError, NumbersFormError, pointer_in};
 
 pub mod node {
     use capnp_frame::Result;
@@ -50,8 +50,8 @@ pub mod node {
                 let pointer = pointer_in fields 0 in
                 IsViewOf pointer
                 (λ view. Reads pointer (λ form. IsText form view.bytes.now))
-                (Accepts pointer TakesText) (Refuses pointer DeclinesText)
-                (Declines pointer DeclinesText) result }
+                (Accepts pointer TakesText) (ViewError pointer TextFormError)
+                (FormError pointer TextFormError) result }
         {
             self.fields.get_pointer_as(0)
         }
@@ -91,8 +91,8 @@ pub mod node {
                 let pointer = pointer_in fields 1 in
                 IsViewOf pointer
                 (λ view. IsUpgradedStructs pointer (upgraded_structs_of S.segments view.elements))
-                (Accepts pointer TakesRows) (Refuses pointer DeclinesRows)
-                (Declines pointer DeclinesRows) result }
+                (Accepts pointer TakesAsStructs) (ViewError pointer ElementsFormError)
+                (FormError pointer ElementsFormError) result }
         {
             match self.fields.get_pointer_as(1) {
                 Ok(elements) => Ok(nested_node::ListReader { elements }),
@@ -114,8 +114,8 @@ pub mod node {
                 let pointer = pointer_in fields 2 in
                 IsViewOf pointer
                 (λ view. IsUpgradedStructs pointer (upgraded_structs_of S.segments view.elements))
-                (Accepts pointer TakesRows) (Refuses pointer DeclinesRows)
-                (Declines pointer DeclinesRows) result }
+                (Accepts pointer TakesAsStructs) (ViewError pointer ElementsFormError)
+                (FormError pointer ElementsFormError) result }
         {
             match self.fields.get_pointer_as(2) {
                 Ok(elements) => Ok(super::annotation::ListReader { elements }),
@@ -195,8 +195,8 @@ pub mod node {
                 let pointer = pointer_in fields 5 in
                 IsViewOf pointer
                 (λ view. IsUpgradedStructs pointer (upgraded_structs_of S.segments view.elements))
-                (Accepts pointer TakesRows) (Refuses pointer DeclinesRows)
-                (Declines pointer DeclinesRows) result }
+                (Accepts pointer TakesAsStructs) (ViewError pointer ElementsFormError)
+                (FormError pointer ElementsFormError) result }
         {
             match self.fields.get_pointer_as(5) {
                 Ok(elements) => Ok(parameter::ListReader { elements }),
@@ -266,16 +266,16 @@ pub mod node {
 
         ghost accepts = { λ pointer. Accepts pointer TakesStruct };
 
-        ghost refuses = { λ pointer kind. Refuses pointer DeclinesStruct kind };
+        ghost fails = { λ pointer kind. ViewError pointer StructFormError kind };
 
-        ghost declines = { λ pointer kind. Declines pointer DeclinesStruct kind };
+        ghost form_error = { λ pointer kind. FormError pointer StructFormError kind };
 
         #[inline(always)]
         fn get_from_pointer(reader: any_pointer::Reader<'a, S>) -> Result<Self>
             ensures { let pointer = pointer_of S.segments reader.entry in IsViewOf pointer
                 (λ view. IsStruct pointer (struct_of S.segments view.fields))
-                (Accepts pointer TakesStruct) (Refuses pointer DeclinesStruct)
-                (Declines pointer DeclinesStruct) result }
+                (Accepts pointer TakesStruct) (ViewError pointer StructFormError)
+                (FormError pointer StructFormError) result }
         {
             match StructReader::get_from_pointer(reader) {
                 Ok(fields) => Ok(Reader { fields }),
@@ -294,14 +294,14 @@ pub mod node {
     impl<'a, S: ReaderSegments> ListReader<'a, S> {
         /// The number of elements.
         pub fn len(&self) -> u32
-            ensures { result ≡ length (upgraded_structs_of S.segments self.now.elements).rows }
+            ensures { result ≡ length (upgraded_structs_of S.segments self.now.elements).elements }
         {
             self.elements.len()
         }
 
         /// The element of this index.
         pub fn get(&self, index: u32) -> Reader<'a, S>
-            requires { index < length (upgraded_structs_of S.segments self.now.elements).rows }
+            requires { index < length (upgraded_structs_of S.segments self.now.elements).elements }
             ensures { struct_of S.segments result.fields
                 ≡ element_of (upgraded_structs_of S.segments self.now.elements) index }
         {
@@ -313,7 +313,7 @@ pub mod node {
         /// The element of this index, or `None` where there are no more elements than it.
         pub fn try_get(&self, index: u32) -> Option<Reader<'a, S>>
             ensures { let list = upgraded_structs_of S.segments self.now.elements in
-                FindsElement (length list.rows) index
+                FindsElement (length list.elements) index
                 (λ item. struct_of S.segments item.fields ≡ element_of list index) result }
         {
             self.try_index_move(index)
@@ -334,7 +334,7 @@ pub mod node {
 
         ghost seen = { λ item. struct_of S.segments item.fields };
 
-        ghost size = { λ list. length (upgraded_structs_of S.segments list.elements).rows };
+        ghost size = { λ list. length (upgraded_structs_of S.segments list.elements).elements };
 
         ghost element = { λ list index.
             element_of (upgraded_structs_of S.segments list.elements) index };
@@ -364,17 +364,17 @@ pub mod node {
         ghost shows = { λ pointer view.
             IsUpgradedStructs pointer (upgraded_structs_of S.segments view.elements) };
 
-        ghost accepts = { λ pointer. Accepts pointer TakesRows };
+        ghost accepts = { λ pointer. Accepts pointer TakesAsStructs };
 
-        ghost refuses = { λ pointer kind. Refuses pointer DeclinesRows kind };
+        ghost fails = { λ pointer kind. ViewError pointer ElementsFormError kind };
 
-        ghost declines = { λ pointer kind. Declines pointer DeclinesRows kind };
+        ghost form_error = { λ pointer kind. FormError pointer ElementsFormError kind };
 
         fn get_from_pointer(reader: any_pointer::Reader<'a, S>) -> Result<Self>
             ensures { let pointer = pointer_of S.segments reader.entry in IsViewOf pointer
                 (λ view. IsUpgradedStructs pointer (upgraded_structs_of S.segments view.elements))
-                (Accepts pointer TakesRows) (Refuses pointer DeclinesRows)
-                (Declines pointer DeclinesRows) result }
+                (Accepts pointer TakesAsStructs) (ViewError pointer ElementsFormError)
+                (FormError pointer ElementsFormError) result }
         {
             match upgraded::StructList::get_from_pointer(reader) {
                 Ok(elements) => Ok(ListReader { elements }),
@@ -383,16 +383,16 @@ pub mod node {
         }
     }
 
-    /// Which pointer of the struct leads to `displayName`, for `fields.get_pointer`.
+    /// Which pointer of the struct points to `displayName`, for `fields.get_pointer`.
     pub const DISPLAY_NAME_POINTER: u16 = 0;
 
-    /// Which pointer of the struct leads to `nestedNodes`, for `fields.get_pointer`.
+    /// Which pointer of the struct points to `nestedNodes`, for `fields.get_pointer`.
     pub const NESTED_NODES_POINTER: u16 = 1;
 
-    /// Which pointer of the struct leads to `annotations`, for `fields.get_pointer`.
+    /// Which pointer of the struct points to `annotations`, for `fields.get_pointer`.
     pub const ANNOTATIONS_POINTER: u16 = 2;
 
-    /// Which pointer of the struct leads to `parameters`, for `fields.get_pointer`.
+    /// Which pointer of the struct points to `parameters`, for `fields.get_pointer`.
     pub const PARAMETERS_POINTER: u16 = 5;
 
     pub mod struct_ {
@@ -503,8 +503,8 @@ pub mod node {
                     let pointer = pointer_in fields 3 in
                     IsViewOf pointer
                     (λ view. IsUpgradedStructs pointer (upgraded_structs_of S.segments view.elements))
-                    (Accepts pointer TakesRows) (Refuses pointer DeclinesRows)
-                    (Declines pointer DeclinesRows) result }
+                    (Accepts pointer TakesAsStructs) (ViewError pointer ElementsFormError)
+                    (FormError pointer ElementsFormError) result }
             {
                 match self.fields.get_pointer_as(3) {
                     Ok(elements) => Ok(super::super::field::ListReader { elements }),
@@ -521,7 +521,7 @@ pub mod node {
             }
         }
 
-        /// Which pointer of the struct leads to `fields`, for `fields.get_pointer`.
+        /// Which pointer of the struct points to `fields`, for `fields.get_pointer`.
         pub const FIELDS_POINTER: u16 = 3;
     }
 
@@ -544,8 +544,8 @@ pub mod node {
                     let pointer = pointer_in fields 3 in
                     IsViewOf pointer
                     (λ view. IsUpgradedStructs pointer (upgraded_structs_of S.segments view.elements))
-                    (Accepts pointer TakesRows) (Refuses pointer DeclinesRows)
-                    (Declines pointer DeclinesRows) result }
+                    (Accepts pointer TakesAsStructs) (ViewError pointer ElementsFormError)
+                    (FormError pointer ElementsFormError) result }
             {
                 match self.fields.get_pointer_as(3) {
                     Ok(elements) => Ok(super::super::enumerant::ListReader { elements }),
@@ -562,7 +562,7 @@ pub mod node {
             }
         }
 
-        /// Which pointer of the struct leads to `enumerants`, for `fields.get_pointer`.
+        /// Which pointer of the struct points to `enumerants`, for `fields.get_pointer`.
         pub const ENUMERANTS_POINTER: u16 = 3;
     }
 
@@ -585,8 +585,8 @@ pub mod node {
                     let pointer = pointer_in fields 3 in
                     IsViewOf pointer
                     (λ view. IsUpgradedStructs pointer (upgraded_structs_of S.segments view.elements))
-                    (Accepts pointer TakesRows) (Refuses pointer DeclinesRows)
-                    (Declines pointer DeclinesRows) result }
+                    (Accepts pointer TakesAsStructs) (ViewError pointer ElementsFormError)
+                    (FormError pointer ElementsFormError) result }
             {
                 match self.fields.get_pointer_as(3) {
                     Ok(elements) => Ok(super::super::method::ListReader { elements }),
@@ -608,8 +608,8 @@ pub mod node {
                     let pointer = pointer_in fields 4 in
                     IsViewOf pointer
                     (λ view. IsUpgradedStructs pointer (upgraded_structs_of S.segments view.elements))
-                    (Accepts pointer TakesRows) (Refuses pointer DeclinesRows)
-                    (Declines pointer DeclinesRows) result }
+                    (Accepts pointer TakesAsStructs) (ViewError pointer ElementsFormError)
+                    (FormError pointer ElementsFormError) result }
             {
                 match self.fields.get_pointer_as(4) {
                     Ok(elements) => Ok(super::super::superclass::ListReader { elements }),
@@ -626,10 +626,10 @@ pub mod node {
             }
         }
 
-        /// Which pointer of the struct leads to `methods`, for `fields.get_pointer`.
+        /// Which pointer of the struct points to `methods`, for `fields.get_pointer`.
         pub const METHODS_POINTER: u16 = 3;
 
-        /// Which pointer of the struct leads to `superclasses`, for `fields.get_pointer`.
+        /// Which pointer of the struct points to `superclasses`, for `fields.get_pointer`.
         pub const SUPERCLASSES_POINTER: u16 = 4;
     }
 
@@ -652,8 +652,8 @@ pub mod node {
                     let pointer = pointer_in fields 3 in
                     IsViewOf pointer
                     (λ view. IsStruct pointer (struct_of S.segments view.fields))
-                    (Accepts pointer TakesStruct) (Refuses pointer DeclinesStruct)
-                    (Declines pointer DeclinesStruct) result }
+                    (Accepts pointer TakesStruct) (ViewError pointer StructFormError)
+                    (FormError pointer StructFormError) result }
             {
                 match self.fields.get_pointer_as(3) {
                     Ok(fields) => Ok(super::super::type_::Reader { fields }),
@@ -675,8 +675,8 @@ pub mod node {
                     let pointer = pointer_in fields 4 in
                     IsViewOf pointer
                     (λ view. IsStruct pointer (struct_of S.segments view.fields))
-                    (Accepts pointer TakesStruct) (Refuses pointer DeclinesStruct)
-                    (Declines pointer DeclinesStruct) result }
+                    (Accepts pointer TakesStruct) (ViewError pointer StructFormError)
+                    (FormError pointer StructFormError) result }
             {
                 match self.fields.get_pointer_as(4) {
                     Ok(fields) => Ok(super::super::value::Reader { fields }),
@@ -693,10 +693,10 @@ pub mod node {
             }
         }
 
-        /// Which pointer of the struct leads to `type`, for `fields.get_pointer`.
+        /// Which pointer of the struct points to `type`, for `fields.get_pointer`.
         pub const TYPE_POINTER: u16 = 3;
 
-        /// Which pointer of the struct leads to `value`, for `fields.get_pointer`.
+        /// Which pointer of the struct points to `value`, for `fields.get_pointer`.
         pub const VALUE_POINTER: u16 = 4;
     }
 
@@ -719,8 +719,8 @@ pub mod node {
                     let pointer = pointer_in fields 3 in
                     IsViewOf pointer
                     (λ view. IsStruct pointer (struct_of S.segments view.fields))
-                    (Accepts pointer TakesStruct) (Refuses pointer DeclinesStruct)
-                    (Declines pointer DeclinesStruct) result }
+                    (Accepts pointer TakesStruct) (ViewError pointer StructFormError)
+                    (FormError pointer StructFormError) result }
             {
                 match self.fields.get_pointer_as(3) {
                     Ok(fields) => Ok(super::super::type_::Reader { fields }),
@@ -833,7 +833,7 @@ pub mod node {
             }
         }
 
-        /// Which pointer of the struct leads to `type`, for `fields.get_pointer`.
+        /// Which pointer of the struct points to `type`, for `fields.get_pointer`.
         pub const TYPE_POINTER: u16 = 3;
     }
 
@@ -866,8 +866,8 @@ pub mod node {
                     let pointer = pointer_in fields 0 in
                     IsViewOf pointer
                     (λ view. Reads pointer (λ form. IsText form view.bytes.now))
-                    (Accepts pointer TakesText) (Refuses pointer DeclinesText)
-                    (Declines pointer DeclinesText) result }
+                    (Accepts pointer TakesText) (ViewError pointer TextFormError)
+                    (FormError pointer TextFormError) result }
             {
                 self.fields.get_pointer_as(0)
             }
@@ -886,16 +886,16 @@ pub mod node {
 
             ghost accepts = { λ pointer. Accepts pointer TakesStruct };
 
-            ghost refuses = { λ pointer kind. Refuses pointer DeclinesStruct kind };
+            ghost fails = { λ pointer kind. ViewError pointer StructFormError kind };
 
-            ghost declines = { λ pointer kind. Declines pointer DeclinesStruct kind };
+            ghost form_error = { λ pointer kind. FormError pointer StructFormError kind };
 
             #[inline(always)]
             fn get_from_pointer(reader: any_pointer::Reader<'a, S>) -> Result<Self>
                 ensures { let pointer = pointer_of S.segments reader.entry in IsViewOf pointer
                     (λ view. IsStruct pointer (struct_of S.segments view.fields))
-                    (Accepts pointer TakesStruct) (Refuses pointer DeclinesStruct)
-                    (Declines pointer DeclinesStruct) result }
+                    (Accepts pointer TakesStruct) (ViewError pointer StructFormError)
+                    (FormError pointer StructFormError) result }
             {
                 match StructReader::get_from_pointer(reader) {
                     Ok(fields) => Ok(Reader { fields }),
@@ -914,14 +914,14 @@ pub mod node {
         impl<'a, S: ReaderSegments> ListReader<'a, S> {
             /// The number of elements.
             pub fn len(&self) -> u32
-                ensures { result ≡ length (upgraded_structs_of S.segments self.now.elements).rows }
+                ensures { result ≡ length (upgraded_structs_of S.segments self.now.elements).elements }
             {
                 self.elements.len()
             }
 
             /// The element of this index.
             pub fn get(&self, index: u32) -> Reader<'a, S>
-                requires { index < length (upgraded_structs_of S.segments self.now.elements).rows }
+                requires { index < length (upgraded_structs_of S.segments self.now.elements).elements }
                 ensures { struct_of S.segments result.fields
                     ≡ element_of (upgraded_structs_of S.segments self.now.elements) index }
             {
@@ -933,7 +933,7 @@ pub mod node {
             /// The element of this index, or `None` where there are no more elements than it.
             pub fn try_get(&self, index: u32) -> Option<Reader<'a, S>>
                 ensures { let list = upgraded_structs_of S.segments self.now.elements in
-                    FindsElement (length list.rows) index
+                    FindsElement (length list.elements) index
                     (λ item. struct_of S.segments item.fields ≡ element_of list index) result }
             {
                 self.try_index_move(index)
@@ -954,7 +954,7 @@ pub mod node {
 
             ghost seen = { λ item. struct_of S.segments item.fields };
 
-            ghost size = { λ list. length (upgraded_structs_of S.segments list.elements).rows };
+            ghost size = { λ list. length (upgraded_structs_of S.segments list.elements).elements };
 
             ghost element = { λ list index.
                 element_of (upgraded_structs_of S.segments list.elements) index };
@@ -984,17 +984,17 @@ pub mod node {
             ghost shows = { λ pointer view.
                 IsUpgradedStructs pointer (upgraded_structs_of S.segments view.elements) };
 
-            ghost accepts = { λ pointer. Accepts pointer TakesRows };
+            ghost accepts = { λ pointer. Accepts pointer TakesAsStructs };
 
-            ghost refuses = { λ pointer kind. Refuses pointer DeclinesRows kind };
+            ghost fails = { λ pointer kind. ViewError pointer ElementsFormError kind };
 
-            ghost declines = { λ pointer kind. Declines pointer DeclinesRows kind };
+            ghost form_error = { λ pointer kind. FormError pointer ElementsFormError kind };
 
             fn get_from_pointer(reader: any_pointer::Reader<'a, S>) -> Result<Self>
                 ensures { let pointer = pointer_of S.segments reader.entry in IsViewOf pointer
                     (λ view. IsUpgradedStructs pointer (upgraded_structs_of S.segments view.elements))
-                    (Accepts pointer TakesRows) (Refuses pointer DeclinesRows)
-                    (Declines pointer DeclinesRows) result }
+                    (Accepts pointer TakesAsStructs) (ViewError pointer ElementsFormError)
+                    (FormError pointer ElementsFormError) result }
             {
                 match upgraded::StructList::get_from_pointer(reader) {
                     Ok(elements) => Ok(ListReader { elements }),
@@ -1003,7 +1003,7 @@ pub mod node {
             }
         }
 
-        /// Which pointer of the struct leads to `name`, for `fields.get_pointer`.
+        /// Which pointer of the struct points to `name`, for `fields.get_pointer`.
         pub const NAME_POINTER: u16 = 0;
     }
 
@@ -1037,8 +1037,8 @@ pub mod node {
                     let pointer = pointer_in fields 0 in
                     IsViewOf pointer
                     (λ view. Reads pointer (λ form. IsText form view.bytes.now))
-                    (Accepts pointer TakesText) (Refuses pointer DeclinesText)
-                    (Declines pointer DeclinesText) result }
+                    (Accepts pointer TakesText) (ViewError pointer TextFormError)
+                    (FormError pointer TextFormError) result }
             {
                 self.fields.get_pointer_as(0)
             }
@@ -1066,16 +1066,16 @@ pub mod node {
 
             ghost accepts = { λ pointer. Accepts pointer TakesStruct };
 
-            ghost refuses = { λ pointer kind. Refuses pointer DeclinesStruct kind };
+            ghost fails = { λ pointer kind. ViewError pointer StructFormError kind };
 
-            ghost declines = { λ pointer kind. Declines pointer DeclinesStruct kind };
+            ghost form_error = { λ pointer kind. FormError pointer StructFormError kind };
 
             #[inline(always)]
             fn get_from_pointer(reader: any_pointer::Reader<'a, S>) -> Result<Self>
                 ensures { let pointer = pointer_of S.segments reader.entry in IsViewOf pointer
                     (λ view. IsStruct pointer (struct_of S.segments view.fields))
-                    (Accepts pointer TakesStruct) (Refuses pointer DeclinesStruct)
-                    (Declines pointer DeclinesStruct) result }
+                    (Accepts pointer TakesStruct) (ViewError pointer StructFormError)
+                    (FormError pointer StructFormError) result }
             {
                 match StructReader::get_from_pointer(reader) {
                     Ok(fields) => Ok(Reader { fields }),
@@ -1094,14 +1094,14 @@ pub mod node {
         impl<'a, S: ReaderSegments> ListReader<'a, S> {
             /// The number of elements.
             pub fn len(&self) -> u32
-                ensures { result ≡ length (upgraded_structs_of S.segments self.now.elements).rows }
+                ensures { result ≡ length (upgraded_structs_of S.segments self.now.elements).elements }
             {
                 self.elements.len()
             }
 
             /// The element of this index.
             pub fn get(&self, index: u32) -> Reader<'a, S>
-                requires { index < length (upgraded_structs_of S.segments self.now.elements).rows }
+                requires { index < length (upgraded_structs_of S.segments self.now.elements).elements }
                 ensures { struct_of S.segments result.fields
                     ≡ element_of (upgraded_structs_of S.segments self.now.elements) index }
             {
@@ -1113,7 +1113,7 @@ pub mod node {
             /// The element of this index, or `None` where there are no more elements than it.
             pub fn try_get(&self, index: u32) -> Option<Reader<'a, S>>
                 ensures { let list = upgraded_structs_of S.segments self.now.elements in
-                    FindsElement (length list.rows) index
+                    FindsElement (length list.elements) index
                     (λ item. struct_of S.segments item.fields ≡ element_of list index) result }
             {
                 self.try_index_move(index)
@@ -1134,7 +1134,7 @@ pub mod node {
 
             ghost seen = { λ item. struct_of S.segments item.fields };
 
-            ghost size = { λ list. length (upgraded_structs_of S.segments list.elements).rows };
+            ghost size = { λ list. length (upgraded_structs_of S.segments list.elements).elements };
 
             ghost element = { λ list index.
                 element_of (upgraded_structs_of S.segments list.elements) index };
@@ -1164,17 +1164,17 @@ pub mod node {
             ghost shows = { λ pointer view.
                 IsUpgradedStructs pointer (upgraded_structs_of S.segments view.elements) };
 
-            ghost accepts = { λ pointer. Accepts pointer TakesRows };
+            ghost accepts = { λ pointer. Accepts pointer TakesAsStructs };
 
-            ghost refuses = { λ pointer kind. Refuses pointer DeclinesRows kind };
+            ghost fails = { λ pointer kind. ViewError pointer ElementsFormError kind };
 
-            ghost declines = { λ pointer kind. Declines pointer DeclinesRows kind };
+            ghost form_error = { λ pointer kind. FormError pointer ElementsFormError kind };
 
             fn get_from_pointer(reader: any_pointer::Reader<'a, S>) -> Result<Self>
                 ensures { let pointer = pointer_of S.segments reader.entry in IsViewOf pointer
                     (λ view. IsUpgradedStructs pointer (upgraded_structs_of S.segments view.elements))
-                    (Accepts pointer TakesRows) (Refuses pointer DeclinesRows)
-                    (Declines pointer DeclinesRows) result }
+                    (Accepts pointer TakesAsStructs) (ViewError pointer ElementsFormError)
+                    (FormError pointer ElementsFormError) result }
             {
                 match upgraded::StructList::get_from_pointer(reader) {
                     Ok(elements) => Ok(ListReader { elements }),
@@ -1183,7 +1183,7 @@ pub mod node {
             }
         }
 
-        /// Which pointer of the struct leads to `name`, for `fields.get_pointer`.
+        /// Which pointer of the struct points to `name`, for `fields.get_pointer`.
         pub const NAME_POINTER: u16 = 0;
     }
 
@@ -1227,8 +1227,8 @@ pub mod node {
                     let pointer = pointer_in fields 0 in
                     IsViewOf pointer
                     (λ view. Reads pointer (λ form. IsText form view.bytes.now))
-                    (Accepts pointer TakesText) (Refuses pointer DeclinesText)
-                    (Declines pointer DeclinesText) result }
+                    (Accepts pointer TakesText) (ViewError pointer TextFormError)
+                    (FormError pointer TextFormError) result }
             {
                 self.fields.get_pointer_as(0)
             }
@@ -1251,8 +1251,8 @@ pub mod node {
                     let pointer = pointer_in fields 1 in
                     IsViewOf pointer
                     (λ view. IsUpgradedStructs pointer (upgraded_structs_of S.segments view.elements))
-                    (Accepts pointer TakesRows) (Refuses pointer DeclinesRows)
-                    (Declines pointer DeclinesRows) result }
+                    (Accepts pointer TakesAsStructs) (ViewError pointer ElementsFormError)
+                    (FormError pointer ElementsFormError) result }
             {
                 match self.fields.get_pointer_as(1) {
                     Ok(elements) => Ok(member::ListReader { elements }),
@@ -1274,16 +1274,16 @@ pub mod node {
 
             ghost accepts = { λ pointer. Accepts pointer TakesStruct };
 
-            ghost refuses = { λ pointer kind. Refuses pointer DeclinesStruct kind };
+            ghost fails = { λ pointer kind. ViewError pointer StructFormError kind };
 
-            ghost declines = { λ pointer kind. Declines pointer DeclinesStruct kind };
+            ghost form_error = { λ pointer kind. FormError pointer StructFormError kind };
 
             #[inline(always)]
             fn get_from_pointer(reader: any_pointer::Reader<'a, S>) -> Result<Self>
                 ensures { let pointer = pointer_of S.segments reader.entry in IsViewOf pointer
                     (λ view. IsStruct pointer (struct_of S.segments view.fields))
-                    (Accepts pointer TakesStruct) (Refuses pointer DeclinesStruct)
-                    (Declines pointer DeclinesStruct) result }
+                    (Accepts pointer TakesStruct) (ViewError pointer StructFormError)
+                    (FormError pointer StructFormError) result }
             {
                 match StructReader::get_from_pointer(reader) {
                     Ok(fields) => Ok(Reader { fields }),
@@ -1302,14 +1302,14 @@ pub mod node {
         impl<'a, S: ReaderSegments> ListReader<'a, S> {
             /// The number of elements.
             pub fn len(&self) -> u32
-                ensures { result ≡ length (upgraded_structs_of S.segments self.now.elements).rows }
+                ensures { result ≡ length (upgraded_structs_of S.segments self.now.elements).elements }
             {
                 self.elements.len()
             }
 
             /// The element of this index.
             pub fn get(&self, index: u32) -> Reader<'a, S>
-                requires { index < length (upgraded_structs_of S.segments self.now.elements).rows }
+                requires { index < length (upgraded_structs_of S.segments self.now.elements).elements }
                 ensures { struct_of S.segments result.fields
                     ≡ element_of (upgraded_structs_of S.segments self.now.elements) index }
             {
@@ -1321,7 +1321,7 @@ pub mod node {
             /// The element of this index, or `None` where there are no more elements than it.
             pub fn try_get(&self, index: u32) -> Option<Reader<'a, S>>
                 ensures { let list = upgraded_structs_of S.segments self.now.elements in
-                    FindsElement (length list.rows) index
+                    FindsElement (length list.elements) index
                     (λ item. struct_of S.segments item.fields ≡ element_of list index) result }
             {
                 self.try_index_move(index)
@@ -1342,7 +1342,7 @@ pub mod node {
 
             ghost seen = { λ item. struct_of S.segments item.fields };
 
-            ghost size = { λ list. length (upgraded_structs_of S.segments list.elements).rows };
+            ghost size = { λ list. length (upgraded_structs_of S.segments list.elements).elements };
 
             ghost element = { λ list index.
                 element_of (upgraded_structs_of S.segments list.elements) index };
@@ -1372,17 +1372,17 @@ pub mod node {
             ghost shows = { λ pointer view.
                 IsUpgradedStructs pointer (upgraded_structs_of S.segments view.elements) };
 
-            ghost accepts = { λ pointer. Accepts pointer TakesRows };
+            ghost accepts = { λ pointer. Accepts pointer TakesAsStructs };
 
-            ghost refuses = { λ pointer kind. Refuses pointer DeclinesRows kind };
+            ghost fails = { λ pointer kind. ViewError pointer ElementsFormError kind };
 
-            ghost declines = { λ pointer kind. Declines pointer DeclinesRows kind };
+            ghost form_error = { λ pointer kind. FormError pointer ElementsFormError kind };
 
             fn get_from_pointer(reader: any_pointer::Reader<'a, S>) -> Result<Self>
                 ensures { let pointer = pointer_of S.segments reader.entry in IsViewOf pointer
                     (λ view. IsUpgradedStructs pointer (upgraded_structs_of S.segments view.elements))
-                    (Accepts pointer TakesRows) (Refuses pointer DeclinesRows)
-                    (Declines pointer DeclinesRows) result }
+                    (Accepts pointer TakesAsStructs) (ViewError pointer ElementsFormError)
+                    (FormError pointer ElementsFormError) result }
             {
                 match upgraded::StructList::get_from_pointer(reader) {
                     Ok(elements) => Ok(ListReader { elements }),
@@ -1391,10 +1391,10 @@ pub mod node {
             }
         }
 
-        /// Which pointer of the struct leads to `docComment`, for `fields.get_pointer`.
+        /// Which pointer of the struct points to `docComment`, for `fields.get_pointer`.
         pub const DOC_COMMENT_POINTER: u16 = 0;
 
-        /// Which pointer of the struct leads to `members`, for `fields.get_pointer`.
+        /// Which pointer of the struct points to `members`, for `fields.get_pointer`.
         pub const MEMBERS_POINTER: u16 = 1;
 
         pub mod member {
@@ -1425,8 +1425,8 @@ pub mod node {
                         let pointer = pointer_in fields 0 in
                         IsViewOf pointer
                         (λ view. Reads pointer (λ form. IsText form view.bytes.now))
-                        (Accepts pointer TakesText) (Refuses pointer DeclinesText)
-                        (Declines pointer DeclinesText) result }
+                        (Accepts pointer TakesText) (ViewError pointer TextFormError)
+                        (FormError pointer TextFormError) result }
                 {
                     self.fields.get_pointer_as(0)
                 }
@@ -1445,16 +1445,16 @@ pub mod node {
 
                 ghost accepts = { λ pointer. Accepts pointer TakesStruct };
 
-                ghost refuses = { λ pointer kind. Refuses pointer DeclinesStruct kind };
+                ghost fails = { λ pointer kind. ViewError pointer StructFormError kind };
 
-                ghost declines = { λ pointer kind. Declines pointer DeclinesStruct kind };
+                ghost form_error = { λ pointer kind. FormError pointer StructFormError kind };
 
                 #[inline(always)]
                 fn get_from_pointer(reader: any_pointer::Reader<'a, S>) -> Result<Self>
                     ensures { let pointer = pointer_of S.segments reader.entry in IsViewOf pointer
                         (λ view. IsStruct pointer (struct_of S.segments view.fields))
-                        (Accepts pointer TakesStruct) (Refuses pointer DeclinesStruct)
-                        (Declines pointer DeclinesStruct) result }
+                        (Accepts pointer TakesStruct) (ViewError pointer StructFormError)
+                        (FormError pointer StructFormError) result }
                 {
                     match StructReader::get_from_pointer(reader) {
                         Ok(fields) => Ok(Reader { fields }),
@@ -1473,14 +1473,14 @@ pub mod node {
             impl<'a, S: ReaderSegments> ListReader<'a, S> {
                 /// The number of elements.
                 pub fn len(&self) -> u32
-                    ensures { result ≡ length (upgraded_structs_of S.segments self.now.elements).rows }
+                    ensures { result ≡ length (upgraded_structs_of S.segments self.now.elements).elements }
                 {
                     self.elements.len()
                 }
 
                 /// The element of this index.
                 pub fn get(&self, index: u32) -> Reader<'a, S>
-                    requires { index < length (upgraded_structs_of S.segments self.now.elements).rows }
+                    requires { index < length (upgraded_structs_of S.segments self.now.elements).elements }
                     ensures { struct_of S.segments result.fields
                         ≡ element_of (upgraded_structs_of S.segments self.now.elements) index }
                 {
@@ -1492,7 +1492,7 @@ pub mod node {
                 /// The element of this index, or `None` where there are no more elements than it.
                 pub fn try_get(&self, index: u32) -> Option<Reader<'a, S>>
                     ensures { let list = upgraded_structs_of S.segments self.now.elements in
-                        FindsElement (length list.rows) index
+                        FindsElement (length list.elements) index
                         (λ item. struct_of S.segments item.fields ≡ element_of list index) result }
                 {
                     self.try_index_move(index)
@@ -1513,7 +1513,7 @@ pub mod node {
 
                 ghost seen = { λ item. struct_of S.segments item.fields };
 
-                ghost size = { λ list. length (upgraded_structs_of S.segments list.elements).rows };
+                ghost size = { λ list. length (upgraded_structs_of S.segments list.elements).elements };
 
                 ghost element = { λ list index.
                     element_of (upgraded_structs_of S.segments list.elements) index };
@@ -1543,17 +1543,17 @@ pub mod node {
                 ghost shows = { λ pointer view.
                     IsUpgradedStructs pointer (upgraded_structs_of S.segments view.elements) };
 
-                ghost accepts = { λ pointer. Accepts pointer TakesRows };
+                ghost accepts = { λ pointer. Accepts pointer TakesAsStructs };
 
-                ghost refuses = { λ pointer kind. Refuses pointer DeclinesRows kind };
+                ghost fails = { λ pointer kind. ViewError pointer ElementsFormError kind };
 
-                ghost declines = { λ pointer kind. Declines pointer DeclinesRows kind };
+                ghost form_error = { λ pointer kind. FormError pointer ElementsFormError kind };
 
                 fn get_from_pointer(reader: any_pointer::Reader<'a, S>) -> Result<Self>
                     ensures { let pointer = pointer_of S.segments reader.entry in IsViewOf pointer
                         (λ view. IsUpgradedStructs pointer (upgraded_structs_of S.segments view.elements))
-                        (Accepts pointer TakesRows) (Refuses pointer DeclinesRows)
-                        (Declines pointer DeclinesRows) result }
+                        (Accepts pointer TakesAsStructs) (ViewError pointer ElementsFormError)
+                        (FormError pointer ElementsFormError) result }
                 {
                     match upgraded::StructList::get_from_pointer(reader) {
                         Ok(elements) => Ok(ListReader { elements }),
@@ -1562,7 +1562,7 @@ pub mod node {
                 }
             }
 
-            /// Which pointer of the struct leads to `docComment`, for `fields.get_pointer`.
+            /// Which pointer of the struct points to `docComment`, for `fields.get_pointer`.
             pub const DOC_COMMENT_POINTER: u16 = 0;
         }
     }
@@ -1597,8 +1597,8 @@ pub mod field {
                 let pointer = pointer_in fields 0 in
                 IsViewOf pointer
                 (λ view. Reads pointer (λ form. IsText form view.bytes.now))
-                (Accepts pointer TakesText) (Refuses pointer DeclinesText)
-                (Declines pointer DeclinesText) result }
+                (Accepts pointer TakesText) (ViewError pointer TextFormError)
+                (FormError pointer TextFormError) result }
         {
             self.fields.get_pointer_as(0)
         }
@@ -1630,8 +1630,8 @@ pub mod field {
                 let pointer = pointer_in fields 1 in
                 IsViewOf pointer
                 (λ view. IsUpgradedStructs pointer (upgraded_structs_of S.segments view.elements))
-                (Accepts pointer TakesRows) (Refuses pointer DeclinesRows)
-                (Declines pointer DeclinesRows) result }
+                (Accepts pointer TakesAsStructs) (ViewError pointer ElementsFormError)
+                (FormError pointer ElementsFormError) result }
         {
             match self.fields.get_pointer_as(1) {
                 Ok(elements) => Ok(super::annotation::ListReader { elements }),
@@ -1722,16 +1722,16 @@ pub mod field {
 
         ghost accepts = { λ pointer. Accepts pointer TakesStruct };
 
-        ghost refuses = { λ pointer kind. Refuses pointer DeclinesStruct kind };
+        ghost fails = { λ pointer kind. ViewError pointer StructFormError kind };
 
-        ghost declines = { λ pointer kind. Declines pointer DeclinesStruct kind };
+        ghost form_error = { λ pointer kind. FormError pointer StructFormError kind };
 
         #[inline(always)]
         fn get_from_pointer(reader: any_pointer::Reader<'a, S>) -> Result<Self>
             ensures { let pointer = pointer_of S.segments reader.entry in IsViewOf pointer
                 (λ view. IsStruct pointer (struct_of S.segments view.fields))
-                (Accepts pointer TakesStruct) (Refuses pointer DeclinesStruct)
-                (Declines pointer DeclinesStruct) result }
+                (Accepts pointer TakesStruct) (ViewError pointer StructFormError)
+                (FormError pointer StructFormError) result }
         {
             match StructReader::get_from_pointer(reader) {
                 Ok(fields) => Ok(Reader { fields }),
@@ -1750,14 +1750,14 @@ pub mod field {
     impl<'a, S: ReaderSegments> ListReader<'a, S> {
         /// The number of elements.
         pub fn len(&self) -> u32
-            ensures { result ≡ length (upgraded_structs_of S.segments self.now.elements).rows }
+            ensures { result ≡ length (upgraded_structs_of S.segments self.now.elements).elements }
         {
             self.elements.len()
         }
 
         /// The element of this index.
         pub fn get(&self, index: u32) -> Reader<'a, S>
-            requires { index < length (upgraded_structs_of S.segments self.now.elements).rows }
+            requires { index < length (upgraded_structs_of S.segments self.now.elements).elements }
             ensures { struct_of S.segments result.fields
                 ≡ element_of (upgraded_structs_of S.segments self.now.elements) index }
         {
@@ -1769,7 +1769,7 @@ pub mod field {
         /// The element of this index, or `None` where there are no more elements than it.
         pub fn try_get(&self, index: u32) -> Option<Reader<'a, S>>
             ensures { let list = upgraded_structs_of S.segments self.now.elements in
-                FindsElement (length list.rows) index
+                FindsElement (length list.elements) index
                 (λ item. struct_of S.segments item.fields ≡ element_of list index) result }
         {
             self.try_index_move(index)
@@ -1790,7 +1790,7 @@ pub mod field {
 
         ghost seen = { λ item. struct_of S.segments item.fields };
 
-        ghost size = { λ list. length (upgraded_structs_of S.segments list.elements).rows };
+        ghost size = { λ list. length (upgraded_structs_of S.segments list.elements).elements };
 
         ghost element = { λ list index.
             element_of (upgraded_structs_of S.segments list.elements) index };
@@ -1820,17 +1820,17 @@ pub mod field {
         ghost shows = { λ pointer view.
             IsUpgradedStructs pointer (upgraded_structs_of S.segments view.elements) };
 
-        ghost accepts = { λ pointer. Accepts pointer TakesRows };
+        ghost accepts = { λ pointer. Accepts pointer TakesAsStructs };
 
-        ghost refuses = { λ pointer kind. Refuses pointer DeclinesRows kind };
+        ghost fails = { λ pointer kind. ViewError pointer ElementsFormError kind };
 
-        ghost declines = { λ pointer kind. Declines pointer DeclinesRows kind };
+        ghost form_error = { λ pointer kind. FormError pointer ElementsFormError kind };
 
         fn get_from_pointer(reader: any_pointer::Reader<'a, S>) -> Result<Self>
             ensures { let pointer = pointer_of S.segments reader.entry in IsViewOf pointer
                 (λ view. IsUpgradedStructs pointer (upgraded_structs_of S.segments view.elements))
-                (Accepts pointer TakesRows) (Refuses pointer DeclinesRows)
-                (Declines pointer DeclinesRows) result }
+                (Accepts pointer TakesAsStructs) (ViewError pointer ElementsFormError)
+                (FormError pointer ElementsFormError) result }
         {
             match upgraded::StructList::get_from_pointer(reader) {
                 Ok(elements) => Ok(ListReader { elements }),
@@ -1839,10 +1839,10 @@ pub mod field {
         }
     }
 
-    /// Which pointer of the struct leads to `name`, for `fields.get_pointer`.
+    /// Which pointer of the struct points to `name`, for `fields.get_pointer`.
     pub const NAME_POINTER: u16 = 0;
 
-    /// Which pointer of the struct leads to `annotations`, for `fields.get_pointer`.
+    /// Which pointer of the struct points to `annotations`, for `fields.get_pointer`.
     pub const ANNOTATIONS_POINTER: u16 = 1;
 
     pub const NO_DISCRIMINANT: u16 = 65535;
@@ -1877,8 +1877,8 @@ pub mod field {
                     let pointer = pointer_in fields 2 in
                     IsViewOf pointer
                     (λ view. IsStruct pointer (struct_of S.segments view.fields))
-                    (Accepts pointer TakesStruct) (Refuses pointer DeclinesStruct)
-                    (Declines pointer DeclinesStruct) result }
+                    (Accepts pointer TakesStruct) (ViewError pointer StructFormError)
+                    (FormError pointer StructFormError) result }
             {
                 match self.fields.get_pointer_as(2) {
                     Ok(fields) => Ok(super::super::type_::Reader { fields }),
@@ -1900,8 +1900,8 @@ pub mod field {
                     let pointer = pointer_in fields 3 in
                     IsViewOf pointer
                     (λ view. IsStruct pointer (struct_of S.segments view.fields))
-                    (Accepts pointer TakesStruct) (Refuses pointer DeclinesStruct)
-                    (Declines pointer DeclinesStruct) result }
+                    (Accepts pointer TakesStruct) (ViewError pointer StructFormError)
+                    (FormError pointer StructFormError) result }
             {
                 match self.fields.get_pointer_as(3) {
                     Ok(fields) => Ok(super::super::value::Reader { fields }),
@@ -1929,10 +1929,10 @@ pub mod field {
             }
         }
 
-        /// Which pointer of the struct leads to `type`, for `fields.get_pointer`.
+        /// Which pointer of the struct points to `type`, for `fields.get_pointer`.
         pub const TYPE_POINTER: u16 = 2;
 
-        /// Which pointer of the struct leads to `defaultValue`, for `fields.get_pointer`.
+        /// Which pointer of the struct points to `defaultValue`, for `fields.get_pointer`.
         pub const DEFAULT_VALUE_POINTER: u16 = 3;
     }
 
@@ -2044,8 +2044,8 @@ pub mod enumerant {
                 let pointer = pointer_in fields 0 in
                 IsViewOf pointer
                 (λ view. Reads pointer (λ form. IsText form view.bytes.now))
-                (Accepts pointer TakesText) (Refuses pointer DeclinesText)
-                (Declines pointer DeclinesText) result }
+                (Accepts pointer TakesText) (ViewError pointer TextFormError)
+                (FormError pointer TextFormError) result }
         {
             self.fields.get_pointer_as(0)
         }
@@ -2073,8 +2073,8 @@ pub mod enumerant {
                 let pointer = pointer_in fields 1 in
                 IsViewOf pointer
                 (λ view. IsUpgradedStructs pointer (upgraded_structs_of S.segments view.elements))
-                (Accepts pointer TakesRows) (Refuses pointer DeclinesRows)
-                (Declines pointer DeclinesRows) result }
+                (Accepts pointer TakesAsStructs) (ViewError pointer ElementsFormError)
+                (FormError pointer ElementsFormError) result }
         {
             match self.fields.get_pointer_as(1) {
                 Ok(elements) => Ok(super::annotation::ListReader { elements }),
@@ -2096,16 +2096,16 @@ pub mod enumerant {
 
         ghost accepts = { λ pointer. Accepts pointer TakesStruct };
 
-        ghost refuses = { λ pointer kind. Refuses pointer DeclinesStruct kind };
+        ghost fails = { λ pointer kind. ViewError pointer StructFormError kind };
 
-        ghost declines = { λ pointer kind. Declines pointer DeclinesStruct kind };
+        ghost form_error = { λ pointer kind. FormError pointer StructFormError kind };
 
         #[inline(always)]
         fn get_from_pointer(reader: any_pointer::Reader<'a, S>) -> Result<Self>
             ensures { let pointer = pointer_of S.segments reader.entry in IsViewOf pointer
                 (λ view. IsStruct pointer (struct_of S.segments view.fields))
-                (Accepts pointer TakesStruct) (Refuses pointer DeclinesStruct)
-                (Declines pointer DeclinesStruct) result }
+                (Accepts pointer TakesStruct) (ViewError pointer StructFormError)
+                (FormError pointer StructFormError) result }
         {
             match StructReader::get_from_pointer(reader) {
                 Ok(fields) => Ok(Reader { fields }),
@@ -2124,14 +2124,14 @@ pub mod enumerant {
     impl<'a, S: ReaderSegments> ListReader<'a, S> {
         /// The number of elements.
         pub fn len(&self) -> u32
-            ensures { result ≡ length (upgraded_structs_of S.segments self.now.elements).rows }
+            ensures { result ≡ length (upgraded_structs_of S.segments self.now.elements).elements }
         {
             self.elements.len()
         }
 
         /// The element of this index.
         pub fn get(&self, index: u32) -> Reader<'a, S>
-            requires { index < length (upgraded_structs_of S.segments self.now.elements).rows }
+            requires { index < length (upgraded_structs_of S.segments self.now.elements).elements }
             ensures { struct_of S.segments result.fields
                 ≡ element_of (upgraded_structs_of S.segments self.now.elements) index }
         {
@@ -2143,7 +2143,7 @@ pub mod enumerant {
         /// The element of this index, or `None` where there are no more elements than it.
         pub fn try_get(&self, index: u32) -> Option<Reader<'a, S>>
             ensures { let list = upgraded_structs_of S.segments self.now.elements in
-                FindsElement (length list.rows) index
+                FindsElement (length list.elements) index
                 (λ item. struct_of S.segments item.fields ≡ element_of list index) result }
         {
             self.try_index_move(index)
@@ -2164,7 +2164,7 @@ pub mod enumerant {
 
         ghost seen = { λ item. struct_of S.segments item.fields };
 
-        ghost size = { λ list. length (upgraded_structs_of S.segments list.elements).rows };
+        ghost size = { λ list. length (upgraded_structs_of S.segments list.elements).elements };
 
         ghost element = { λ list index.
             element_of (upgraded_structs_of S.segments list.elements) index };
@@ -2194,17 +2194,17 @@ pub mod enumerant {
         ghost shows = { λ pointer view.
             IsUpgradedStructs pointer (upgraded_structs_of S.segments view.elements) };
 
-        ghost accepts = { λ pointer. Accepts pointer TakesRows };
+        ghost accepts = { λ pointer. Accepts pointer TakesAsStructs };
 
-        ghost refuses = { λ pointer kind. Refuses pointer DeclinesRows kind };
+        ghost fails = { λ pointer kind. ViewError pointer ElementsFormError kind };
 
-        ghost declines = { λ pointer kind. Declines pointer DeclinesRows kind };
+        ghost form_error = { λ pointer kind. FormError pointer ElementsFormError kind };
 
         fn get_from_pointer(reader: any_pointer::Reader<'a, S>) -> Result<Self>
             ensures { let pointer = pointer_of S.segments reader.entry in IsViewOf pointer
                 (λ view. IsUpgradedStructs pointer (upgraded_structs_of S.segments view.elements))
-                (Accepts pointer TakesRows) (Refuses pointer DeclinesRows)
-                (Declines pointer DeclinesRows) result }
+                (Accepts pointer TakesAsStructs) (ViewError pointer ElementsFormError)
+                (FormError pointer ElementsFormError) result }
         {
             match upgraded::StructList::get_from_pointer(reader) {
                 Ok(elements) => Ok(ListReader { elements }),
@@ -2213,10 +2213,10 @@ pub mod enumerant {
         }
     }
 
-    /// Which pointer of the struct leads to `name`, for `fields.get_pointer`.
+    /// Which pointer of the struct points to `name`, for `fields.get_pointer`.
     pub const NAME_POINTER: u16 = 0;
 
-    /// Which pointer of the struct leads to `annotations`, for `fields.get_pointer`.
+    /// Which pointer of the struct points to `annotations`, for `fields.get_pointer`.
     pub const ANNOTATIONS_POINTER: u16 = 1;
 }
 
@@ -2256,8 +2256,8 @@ pub mod superclass {
                 let pointer = pointer_in fields 0 in
                 IsViewOf pointer
                 (λ view. IsStruct pointer (struct_of S.segments view.fields))
-                (Accepts pointer TakesStruct) (Refuses pointer DeclinesStruct)
-                (Declines pointer DeclinesStruct) result }
+                (Accepts pointer TakesStruct) (ViewError pointer StructFormError)
+                (FormError pointer StructFormError) result }
         {
             match self.fields.get_pointer_as(0) {
                 Ok(fields) => Ok(super::brand::Reader { fields }),
@@ -2279,16 +2279,16 @@ pub mod superclass {
 
         ghost accepts = { λ pointer. Accepts pointer TakesStruct };
 
-        ghost refuses = { λ pointer kind. Refuses pointer DeclinesStruct kind };
+        ghost fails = { λ pointer kind. ViewError pointer StructFormError kind };
 
-        ghost declines = { λ pointer kind. Declines pointer DeclinesStruct kind };
+        ghost form_error = { λ pointer kind. FormError pointer StructFormError kind };
 
         #[inline(always)]
         fn get_from_pointer(reader: any_pointer::Reader<'a, S>) -> Result<Self>
             ensures { let pointer = pointer_of S.segments reader.entry in IsViewOf pointer
                 (λ view. IsStruct pointer (struct_of S.segments view.fields))
-                (Accepts pointer TakesStruct) (Refuses pointer DeclinesStruct)
-                (Declines pointer DeclinesStruct) result }
+                (Accepts pointer TakesStruct) (ViewError pointer StructFormError)
+                (FormError pointer StructFormError) result }
         {
             match StructReader::get_from_pointer(reader) {
                 Ok(fields) => Ok(Reader { fields }),
@@ -2307,14 +2307,14 @@ pub mod superclass {
     impl<'a, S: ReaderSegments> ListReader<'a, S> {
         /// The number of elements.
         pub fn len(&self) -> u32
-            ensures { result ≡ length (upgraded_structs_of S.segments self.now.elements).rows }
+            ensures { result ≡ length (upgraded_structs_of S.segments self.now.elements).elements }
         {
             self.elements.len()
         }
 
         /// The element of this index.
         pub fn get(&self, index: u32) -> Reader<'a, S>
-            requires { index < length (upgraded_structs_of S.segments self.now.elements).rows }
+            requires { index < length (upgraded_structs_of S.segments self.now.elements).elements }
             ensures { struct_of S.segments result.fields
                 ≡ element_of (upgraded_structs_of S.segments self.now.elements) index }
         {
@@ -2326,7 +2326,7 @@ pub mod superclass {
         /// The element of this index, or `None` where there are no more elements than it.
         pub fn try_get(&self, index: u32) -> Option<Reader<'a, S>>
             ensures { let list = upgraded_structs_of S.segments self.now.elements in
-                FindsElement (length list.rows) index
+                FindsElement (length list.elements) index
                 (λ item. struct_of S.segments item.fields ≡ element_of list index) result }
         {
             self.try_index_move(index)
@@ -2347,7 +2347,7 @@ pub mod superclass {
 
         ghost seen = { λ item. struct_of S.segments item.fields };
 
-        ghost size = { λ list. length (upgraded_structs_of S.segments list.elements).rows };
+        ghost size = { λ list. length (upgraded_structs_of S.segments list.elements).elements };
 
         ghost element = { λ list index.
             element_of (upgraded_structs_of S.segments list.elements) index };
@@ -2377,17 +2377,17 @@ pub mod superclass {
         ghost shows = { λ pointer view.
             IsUpgradedStructs pointer (upgraded_structs_of S.segments view.elements) };
 
-        ghost accepts = { λ pointer. Accepts pointer TakesRows };
+        ghost accepts = { λ pointer. Accepts pointer TakesAsStructs };
 
-        ghost refuses = { λ pointer kind. Refuses pointer DeclinesRows kind };
+        ghost fails = { λ pointer kind. ViewError pointer ElementsFormError kind };
 
-        ghost declines = { λ pointer kind. Declines pointer DeclinesRows kind };
+        ghost form_error = { λ pointer kind. FormError pointer ElementsFormError kind };
 
         fn get_from_pointer(reader: any_pointer::Reader<'a, S>) -> Result<Self>
             ensures { let pointer = pointer_of S.segments reader.entry in IsViewOf pointer
                 (λ view. IsUpgradedStructs pointer (upgraded_structs_of S.segments view.elements))
-                (Accepts pointer TakesRows) (Refuses pointer DeclinesRows)
-                (Declines pointer DeclinesRows) result }
+                (Accepts pointer TakesAsStructs) (ViewError pointer ElementsFormError)
+                (FormError pointer ElementsFormError) result }
         {
             match upgraded::StructList::get_from_pointer(reader) {
                 Ok(elements) => Ok(ListReader { elements }),
@@ -2396,7 +2396,7 @@ pub mod superclass {
         }
     }
 
-    /// Which pointer of the struct leads to `brand`, for `fields.get_pointer`.
+    /// Which pointer of the struct points to `brand`, for `fields.get_pointer`.
     pub const BRAND_POINTER: u16 = 0;
 }
 
@@ -2429,8 +2429,8 @@ pub mod method {
                 let pointer = pointer_in fields 0 in
                 IsViewOf pointer
                 (λ view. Reads pointer (λ form. IsText form view.bytes.now))
-                (Accepts pointer TakesText) (Refuses pointer DeclinesText)
-                (Declines pointer DeclinesText) result }
+                (Accepts pointer TakesText) (ViewError pointer TextFormError)
+                (FormError pointer TextFormError) result }
         {
             self.fields.get_pointer_as(0)
         }
@@ -2480,8 +2480,8 @@ pub mod method {
                 let pointer = pointer_in fields 1 in
                 IsViewOf pointer
                 (λ view. IsUpgradedStructs pointer (upgraded_structs_of S.segments view.elements))
-                (Accepts pointer TakesRows) (Refuses pointer DeclinesRows)
-                (Declines pointer DeclinesRows) result }
+                (Accepts pointer TakesAsStructs) (ViewError pointer ElementsFormError)
+                (FormError pointer ElementsFormError) result }
         {
             match self.fields.get_pointer_as(1) {
                 Ok(elements) => Ok(super::annotation::ListReader { elements }),
@@ -2503,8 +2503,8 @@ pub mod method {
                 let pointer = pointer_in fields 2 in
                 IsViewOf pointer
                 (λ view. IsStruct pointer (struct_of S.segments view.fields))
-                (Accepts pointer TakesStruct) (Refuses pointer DeclinesStruct)
-                (Declines pointer DeclinesStruct) result }
+                (Accepts pointer TakesStruct) (ViewError pointer StructFormError)
+                (FormError pointer StructFormError) result }
         {
             match self.fields.get_pointer_as(2) {
                 Ok(fields) => Ok(super::brand::Reader { fields }),
@@ -2526,8 +2526,8 @@ pub mod method {
                 let pointer = pointer_in fields 3 in
                 IsViewOf pointer
                 (λ view. IsStruct pointer (struct_of S.segments view.fields))
-                (Accepts pointer TakesStruct) (Refuses pointer DeclinesStruct)
-                (Declines pointer DeclinesStruct) result }
+                (Accepts pointer TakesStruct) (ViewError pointer StructFormError)
+                (FormError pointer StructFormError) result }
         {
             match self.fields.get_pointer_as(3) {
                 Ok(fields) => Ok(super::brand::Reader { fields }),
@@ -2550,8 +2550,8 @@ pub mod method {
                 let pointer = pointer_in fields 4 in
                 IsViewOf pointer
                 (λ view. IsUpgradedStructs pointer (upgraded_structs_of S.segments view.elements))
-                (Accepts pointer TakesRows) (Refuses pointer DeclinesRows)
-                (Declines pointer DeclinesRows) result }
+                (Accepts pointer TakesAsStructs) (ViewError pointer ElementsFormError)
+                (FormError pointer ElementsFormError) result }
         {
             match self.fields.get_pointer_as(4) {
                 Ok(elements) => Ok(super::node::parameter::ListReader { elements }),
@@ -2573,16 +2573,16 @@ pub mod method {
 
         ghost accepts = { λ pointer. Accepts pointer TakesStruct };
 
-        ghost refuses = { λ pointer kind. Refuses pointer DeclinesStruct kind };
+        ghost fails = { λ pointer kind. ViewError pointer StructFormError kind };
 
-        ghost declines = { λ pointer kind. Declines pointer DeclinesStruct kind };
+        ghost form_error = { λ pointer kind. FormError pointer StructFormError kind };
 
         #[inline(always)]
         fn get_from_pointer(reader: any_pointer::Reader<'a, S>) -> Result<Self>
             ensures { let pointer = pointer_of S.segments reader.entry in IsViewOf pointer
                 (λ view. IsStruct pointer (struct_of S.segments view.fields))
-                (Accepts pointer TakesStruct) (Refuses pointer DeclinesStruct)
-                (Declines pointer DeclinesStruct) result }
+                (Accepts pointer TakesStruct) (ViewError pointer StructFormError)
+                (FormError pointer StructFormError) result }
         {
             match StructReader::get_from_pointer(reader) {
                 Ok(fields) => Ok(Reader { fields }),
@@ -2601,14 +2601,14 @@ pub mod method {
     impl<'a, S: ReaderSegments> ListReader<'a, S> {
         /// The number of elements.
         pub fn len(&self) -> u32
-            ensures { result ≡ length (upgraded_structs_of S.segments self.now.elements).rows }
+            ensures { result ≡ length (upgraded_structs_of S.segments self.now.elements).elements }
         {
             self.elements.len()
         }
 
         /// The element of this index.
         pub fn get(&self, index: u32) -> Reader<'a, S>
-            requires { index < length (upgraded_structs_of S.segments self.now.elements).rows }
+            requires { index < length (upgraded_structs_of S.segments self.now.elements).elements }
             ensures { struct_of S.segments result.fields
                 ≡ element_of (upgraded_structs_of S.segments self.now.elements) index }
         {
@@ -2620,7 +2620,7 @@ pub mod method {
         /// The element of this index, or `None` where there are no more elements than it.
         pub fn try_get(&self, index: u32) -> Option<Reader<'a, S>>
             ensures { let list = upgraded_structs_of S.segments self.now.elements in
-                FindsElement (length list.rows) index
+                FindsElement (length list.elements) index
                 (λ item. struct_of S.segments item.fields ≡ element_of list index) result }
         {
             self.try_index_move(index)
@@ -2641,7 +2641,7 @@ pub mod method {
 
         ghost seen = { λ item. struct_of S.segments item.fields };
 
-        ghost size = { λ list. length (upgraded_structs_of S.segments list.elements).rows };
+        ghost size = { λ list. length (upgraded_structs_of S.segments list.elements).elements };
 
         ghost element = { λ list index.
             element_of (upgraded_structs_of S.segments list.elements) index };
@@ -2671,17 +2671,17 @@ pub mod method {
         ghost shows = { λ pointer view.
             IsUpgradedStructs pointer (upgraded_structs_of S.segments view.elements) };
 
-        ghost accepts = { λ pointer. Accepts pointer TakesRows };
+        ghost accepts = { λ pointer. Accepts pointer TakesAsStructs };
 
-        ghost refuses = { λ pointer kind. Refuses pointer DeclinesRows kind };
+        ghost fails = { λ pointer kind. ViewError pointer ElementsFormError kind };
 
-        ghost declines = { λ pointer kind. Declines pointer DeclinesRows kind };
+        ghost form_error = { λ pointer kind. FormError pointer ElementsFormError kind };
 
         fn get_from_pointer(reader: any_pointer::Reader<'a, S>) -> Result<Self>
             ensures { let pointer = pointer_of S.segments reader.entry in IsViewOf pointer
                 (λ view. IsUpgradedStructs pointer (upgraded_structs_of S.segments view.elements))
-                (Accepts pointer TakesRows) (Refuses pointer DeclinesRows)
-                (Declines pointer DeclinesRows) result }
+                (Accepts pointer TakesAsStructs) (ViewError pointer ElementsFormError)
+                (FormError pointer ElementsFormError) result }
         {
             match upgraded::StructList::get_from_pointer(reader) {
                 Ok(elements) => Ok(ListReader { elements }),
@@ -2690,19 +2690,19 @@ pub mod method {
         }
     }
 
-    /// Which pointer of the struct leads to `name`, for `fields.get_pointer`.
+    /// Which pointer of the struct points to `name`, for `fields.get_pointer`.
     pub const NAME_POINTER: u16 = 0;
 
-    /// Which pointer of the struct leads to `annotations`, for `fields.get_pointer`.
+    /// Which pointer of the struct points to `annotations`, for `fields.get_pointer`.
     pub const ANNOTATIONS_POINTER: u16 = 1;
 
-    /// Which pointer of the struct leads to `paramBrand`, for `fields.get_pointer`.
+    /// Which pointer of the struct points to `paramBrand`, for `fields.get_pointer`.
     pub const PARAM_BRAND_POINTER: u16 = 2;
 
-    /// Which pointer of the struct leads to `resultBrand`, for `fields.get_pointer`.
+    /// Which pointer of the struct points to `resultBrand`, for `fields.get_pointer`.
     pub const RESULT_BRAND_POINTER: u16 = 3;
 
-    /// Which pointer of the struct leads to `implicitParameters`, for `fields.get_pointer`.
+    /// Which pointer of the struct points to `implicitParameters`, for `fields.get_pointer`.
     pub const IMPLICIT_PARAMETERS_POINTER: u16 = 4;
 }
 
@@ -2910,16 +2910,16 @@ pub mod type_ {
 
         ghost accepts = { λ pointer. Accepts pointer TakesStruct };
 
-        ghost refuses = { λ pointer kind. Refuses pointer DeclinesStruct kind };
+        ghost fails = { λ pointer kind. ViewError pointer StructFormError kind };
 
-        ghost declines = { λ pointer kind. Declines pointer DeclinesStruct kind };
+        ghost form_error = { λ pointer kind. FormError pointer StructFormError kind };
 
         #[inline(always)]
         fn get_from_pointer(reader: any_pointer::Reader<'a, S>) -> Result<Self>
             ensures { let pointer = pointer_of S.segments reader.entry in IsViewOf pointer
                 (λ view. IsStruct pointer (struct_of S.segments view.fields))
-                (Accepts pointer TakesStruct) (Refuses pointer DeclinesStruct)
-                (Declines pointer DeclinesStruct) result }
+                (Accepts pointer TakesStruct) (ViewError pointer StructFormError)
+                (FormError pointer StructFormError) result }
         {
             match StructReader::get_from_pointer(reader) {
                 Ok(fields) => Ok(Reader { fields }),
@@ -2938,14 +2938,14 @@ pub mod type_ {
     impl<'a, S: ReaderSegments> ListReader<'a, S> {
         /// The number of elements.
         pub fn len(&self) -> u32
-            ensures { result ≡ length (upgraded_structs_of S.segments self.now.elements).rows }
+            ensures { result ≡ length (upgraded_structs_of S.segments self.now.elements).elements }
         {
             self.elements.len()
         }
 
         /// The element of this index.
         pub fn get(&self, index: u32) -> Reader<'a, S>
-            requires { index < length (upgraded_structs_of S.segments self.now.elements).rows }
+            requires { index < length (upgraded_structs_of S.segments self.now.elements).elements }
             ensures { struct_of S.segments result.fields
                 ≡ element_of (upgraded_structs_of S.segments self.now.elements) index }
         {
@@ -2957,7 +2957,7 @@ pub mod type_ {
         /// The element of this index, or `None` where there are no more elements than it.
         pub fn try_get(&self, index: u32) -> Option<Reader<'a, S>>
             ensures { let list = upgraded_structs_of S.segments self.now.elements in
-                FindsElement (length list.rows) index
+                FindsElement (length list.elements) index
                 (λ item. struct_of S.segments item.fields ≡ element_of list index) result }
         {
             self.try_index_move(index)
@@ -2978,7 +2978,7 @@ pub mod type_ {
 
         ghost seen = { λ item. struct_of S.segments item.fields };
 
-        ghost size = { λ list. length (upgraded_structs_of S.segments list.elements).rows };
+        ghost size = { λ list. length (upgraded_structs_of S.segments list.elements).elements };
 
         ghost element = { λ list index.
             element_of (upgraded_structs_of S.segments list.elements) index };
@@ -3008,17 +3008,17 @@ pub mod type_ {
         ghost shows = { λ pointer view.
             IsUpgradedStructs pointer (upgraded_structs_of S.segments view.elements) };
 
-        ghost accepts = { λ pointer. Accepts pointer TakesRows };
+        ghost accepts = { λ pointer. Accepts pointer TakesAsStructs };
 
-        ghost refuses = { λ pointer kind. Refuses pointer DeclinesRows kind };
+        ghost fails = { λ pointer kind. ViewError pointer ElementsFormError kind };
 
-        ghost declines = { λ pointer kind. Declines pointer DeclinesRows kind };
+        ghost form_error = { λ pointer kind. FormError pointer ElementsFormError kind };
 
         fn get_from_pointer(reader: any_pointer::Reader<'a, S>) -> Result<Self>
             ensures { let pointer = pointer_of S.segments reader.entry in IsViewOf pointer
                 (λ view. IsUpgradedStructs pointer (upgraded_structs_of S.segments view.elements))
-                (Accepts pointer TakesRows) (Refuses pointer DeclinesRows)
-                (Declines pointer DeclinesRows) result }
+                (Accepts pointer TakesAsStructs) (ViewError pointer ElementsFormError)
+                (FormError pointer ElementsFormError) result }
         {
             match upgraded::StructList::get_from_pointer(reader) {
                 Ok(elements) => Ok(ListReader { elements }),
@@ -3046,8 +3046,8 @@ pub mod type_ {
                     let pointer = pointer_in fields 0 in
                     IsViewOf pointer
                     (λ view. IsStruct pointer (struct_of S.segments view.fields))
-                    (Accepts pointer TakesStruct) (Refuses pointer DeclinesStruct)
-                    (Declines pointer DeclinesStruct) result }
+                    (Accepts pointer TakesStruct) (ViewError pointer StructFormError)
+                    (FormError pointer StructFormError) result }
             {
                 match self.fields.get_pointer_as(0) {
                     Ok(fields) => Ok(super::super::type_::Reader { fields }),
@@ -3064,7 +3064,7 @@ pub mod type_ {
             }
         }
 
-        /// Which pointer of the struct leads to `elementType`, for `fields.get_pointer`.
+        /// Which pointer of the struct points to `elementType`, for `fields.get_pointer`.
         pub const ELEMENT_TYPE_POINTER: u16 = 0;
     }
 
@@ -3095,8 +3095,8 @@ pub mod type_ {
                     let pointer = pointer_in fields 0 in
                     IsViewOf pointer
                     (λ view. IsStruct pointer (struct_of S.segments view.fields))
-                    (Accepts pointer TakesStruct) (Refuses pointer DeclinesStruct)
-                    (Declines pointer DeclinesStruct) result }
+                    (Accepts pointer TakesStruct) (ViewError pointer StructFormError)
+                    (FormError pointer StructFormError) result }
             {
                 match self.fields.get_pointer_as(0) {
                     Ok(fields) => Ok(super::super::brand::Reader { fields }),
@@ -3113,7 +3113,7 @@ pub mod type_ {
             }
         }
 
-        /// Which pointer of the struct leads to `brand`, for `fields.get_pointer`.
+        /// Which pointer of the struct points to `brand`, for `fields.get_pointer`.
         pub const BRAND_POINTER: u16 = 0;
     }
 
@@ -3144,8 +3144,8 @@ pub mod type_ {
                     let pointer = pointer_in fields 0 in
                     IsViewOf pointer
                     (λ view. IsStruct pointer (struct_of S.segments view.fields))
-                    (Accepts pointer TakesStruct) (Refuses pointer DeclinesStruct)
-                    (Declines pointer DeclinesStruct) result }
+                    (Accepts pointer TakesStruct) (ViewError pointer StructFormError)
+                    (FormError pointer StructFormError) result }
             {
                 match self.fields.get_pointer_as(0) {
                     Ok(fields) => Ok(super::super::brand::Reader { fields }),
@@ -3162,7 +3162,7 @@ pub mod type_ {
             }
         }
 
-        /// Which pointer of the struct leads to `brand`, for `fields.get_pointer`.
+        /// Which pointer of the struct points to `brand`, for `fields.get_pointer`.
         pub const BRAND_POINTER: u16 = 0;
     }
 
@@ -3193,8 +3193,8 @@ pub mod type_ {
                     let pointer = pointer_in fields 0 in
                     IsViewOf pointer
                     (λ view. IsStruct pointer (struct_of S.segments view.fields))
-                    (Accepts pointer TakesStruct) (Refuses pointer DeclinesStruct)
-                    (Declines pointer DeclinesStruct) result }
+                    (Accepts pointer TakesStruct) (ViewError pointer StructFormError)
+                    (FormError pointer StructFormError) result }
             {
                 match self.fields.get_pointer_as(0) {
                     Ok(fields) => Ok(super::super::brand::Reader { fields }),
@@ -3211,7 +3211,7 @@ pub mod type_ {
             }
         }
 
-        /// Which pointer of the struct leads to `brand`, for `fields.get_pointer`.
+        /// Which pointer of the struct points to `brand`, for `fields.get_pointer`.
         pub const BRAND_POINTER: u16 = 0;
     }
 
@@ -3452,8 +3452,8 @@ pub mod brand {
                 let pointer = pointer_in fields 0 in
                 IsViewOf pointer
                 (λ view. IsUpgradedStructs pointer (upgraded_structs_of S.segments view.elements))
-                (Accepts pointer TakesRows) (Refuses pointer DeclinesRows)
-                (Declines pointer DeclinesRows) result }
+                (Accepts pointer TakesAsStructs) (ViewError pointer ElementsFormError)
+                (FormError pointer ElementsFormError) result }
         {
             match self.fields.get_pointer_as(0) {
                 Ok(elements) => Ok(scope::ListReader { elements }),
@@ -3475,16 +3475,16 @@ pub mod brand {
 
         ghost accepts = { λ pointer. Accepts pointer TakesStruct };
 
-        ghost refuses = { λ pointer kind. Refuses pointer DeclinesStruct kind };
+        ghost fails = { λ pointer kind. ViewError pointer StructFormError kind };
 
-        ghost declines = { λ pointer kind. Declines pointer DeclinesStruct kind };
+        ghost form_error = { λ pointer kind. FormError pointer StructFormError kind };
 
         #[inline(always)]
         fn get_from_pointer(reader: any_pointer::Reader<'a, S>) -> Result<Self>
             ensures { let pointer = pointer_of S.segments reader.entry in IsViewOf pointer
                 (λ view. IsStruct pointer (struct_of S.segments view.fields))
-                (Accepts pointer TakesStruct) (Refuses pointer DeclinesStruct)
-                (Declines pointer DeclinesStruct) result }
+                (Accepts pointer TakesStruct) (ViewError pointer StructFormError)
+                (FormError pointer StructFormError) result }
         {
             match StructReader::get_from_pointer(reader) {
                 Ok(fields) => Ok(Reader { fields }),
@@ -3503,14 +3503,14 @@ pub mod brand {
     impl<'a, S: ReaderSegments> ListReader<'a, S> {
         /// The number of elements.
         pub fn len(&self) -> u32
-            ensures { result ≡ length (upgraded_structs_of S.segments self.now.elements).rows }
+            ensures { result ≡ length (upgraded_structs_of S.segments self.now.elements).elements }
         {
             self.elements.len()
         }
 
         /// The element of this index.
         pub fn get(&self, index: u32) -> Reader<'a, S>
-            requires { index < length (upgraded_structs_of S.segments self.now.elements).rows }
+            requires { index < length (upgraded_structs_of S.segments self.now.elements).elements }
             ensures { struct_of S.segments result.fields
                 ≡ element_of (upgraded_structs_of S.segments self.now.elements) index }
         {
@@ -3522,7 +3522,7 @@ pub mod brand {
         /// The element of this index, or `None` where there are no more elements than it.
         pub fn try_get(&self, index: u32) -> Option<Reader<'a, S>>
             ensures { let list = upgraded_structs_of S.segments self.now.elements in
-                FindsElement (length list.rows) index
+                FindsElement (length list.elements) index
                 (λ item. struct_of S.segments item.fields ≡ element_of list index) result }
         {
             self.try_index_move(index)
@@ -3543,7 +3543,7 @@ pub mod brand {
 
         ghost seen = { λ item. struct_of S.segments item.fields };
 
-        ghost size = { λ list. length (upgraded_structs_of S.segments list.elements).rows };
+        ghost size = { λ list. length (upgraded_structs_of S.segments list.elements).elements };
 
         ghost element = { λ list index.
             element_of (upgraded_structs_of S.segments list.elements) index };
@@ -3573,17 +3573,17 @@ pub mod brand {
         ghost shows = { λ pointer view.
             IsUpgradedStructs pointer (upgraded_structs_of S.segments view.elements) };
 
-        ghost accepts = { λ pointer. Accepts pointer TakesRows };
+        ghost accepts = { λ pointer. Accepts pointer TakesAsStructs };
 
-        ghost refuses = { λ pointer kind. Refuses pointer DeclinesRows kind };
+        ghost fails = { λ pointer kind. ViewError pointer ElementsFormError kind };
 
-        ghost declines = { λ pointer kind. Declines pointer DeclinesRows kind };
+        ghost form_error = { λ pointer kind. FormError pointer ElementsFormError kind };
 
         fn get_from_pointer(reader: any_pointer::Reader<'a, S>) -> Result<Self>
             ensures { let pointer = pointer_of S.segments reader.entry in IsViewOf pointer
                 (λ view. IsUpgradedStructs pointer (upgraded_structs_of S.segments view.elements))
-                (Accepts pointer TakesRows) (Refuses pointer DeclinesRows)
-                (Declines pointer DeclinesRows) result }
+                (Accepts pointer TakesAsStructs) (ViewError pointer ElementsFormError)
+                (FormError pointer ElementsFormError) result }
         {
             match upgraded::StructList::get_from_pointer(reader) {
                 Ok(elements) => Ok(ListReader { elements }),
@@ -3592,7 +3592,7 @@ pub mod brand {
         }
     }
 
-    /// Which pointer of the struct leads to `scopes`, for `fields.get_pointer`.
+    /// Which pointer of the struct points to `scopes`, for `fields.get_pointer`.
     pub const SCOPES_POINTER: u16 = 0;
 
     pub mod scope {
@@ -3631,8 +3631,8 @@ pub mod brand {
                     let pointer = pointer_in fields 0 in
                     IsViewOf pointer
                     (λ view. IsUpgradedStructs pointer (upgraded_structs_of S.segments view.elements))
-                    (Accepts pointer TakesRows) (Refuses pointer DeclinesRows)
-                    (Declines pointer DeclinesRows) result }
+                    (Accepts pointer TakesAsStructs) (ViewError pointer ElementsFormError)
+                    (FormError pointer ElementsFormError) result }
             {
                 match self.fields.get_pointer_as(0) {
                     Ok(elements) => Ok(super::binding::ListReader { elements }),
@@ -3675,8 +3675,8 @@ pub mod brand {
                           (let pointer = pointer_in fields 0 in
                           IsViewOf pointer
                           (λ view. IsUpgradedStructs pointer (upgraded_structs_of S.segments view.elements))
-                          (Accepts pointer TakesRows) (Refuses pointer DeclinesRows)
-                          (Declines pointer DeclinesRows) value)
+                          (Accepts pointer TakesAsStructs) (ViewError pointer ElementsFormError)
+                          (FormError pointer ElementsFormError) value)
                       | Which.Inherit ↦ number ≡ 1
                       | Which.NotInSchema unknown ↦ (unknown ≡ number) × (2 ≤ number)
                     ] }
@@ -3703,16 +3703,16 @@ pub mod brand {
 
             ghost accepts = { λ pointer. Accepts pointer TakesStruct };
 
-            ghost refuses = { λ pointer kind. Refuses pointer DeclinesStruct kind };
+            ghost fails = { λ pointer kind. ViewError pointer StructFormError kind };
 
-            ghost declines = { λ pointer kind. Declines pointer DeclinesStruct kind };
+            ghost form_error = { λ pointer kind. FormError pointer StructFormError kind };
 
             #[inline(always)]
             fn get_from_pointer(reader: any_pointer::Reader<'a, S>) -> Result<Self>
                 ensures { let pointer = pointer_of S.segments reader.entry in IsViewOf pointer
                     (λ view. IsStruct pointer (struct_of S.segments view.fields))
-                    (Accepts pointer TakesStruct) (Refuses pointer DeclinesStruct)
-                    (Declines pointer DeclinesStruct) result }
+                    (Accepts pointer TakesStruct) (ViewError pointer StructFormError)
+                    (FormError pointer StructFormError) result }
             {
                 match StructReader::get_from_pointer(reader) {
                     Ok(fields) => Ok(Reader { fields }),
@@ -3731,14 +3731,14 @@ pub mod brand {
         impl<'a, S: ReaderSegments> ListReader<'a, S> {
             /// The number of elements.
             pub fn len(&self) -> u32
-                ensures { result ≡ length (upgraded_structs_of S.segments self.now.elements).rows }
+                ensures { result ≡ length (upgraded_structs_of S.segments self.now.elements).elements }
             {
                 self.elements.len()
             }
 
             /// The element of this index.
             pub fn get(&self, index: u32) -> Reader<'a, S>
-                requires { index < length (upgraded_structs_of S.segments self.now.elements).rows }
+                requires { index < length (upgraded_structs_of S.segments self.now.elements).elements }
                 ensures { struct_of S.segments result.fields
                     ≡ element_of (upgraded_structs_of S.segments self.now.elements) index }
             {
@@ -3750,7 +3750,7 @@ pub mod brand {
             /// The element of this index, or `None` where there are no more elements than it.
             pub fn try_get(&self, index: u32) -> Option<Reader<'a, S>>
                 ensures { let list = upgraded_structs_of S.segments self.now.elements in
-                    FindsElement (length list.rows) index
+                    FindsElement (length list.elements) index
                     (λ item. struct_of S.segments item.fields ≡ element_of list index) result }
             {
                 self.try_index_move(index)
@@ -3771,7 +3771,7 @@ pub mod brand {
 
             ghost seen = { λ item. struct_of S.segments item.fields };
 
-            ghost size = { λ list. length (upgraded_structs_of S.segments list.elements).rows };
+            ghost size = { λ list. length (upgraded_structs_of S.segments list.elements).elements };
 
             ghost element = { λ list index.
                 element_of (upgraded_structs_of S.segments list.elements) index };
@@ -3801,17 +3801,17 @@ pub mod brand {
             ghost shows = { λ pointer view.
                 IsUpgradedStructs pointer (upgraded_structs_of S.segments view.elements) };
 
-            ghost accepts = { λ pointer. Accepts pointer TakesRows };
+            ghost accepts = { λ pointer. Accepts pointer TakesAsStructs };
 
-            ghost refuses = { λ pointer kind. Refuses pointer DeclinesRows kind };
+            ghost fails = { λ pointer kind. ViewError pointer ElementsFormError kind };
 
-            ghost declines = { λ pointer kind. Declines pointer DeclinesRows kind };
+            ghost form_error = { λ pointer kind. FormError pointer ElementsFormError kind };
 
             fn get_from_pointer(reader: any_pointer::Reader<'a, S>) -> Result<Self>
                 ensures { let pointer = pointer_of S.segments reader.entry in IsViewOf pointer
                     (λ view. IsUpgradedStructs pointer (upgraded_structs_of S.segments view.elements))
-                    (Accepts pointer TakesRows) (Refuses pointer DeclinesRows)
-                    (Declines pointer DeclinesRows) result }
+                    (Accepts pointer TakesAsStructs) (ViewError pointer ElementsFormError)
+                    (FormError pointer ElementsFormError) result }
             {
                 match upgraded::StructList::get_from_pointer(reader) {
                     Ok(elements) => Ok(ListReader { elements }),
@@ -3820,7 +3820,7 @@ pub mod brand {
             }
         }
 
-        /// Which pointer of the struct leads to `bind`, for `fields.get_pointer`.
+        /// Which pointer of the struct points to `bind`, for `fields.get_pointer`.
         pub const BIND_POINTER: u16 = 0;
     }
 
@@ -3855,8 +3855,8 @@ pub mod brand {
                     let pointer = pointer_in fields 0 in
                     IsViewOf pointer
                     (λ view. IsStruct pointer (struct_of S.segments view.fields))
-                    (Accepts pointer TakesStruct) (Refuses pointer DeclinesStruct)
-                    (Declines pointer DeclinesStruct) result }
+                    (Accepts pointer TakesStruct) (ViewError pointer StructFormError)
+                    (FormError pointer StructFormError) result }
             {
                 match self.fields.get_pointer_as(0) {
                     Ok(fields) => Ok(super::super::type_::Reader { fields }),
@@ -3883,8 +3883,8 @@ pub mod brand {
                           (let pointer = pointer_in fields 0 in
                           IsViewOf pointer
                           (λ view. IsStruct pointer (struct_of S.segments view.fields))
-                          (Accepts pointer TakesStruct) (Refuses pointer DeclinesStruct)
-                          (Declines pointer DeclinesStruct) value)
+                          (Accepts pointer TakesStruct) (ViewError pointer StructFormError)
+                          (FormError pointer StructFormError) value)
                       | Which.NotInSchema unknown ↦ (unknown ≡ number) × (2 ≤ number)
                     ] }
             {
@@ -3910,16 +3910,16 @@ pub mod brand {
 
             ghost accepts = { λ pointer. Accepts pointer TakesStruct };
 
-            ghost refuses = { λ pointer kind. Refuses pointer DeclinesStruct kind };
+            ghost fails = { λ pointer kind. ViewError pointer StructFormError kind };
 
-            ghost declines = { λ pointer kind. Declines pointer DeclinesStruct kind };
+            ghost form_error = { λ pointer kind. FormError pointer StructFormError kind };
 
             #[inline(always)]
             fn get_from_pointer(reader: any_pointer::Reader<'a, S>) -> Result<Self>
                 ensures { let pointer = pointer_of S.segments reader.entry in IsViewOf pointer
                     (λ view. IsStruct pointer (struct_of S.segments view.fields))
-                    (Accepts pointer TakesStruct) (Refuses pointer DeclinesStruct)
-                    (Declines pointer DeclinesStruct) result }
+                    (Accepts pointer TakesStruct) (ViewError pointer StructFormError)
+                    (FormError pointer StructFormError) result }
             {
                 match StructReader::get_from_pointer(reader) {
                     Ok(fields) => Ok(Reader { fields }),
@@ -3938,14 +3938,14 @@ pub mod brand {
         impl<'a, S: ReaderSegments> ListReader<'a, S> {
             /// The number of elements.
             pub fn len(&self) -> u32
-                ensures { result ≡ length (upgraded_structs_of S.segments self.now.elements).rows }
+                ensures { result ≡ length (upgraded_structs_of S.segments self.now.elements).elements }
             {
                 self.elements.len()
             }
 
             /// The element of this index.
             pub fn get(&self, index: u32) -> Reader<'a, S>
-                requires { index < length (upgraded_structs_of S.segments self.now.elements).rows }
+                requires { index < length (upgraded_structs_of S.segments self.now.elements).elements }
                 ensures { struct_of S.segments result.fields
                     ≡ element_of (upgraded_structs_of S.segments self.now.elements) index }
             {
@@ -3957,7 +3957,7 @@ pub mod brand {
             /// The element of this index, or `None` where there are no more elements than it.
             pub fn try_get(&self, index: u32) -> Option<Reader<'a, S>>
                 ensures { let list = upgraded_structs_of S.segments self.now.elements in
-                    FindsElement (length list.rows) index
+                    FindsElement (length list.elements) index
                     (λ item. struct_of S.segments item.fields ≡ element_of list index) result }
             {
                 self.try_index_move(index)
@@ -3978,7 +3978,7 @@ pub mod brand {
 
             ghost seen = { λ item. struct_of S.segments item.fields };
 
-            ghost size = { λ list. length (upgraded_structs_of S.segments list.elements).rows };
+            ghost size = { λ list. length (upgraded_structs_of S.segments list.elements).elements };
 
             ghost element = { λ list index.
                 element_of (upgraded_structs_of S.segments list.elements) index };
@@ -4008,17 +4008,17 @@ pub mod brand {
             ghost shows = { λ pointer view.
                 IsUpgradedStructs pointer (upgraded_structs_of S.segments view.elements) };
 
-            ghost accepts = { λ pointer. Accepts pointer TakesRows };
+            ghost accepts = { λ pointer. Accepts pointer TakesAsStructs };
 
-            ghost refuses = { λ pointer kind. Refuses pointer DeclinesRows kind };
+            ghost fails = { λ pointer kind. ViewError pointer ElementsFormError kind };
 
-            ghost declines = { λ pointer kind. Declines pointer DeclinesRows kind };
+            ghost form_error = { λ pointer kind. FormError pointer ElementsFormError kind };
 
             fn get_from_pointer(reader: any_pointer::Reader<'a, S>) -> Result<Self>
                 ensures { let pointer = pointer_of S.segments reader.entry in IsViewOf pointer
                     (λ view. IsUpgradedStructs pointer (upgraded_structs_of S.segments view.elements))
-                    (Accepts pointer TakesRows) (Refuses pointer DeclinesRows)
-                    (Declines pointer DeclinesRows) result }
+                    (Accepts pointer TakesAsStructs) (ViewError pointer ElementsFormError)
+                    (FormError pointer ElementsFormError) result }
             {
                 match upgraded::StructList::get_from_pointer(reader) {
                     Ok(elements) => Ok(ListReader { elements }),
@@ -4027,7 +4027,7 @@ pub mod brand {
             }
         }
 
-        /// Which pointer of the struct leads to `type`, for `fields.get_pointer`.
+        /// Which pointer of the struct points to `type`, for `fields.get_pointer`.
         pub const TYPE_POINTER: u16 = 0;
     }
 }
@@ -4152,8 +4152,8 @@ pub mod value {
                 let pointer = pointer_in fields 0 in
                 IsViewOf pointer
                 (λ view. Reads pointer (λ form. IsText form view.bytes.now))
-                (Accepts pointer TakesText) (Refuses pointer DeclinesText)
-                (Declines pointer DeclinesText) result }
+                (Accepts pointer TakesText) (ViewError pointer TextFormError)
+                (FormError pointer TextFormError) result }
         {
             self.fields.get_pointer_as(0)
         }
@@ -4172,8 +4172,8 @@ pub mod value {
                 let pointer = pointer_in fields 0 in
                 IsViewOf pointer
                 (λ view. Reads pointer (λ form. IsData form view.now))
-                (Accepts pointer (TakesNumbers 2)) (Refuses pointer (DeclinesNumbers 2))
-                (Declines pointer (DeclinesNumbers 2)) result }
+                (Accepts pointer (TakesNumbers 2)) (ViewError pointer (NumbersFormError 2))
+                (FormError pointer (NumbersFormError 2)) result }
         {
             self.fields.get_pointer_as(0)
         }
@@ -4268,14 +4268,14 @@ pub mod value {
                       (let pointer = pointer_in fields 0 in
                       IsViewOf pointer
                       (λ view. Reads pointer (λ form. IsText form view.bytes.now))
-                      (Accepts pointer TakesText) (Refuses pointer DeclinesText)
-                      (Declines pointer DeclinesText) value)
+                      (Accepts pointer TakesText) (ViewError pointer TextFormError)
+                      (FormError pointer TextFormError) value)
                   | Which.Data value ↦ (number ≡ 13) ×
                       (let pointer = pointer_in fields 0 in
                       IsViewOf pointer
                       (λ view. Reads pointer (λ form. IsData form view.now))
-                      (Accepts pointer (TakesNumbers 2)) (Refuses pointer (DeclinesNumbers 2))
-                      (Declines pointer (DeclinesNumbers 2)) value)
+                      (Accepts pointer (TakesNumbers 2)) (ViewError pointer (NumbersFormError 2))
+                      (FormError pointer (NumbersFormError 2)) value)
                   | Which.List value ↦ (number ≡ 14) × (pointer_of S.segments value ≡ pointer_in fields 0)
                   | Which.Enum value ↦ (number ≡ 15) × (value ≡ field fields.words 16 1)
                   | Which.Struct value ↦ (number ≡ 16) × (pointer_of S.segments value ≡ pointer_in fields 0)
@@ -4340,16 +4340,16 @@ pub mod value {
 
         ghost accepts = { λ pointer. Accepts pointer TakesStruct };
 
-        ghost refuses = { λ pointer kind. Refuses pointer DeclinesStruct kind };
+        ghost fails = { λ pointer kind. ViewError pointer StructFormError kind };
 
-        ghost declines = { λ pointer kind. Declines pointer DeclinesStruct kind };
+        ghost form_error = { λ pointer kind. FormError pointer StructFormError kind };
 
         #[inline(always)]
         fn get_from_pointer(reader: any_pointer::Reader<'a, S>) -> Result<Self>
             ensures { let pointer = pointer_of S.segments reader.entry in IsViewOf pointer
                 (λ view. IsStruct pointer (struct_of S.segments view.fields))
-                (Accepts pointer TakesStruct) (Refuses pointer DeclinesStruct)
-                (Declines pointer DeclinesStruct) result }
+                (Accepts pointer TakesStruct) (ViewError pointer StructFormError)
+                (FormError pointer StructFormError) result }
         {
             match StructReader::get_from_pointer(reader) {
                 Ok(fields) => Ok(Reader { fields }),
@@ -4368,14 +4368,14 @@ pub mod value {
     impl<'a, S: ReaderSegments> ListReader<'a, S> {
         /// The number of elements.
         pub fn len(&self) -> u32
-            ensures { result ≡ length (upgraded_structs_of S.segments self.now.elements).rows }
+            ensures { result ≡ length (upgraded_structs_of S.segments self.now.elements).elements }
         {
             self.elements.len()
         }
 
         /// The element of this index.
         pub fn get(&self, index: u32) -> Reader<'a, S>
-            requires { index < length (upgraded_structs_of S.segments self.now.elements).rows }
+            requires { index < length (upgraded_structs_of S.segments self.now.elements).elements }
             ensures { struct_of S.segments result.fields
                 ≡ element_of (upgraded_structs_of S.segments self.now.elements) index }
         {
@@ -4387,7 +4387,7 @@ pub mod value {
         /// The element of this index, or `None` where there are no more elements than it.
         pub fn try_get(&self, index: u32) -> Option<Reader<'a, S>>
             ensures { let list = upgraded_structs_of S.segments self.now.elements in
-                FindsElement (length list.rows) index
+                FindsElement (length list.elements) index
                 (λ item. struct_of S.segments item.fields ≡ element_of list index) result }
         {
             self.try_index_move(index)
@@ -4408,7 +4408,7 @@ pub mod value {
 
         ghost seen = { λ item. struct_of S.segments item.fields };
 
-        ghost size = { λ list. length (upgraded_structs_of S.segments list.elements).rows };
+        ghost size = { λ list. length (upgraded_structs_of S.segments list.elements).elements };
 
         ghost element = { λ list index.
             element_of (upgraded_structs_of S.segments list.elements) index };
@@ -4438,17 +4438,17 @@ pub mod value {
         ghost shows = { λ pointer view.
             IsUpgradedStructs pointer (upgraded_structs_of S.segments view.elements) };
 
-        ghost accepts = { λ pointer. Accepts pointer TakesRows };
+        ghost accepts = { λ pointer. Accepts pointer TakesAsStructs };
 
-        ghost refuses = { λ pointer kind. Refuses pointer DeclinesRows kind };
+        ghost fails = { λ pointer kind. ViewError pointer ElementsFormError kind };
 
-        ghost declines = { λ pointer kind. Declines pointer DeclinesRows kind };
+        ghost form_error = { λ pointer kind. FormError pointer ElementsFormError kind };
 
         fn get_from_pointer(reader: any_pointer::Reader<'a, S>) -> Result<Self>
             ensures { let pointer = pointer_of S.segments reader.entry in IsViewOf pointer
                 (λ view. IsUpgradedStructs pointer (upgraded_structs_of S.segments view.elements))
-                (Accepts pointer TakesRows) (Refuses pointer DeclinesRows)
-                (Declines pointer DeclinesRows) result }
+                (Accepts pointer TakesAsStructs) (ViewError pointer ElementsFormError)
+                (FormError pointer ElementsFormError) result }
         {
             match upgraded::StructList::get_from_pointer(reader) {
                 Ok(elements) => Ok(ListReader { elements }),
@@ -4457,19 +4457,19 @@ pub mod value {
         }
     }
 
-    /// Which pointer of the struct leads to `text`, for `fields.get_pointer`.
+    /// Which pointer of the struct points to `text`, for `fields.get_pointer`.
     pub const TEXT_POINTER: u16 = 0;
 
-    /// Which pointer of the struct leads to `data`, for `fields.get_pointer`.
+    /// Which pointer of the struct points to `data`, for `fields.get_pointer`.
     pub const DATA_POINTER: u16 = 0;
 
-    /// Which pointer of the struct leads to `list`, for `fields.get_pointer`.
+    /// Which pointer of the struct points to `list`, for `fields.get_pointer`.
     pub const LIST_POINTER: u16 = 0;
 
-    /// Which pointer of the struct leads to `struct`, for `fields.get_pointer`.
+    /// Which pointer of the struct points to `struct`, for `fields.get_pointer`.
     pub const STRUCT_POINTER: u16 = 0;
 
-    /// Which pointer of the struct leads to `anyPointer`, for `fields.get_pointer`.
+    /// Which pointer of the struct points to `anyPointer`, for `fields.get_pointer`.
     pub const ANY_POINTER_POINTER: u16 = 0;
 }
 
@@ -4511,8 +4511,8 @@ pub mod annotation {
                 let pointer = pointer_in fields 0 in
                 IsViewOf pointer
                 (λ view. IsStruct pointer (struct_of S.segments view.fields))
-                (Accepts pointer TakesStruct) (Refuses pointer DeclinesStruct)
-                (Declines pointer DeclinesStruct) result }
+                (Accepts pointer TakesStruct) (ViewError pointer StructFormError)
+                (FormError pointer StructFormError) result }
         {
             match self.fields.get_pointer_as(0) {
                 Ok(fields) => Ok(super::value::Reader { fields }),
@@ -4536,8 +4536,8 @@ pub mod annotation {
                 let pointer = pointer_in fields 1 in
                 IsViewOf pointer
                 (λ view. IsStruct pointer (struct_of S.segments view.fields))
-                (Accepts pointer TakesStruct) (Refuses pointer DeclinesStruct)
-                (Declines pointer DeclinesStruct) result }
+                (Accepts pointer TakesStruct) (ViewError pointer StructFormError)
+                (FormError pointer StructFormError) result }
         {
             match self.fields.get_pointer_as(1) {
                 Ok(fields) => Ok(super::brand::Reader { fields }),
@@ -4559,16 +4559,16 @@ pub mod annotation {
 
         ghost accepts = { λ pointer. Accepts pointer TakesStruct };
 
-        ghost refuses = { λ pointer kind. Refuses pointer DeclinesStruct kind };
+        ghost fails = { λ pointer kind. ViewError pointer StructFormError kind };
 
-        ghost declines = { λ pointer kind. Declines pointer DeclinesStruct kind };
+        ghost form_error = { λ pointer kind. FormError pointer StructFormError kind };
 
         #[inline(always)]
         fn get_from_pointer(reader: any_pointer::Reader<'a, S>) -> Result<Self>
             ensures { let pointer = pointer_of S.segments reader.entry in IsViewOf pointer
                 (λ view. IsStruct pointer (struct_of S.segments view.fields))
-                (Accepts pointer TakesStruct) (Refuses pointer DeclinesStruct)
-                (Declines pointer DeclinesStruct) result }
+                (Accepts pointer TakesStruct) (ViewError pointer StructFormError)
+                (FormError pointer StructFormError) result }
         {
             match StructReader::get_from_pointer(reader) {
                 Ok(fields) => Ok(Reader { fields }),
@@ -4587,14 +4587,14 @@ pub mod annotation {
     impl<'a, S: ReaderSegments> ListReader<'a, S> {
         /// The number of elements.
         pub fn len(&self) -> u32
-            ensures { result ≡ length (upgraded_structs_of S.segments self.now.elements).rows }
+            ensures { result ≡ length (upgraded_structs_of S.segments self.now.elements).elements }
         {
             self.elements.len()
         }
 
         /// The element of this index.
         pub fn get(&self, index: u32) -> Reader<'a, S>
-            requires { index < length (upgraded_structs_of S.segments self.now.elements).rows }
+            requires { index < length (upgraded_structs_of S.segments self.now.elements).elements }
             ensures { struct_of S.segments result.fields
                 ≡ element_of (upgraded_structs_of S.segments self.now.elements) index }
         {
@@ -4606,7 +4606,7 @@ pub mod annotation {
         /// The element of this index, or `None` where there are no more elements than it.
         pub fn try_get(&self, index: u32) -> Option<Reader<'a, S>>
             ensures { let list = upgraded_structs_of S.segments self.now.elements in
-                FindsElement (length list.rows) index
+                FindsElement (length list.elements) index
                 (λ item. struct_of S.segments item.fields ≡ element_of list index) result }
         {
             self.try_index_move(index)
@@ -4627,7 +4627,7 @@ pub mod annotation {
 
         ghost seen = { λ item. struct_of S.segments item.fields };
 
-        ghost size = { λ list. length (upgraded_structs_of S.segments list.elements).rows };
+        ghost size = { λ list. length (upgraded_structs_of S.segments list.elements).elements };
 
         ghost element = { λ list index.
             element_of (upgraded_structs_of S.segments list.elements) index };
@@ -4657,17 +4657,17 @@ pub mod annotation {
         ghost shows = { λ pointer view.
             IsUpgradedStructs pointer (upgraded_structs_of S.segments view.elements) };
 
-        ghost accepts = { λ pointer. Accepts pointer TakesRows };
+        ghost accepts = { λ pointer. Accepts pointer TakesAsStructs };
 
-        ghost refuses = { λ pointer kind. Refuses pointer DeclinesRows kind };
+        ghost fails = { λ pointer kind. ViewError pointer ElementsFormError kind };
 
-        ghost declines = { λ pointer kind. Declines pointer DeclinesRows kind };
+        ghost form_error = { λ pointer kind. FormError pointer ElementsFormError kind };
 
         fn get_from_pointer(reader: any_pointer::Reader<'a, S>) -> Result<Self>
             ensures { let pointer = pointer_of S.segments reader.entry in IsViewOf pointer
                 (λ view. IsUpgradedStructs pointer (upgraded_structs_of S.segments view.elements))
-                (Accepts pointer TakesRows) (Refuses pointer DeclinesRows)
-                (Declines pointer DeclinesRows) result }
+                (Accepts pointer TakesAsStructs) (ViewError pointer ElementsFormError)
+                (FormError pointer ElementsFormError) result }
         {
             match upgraded::StructList::get_from_pointer(reader) {
                 Ok(elements) => Ok(ListReader { elements }),
@@ -4676,10 +4676,10 @@ pub mod annotation {
         }
     }
 
-    /// Which pointer of the struct leads to `value`, for `fields.get_pointer`.
+    /// Which pointer of the struct points to `value`, for `fields.get_pointer`.
     pub const VALUE_POINTER: u16 = 0;
 
-    /// Which pointer of the struct leads to `brand`, for `fields.get_pointer`.
+    /// Which pointer of the struct points to `brand`, for `fields.get_pointer`.
     pub const BRAND_POINTER: u16 = 1;
 }
 
@@ -4789,16 +4789,16 @@ pub mod capnp_version {
 
         ghost accepts = { λ pointer. Accepts pointer TakesStruct };
 
-        ghost refuses = { λ pointer kind. Refuses pointer DeclinesStruct kind };
+        ghost fails = { λ pointer kind. ViewError pointer StructFormError kind };
 
-        ghost declines = { λ pointer kind. Declines pointer DeclinesStruct kind };
+        ghost form_error = { λ pointer kind. FormError pointer StructFormError kind };
 
         #[inline(always)]
         fn get_from_pointer(reader: any_pointer::Reader<'a, S>) -> Result<Self>
             ensures { let pointer = pointer_of S.segments reader.entry in IsViewOf pointer
                 (λ view. IsStruct pointer (struct_of S.segments view.fields))
-                (Accepts pointer TakesStruct) (Refuses pointer DeclinesStruct)
-                (Declines pointer DeclinesStruct) result }
+                (Accepts pointer TakesStruct) (ViewError pointer StructFormError)
+                (FormError pointer StructFormError) result }
         {
             match StructReader::get_from_pointer(reader) {
                 Ok(fields) => Ok(Reader { fields }),
@@ -4817,14 +4817,14 @@ pub mod capnp_version {
     impl<'a, S: ReaderSegments> ListReader<'a, S> {
         /// The number of elements.
         pub fn len(&self) -> u32
-            ensures { result ≡ length (upgraded_structs_of S.segments self.now.elements).rows }
+            ensures { result ≡ length (upgraded_structs_of S.segments self.now.elements).elements }
         {
             self.elements.len()
         }
 
         /// The element of this index.
         pub fn get(&self, index: u32) -> Reader<'a, S>
-            requires { index < length (upgraded_structs_of S.segments self.now.elements).rows }
+            requires { index < length (upgraded_structs_of S.segments self.now.elements).elements }
             ensures { struct_of S.segments result.fields
                 ≡ element_of (upgraded_structs_of S.segments self.now.elements) index }
         {
@@ -4836,7 +4836,7 @@ pub mod capnp_version {
         /// The element of this index, or `None` where there are no more elements than it.
         pub fn try_get(&self, index: u32) -> Option<Reader<'a, S>>
             ensures { let list = upgraded_structs_of S.segments self.now.elements in
-                FindsElement (length list.rows) index
+                FindsElement (length list.elements) index
                 (λ item. struct_of S.segments item.fields ≡ element_of list index) result }
         {
             self.try_index_move(index)
@@ -4857,7 +4857,7 @@ pub mod capnp_version {
 
         ghost seen = { λ item. struct_of S.segments item.fields };
 
-        ghost size = { λ list. length (upgraded_structs_of S.segments list.elements).rows };
+        ghost size = { λ list. length (upgraded_structs_of S.segments list.elements).elements };
 
         ghost element = { λ list index.
             element_of (upgraded_structs_of S.segments list.elements) index };
@@ -4887,17 +4887,17 @@ pub mod capnp_version {
         ghost shows = { λ pointer view.
             IsUpgradedStructs pointer (upgraded_structs_of S.segments view.elements) };
 
-        ghost accepts = { λ pointer. Accepts pointer TakesRows };
+        ghost accepts = { λ pointer. Accepts pointer TakesAsStructs };
 
-        ghost refuses = { λ pointer kind. Refuses pointer DeclinesRows kind };
+        ghost fails = { λ pointer kind. ViewError pointer ElementsFormError kind };
 
-        ghost declines = { λ pointer kind. Declines pointer DeclinesRows kind };
+        ghost form_error = { λ pointer kind. FormError pointer ElementsFormError kind };
 
         fn get_from_pointer(reader: any_pointer::Reader<'a, S>) -> Result<Self>
             ensures { let pointer = pointer_of S.segments reader.entry in IsViewOf pointer
                 (λ view. IsUpgradedStructs pointer (upgraded_structs_of S.segments view.elements))
-                (Accepts pointer TakesRows) (Refuses pointer DeclinesRows)
-                (Declines pointer DeclinesRows) result }
+                (Accepts pointer TakesAsStructs) (ViewError pointer ElementsFormError)
+                (FormError pointer ElementsFormError) result }
         {
             match upgraded::StructList::get_from_pointer(reader) {
                 Ok(elements) => Ok(ListReader { elements }),
@@ -4936,8 +4936,8 @@ pub mod code_generator_request {
                 let pointer = pointer_in fields 0 in
                 IsViewOf pointer
                 (λ view. IsUpgradedStructs pointer (upgraded_structs_of S.segments view.elements))
-                (Accepts pointer TakesRows) (Refuses pointer DeclinesRows)
-                (Declines pointer DeclinesRows) result }
+                (Accepts pointer TakesAsStructs) (ViewError pointer ElementsFormError)
+                (FormError pointer ElementsFormError) result }
         {
             match self.fields.get_pointer_as(0) {
                 Ok(elements) => Ok(super::node::ListReader { elements }),
@@ -4959,8 +4959,8 @@ pub mod code_generator_request {
                 let pointer = pointer_in fields 1 in
                 IsViewOf pointer
                 (λ view. IsUpgradedStructs pointer (upgraded_structs_of S.segments view.elements))
-                (Accepts pointer TakesRows) (Refuses pointer DeclinesRows)
-                (Declines pointer DeclinesRows) result }
+                (Accepts pointer TakesAsStructs) (ViewError pointer ElementsFormError)
+                (FormError pointer ElementsFormError) result }
         {
             match self.fields.get_pointer_as(1) {
                 Ok(elements) => Ok(requested_file::ListReader { elements }),
@@ -4987,8 +4987,8 @@ pub mod code_generator_request {
                 let pointer = pointer_in fields 2 in
                 IsViewOf pointer
                 (λ view. IsStruct pointer (struct_of S.segments view.fields))
-                (Accepts pointer TakesStruct) (Refuses pointer DeclinesStruct)
-                (Declines pointer DeclinesStruct) result }
+                (Accepts pointer TakesStruct) (ViewError pointer StructFormError)
+                (FormError pointer StructFormError) result }
         {
             match self.fields.get_pointer_as(2) {
                 Ok(fields) => Ok(super::capnp_version::Reader { fields }),
@@ -5011,8 +5011,8 @@ pub mod code_generator_request {
                 let pointer = pointer_in fields 3 in
                 IsViewOf pointer
                 (λ view. IsUpgradedStructs pointer (upgraded_structs_of S.segments view.elements))
-                (Accepts pointer TakesRows) (Refuses pointer DeclinesRows)
-                (Declines pointer DeclinesRows) result }
+                (Accepts pointer TakesAsStructs) (ViewError pointer ElementsFormError)
+                (FormError pointer ElementsFormError) result }
         {
             match self.fields.get_pointer_as(3) {
                 Ok(elements) => Ok(super::node::source_info::ListReader { elements }),
@@ -5034,16 +5034,16 @@ pub mod code_generator_request {
 
         ghost accepts = { λ pointer. Accepts pointer TakesStruct };
 
-        ghost refuses = { λ pointer kind. Refuses pointer DeclinesStruct kind };
+        ghost fails = { λ pointer kind. ViewError pointer StructFormError kind };
 
-        ghost declines = { λ pointer kind. Declines pointer DeclinesStruct kind };
+        ghost form_error = { λ pointer kind. FormError pointer StructFormError kind };
 
         #[inline(always)]
         fn get_from_pointer(reader: any_pointer::Reader<'a, S>) -> Result<Self>
             ensures { let pointer = pointer_of S.segments reader.entry in IsViewOf pointer
                 (λ view. IsStruct pointer (struct_of S.segments view.fields))
-                (Accepts pointer TakesStruct) (Refuses pointer DeclinesStruct)
-                (Declines pointer DeclinesStruct) result }
+                (Accepts pointer TakesStruct) (ViewError pointer StructFormError)
+                (FormError pointer StructFormError) result }
         {
             match StructReader::get_from_pointer(reader) {
                 Ok(fields) => Ok(Reader { fields }),
@@ -5062,14 +5062,14 @@ pub mod code_generator_request {
     impl<'a, S: ReaderSegments> ListReader<'a, S> {
         /// The number of elements.
         pub fn len(&self) -> u32
-            ensures { result ≡ length (upgraded_structs_of S.segments self.now.elements).rows }
+            ensures { result ≡ length (upgraded_structs_of S.segments self.now.elements).elements }
         {
             self.elements.len()
         }
 
         /// The element of this index.
         pub fn get(&self, index: u32) -> Reader<'a, S>
-            requires { index < length (upgraded_structs_of S.segments self.now.elements).rows }
+            requires { index < length (upgraded_structs_of S.segments self.now.elements).elements }
             ensures { struct_of S.segments result.fields
                 ≡ element_of (upgraded_structs_of S.segments self.now.elements) index }
         {
@@ -5081,7 +5081,7 @@ pub mod code_generator_request {
         /// The element of this index, or `None` where there are no more elements than it.
         pub fn try_get(&self, index: u32) -> Option<Reader<'a, S>>
             ensures { let list = upgraded_structs_of S.segments self.now.elements in
-                FindsElement (length list.rows) index
+                FindsElement (length list.elements) index
                 (λ item. struct_of S.segments item.fields ≡ element_of list index) result }
         {
             self.try_index_move(index)
@@ -5102,7 +5102,7 @@ pub mod code_generator_request {
 
         ghost seen = { λ item. struct_of S.segments item.fields };
 
-        ghost size = { λ list. length (upgraded_structs_of S.segments list.elements).rows };
+        ghost size = { λ list. length (upgraded_structs_of S.segments list.elements).elements };
 
         ghost element = { λ list index.
             element_of (upgraded_structs_of S.segments list.elements) index };
@@ -5132,17 +5132,17 @@ pub mod code_generator_request {
         ghost shows = { λ pointer view.
             IsUpgradedStructs pointer (upgraded_structs_of S.segments view.elements) };
 
-        ghost accepts = { λ pointer. Accepts pointer TakesRows };
+        ghost accepts = { λ pointer. Accepts pointer TakesAsStructs };
 
-        ghost refuses = { λ pointer kind. Refuses pointer DeclinesRows kind };
+        ghost fails = { λ pointer kind. ViewError pointer ElementsFormError kind };
 
-        ghost declines = { λ pointer kind. Declines pointer DeclinesRows kind };
+        ghost form_error = { λ pointer kind. FormError pointer ElementsFormError kind };
 
         fn get_from_pointer(reader: any_pointer::Reader<'a, S>) -> Result<Self>
             ensures { let pointer = pointer_of S.segments reader.entry in IsViewOf pointer
                 (λ view. IsUpgradedStructs pointer (upgraded_structs_of S.segments view.elements))
-                (Accepts pointer TakesRows) (Refuses pointer DeclinesRows)
-                (Declines pointer DeclinesRows) result }
+                (Accepts pointer TakesAsStructs) (ViewError pointer ElementsFormError)
+                (FormError pointer ElementsFormError) result }
         {
             match upgraded::StructList::get_from_pointer(reader) {
                 Ok(elements) => Ok(ListReader { elements }),
@@ -5151,16 +5151,16 @@ pub mod code_generator_request {
         }
     }
 
-    /// Which pointer of the struct leads to `nodes`, for `fields.get_pointer`.
+    /// Which pointer of the struct points to `nodes`, for `fields.get_pointer`.
     pub const NODES_POINTER: u16 = 0;
 
-    /// Which pointer of the struct leads to `requestedFiles`, for `fields.get_pointer`.
+    /// Which pointer of the struct points to `requestedFiles`, for `fields.get_pointer`.
     pub const REQUESTED_FILES_POINTER: u16 = 1;
 
-    /// Which pointer of the struct leads to `capnpVersion`, for `fields.get_pointer`.
+    /// Which pointer of the struct points to `capnpVersion`, for `fields.get_pointer`.
     pub const CAPNP_VERSION_POINTER: u16 = 2;
 
-    /// Which pointer of the struct leads to `sourceInfo`, for `fields.get_pointer`.
+    /// Which pointer of the struct points to `sourceInfo`, for `fields.get_pointer`.
     pub const SOURCE_INFO_POINTER: u16 = 3;
 
     pub mod requested_file {
@@ -5200,8 +5200,8 @@ pub mod code_generator_request {
                     let pointer = pointer_in fields 0 in
                     IsViewOf pointer
                     (λ view. Reads pointer (λ form. IsText form view.bytes.now))
-                    (Accepts pointer TakesText) (Refuses pointer DeclinesText)
-                    (Declines pointer DeclinesText) result }
+                    (Accepts pointer TakesText) (ViewError pointer TextFormError)
+                    (FormError pointer TextFormError) result }
             {
                 self.fields.get_pointer_as(0)
             }
@@ -5220,8 +5220,8 @@ pub mod code_generator_request {
                     let pointer = pointer_in fields 1 in
                     IsViewOf pointer
                     (λ view. IsUpgradedStructs pointer (upgraded_structs_of S.segments view.elements))
-                    (Accepts pointer TakesRows) (Refuses pointer DeclinesRows)
-                    (Declines pointer DeclinesRows) result }
+                    (Accepts pointer TakesAsStructs) (ViewError pointer ElementsFormError)
+                    (FormError pointer ElementsFormError) result }
             {
                 match self.fields.get_pointer_as(1) {
                     Ok(elements) => Ok(import::ListReader { elements }),
@@ -5243,16 +5243,16 @@ pub mod code_generator_request {
 
             ghost accepts = { λ pointer. Accepts pointer TakesStruct };
 
-            ghost refuses = { λ pointer kind. Refuses pointer DeclinesStruct kind };
+            ghost fails = { λ pointer kind. ViewError pointer StructFormError kind };
 
-            ghost declines = { λ pointer kind. Declines pointer DeclinesStruct kind };
+            ghost form_error = { λ pointer kind. FormError pointer StructFormError kind };
 
             #[inline(always)]
             fn get_from_pointer(reader: any_pointer::Reader<'a, S>) -> Result<Self>
                 ensures { let pointer = pointer_of S.segments reader.entry in IsViewOf pointer
                     (λ view. IsStruct pointer (struct_of S.segments view.fields))
-                    (Accepts pointer TakesStruct) (Refuses pointer DeclinesStruct)
-                    (Declines pointer DeclinesStruct) result }
+                    (Accepts pointer TakesStruct) (ViewError pointer StructFormError)
+                    (FormError pointer StructFormError) result }
             {
                 match StructReader::get_from_pointer(reader) {
                     Ok(fields) => Ok(Reader { fields }),
@@ -5271,14 +5271,14 @@ pub mod code_generator_request {
         impl<'a, S: ReaderSegments> ListReader<'a, S> {
             /// The number of elements.
             pub fn len(&self) -> u32
-                ensures { result ≡ length (upgraded_structs_of S.segments self.now.elements).rows }
+                ensures { result ≡ length (upgraded_structs_of S.segments self.now.elements).elements }
             {
                 self.elements.len()
             }
 
             /// The element of this index.
             pub fn get(&self, index: u32) -> Reader<'a, S>
-                requires { index < length (upgraded_structs_of S.segments self.now.elements).rows }
+                requires { index < length (upgraded_structs_of S.segments self.now.elements).elements }
                 ensures { struct_of S.segments result.fields
                     ≡ element_of (upgraded_structs_of S.segments self.now.elements) index }
             {
@@ -5290,7 +5290,7 @@ pub mod code_generator_request {
             /// The element of this index, or `None` where there are no more elements than it.
             pub fn try_get(&self, index: u32) -> Option<Reader<'a, S>>
                 ensures { let list = upgraded_structs_of S.segments self.now.elements in
-                    FindsElement (length list.rows) index
+                    FindsElement (length list.elements) index
                     (λ item. struct_of S.segments item.fields ≡ element_of list index) result }
             {
                 self.try_index_move(index)
@@ -5311,7 +5311,7 @@ pub mod code_generator_request {
 
             ghost seen = { λ item. struct_of S.segments item.fields };
 
-            ghost size = { λ list. length (upgraded_structs_of S.segments list.elements).rows };
+            ghost size = { λ list. length (upgraded_structs_of S.segments list.elements).elements };
 
             ghost element = { λ list index.
                 element_of (upgraded_structs_of S.segments list.elements) index };
@@ -5341,17 +5341,17 @@ pub mod code_generator_request {
             ghost shows = { λ pointer view.
                 IsUpgradedStructs pointer (upgraded_structs_of S.segments view.elements) };
 
-            ghost accepts = { λ pointer. Accepts pointer TakesRows };
+            ghost accepts = { λ pointer. Accepts pointer TakesAsStructs };
 
-            ghost refuses = { λ pointer kind. Refuses pointer DeclinesRows kind };
+            ghost fails = { λ pointer kind. ViewError pointer ElementsFormError kind };
 
-            ghost declines = { λ pointer kind. Declines pointer DeclinesRows kind };
+            ghost form_error = { λ pointer kind. FormError pointer ElementsFormError kind };
 
             fn get_from_pointer(reader: any_pointer::Reader<'a, S>) -> Result<Self>
                 ensures { let pointer = pointer_of S.segments reader.entry in IsViewOf pointer
                     (λ view. IsUpgradedStructs pointer (upgraded_structs_of S.segments view.elements))
-                    (Accepts pointer TakesRows) (Refuses pointer DeclinesRows)
-                    (Declines pointer DeclinesRows) result }
+                    (Accepts pointer TakesAsStructs) (ViewError pointer ElementsFormError)
+                    (FormError pointer ElementsFormError) result }
             {
                 match upgraded::StructList::get_from_pointer(reader) {
                     Ok(elements) => Ok(ListReader { elements }),
@@ -5360,10 +5360,10 @@ pub mod code_generator_request {
             }
         }
 
-        /// Which pointer of the struct leads to `filename`, for `fields.get_pointer`.
+        /// Which pointer of the struct points to `filename`, for `fields.get_pointer`.
         pub const FILENAME_POINTER: u16 = 0;
 
-        /// Which pointer of the struct leads to `imports`, for `fields.get_pointer`.
+        /// Which pointer of the struct points to `imports`, for `fields.get_pointer`.
         pub const IMPORTS_POINTER: u16 = 1;
 
         pub mod import {
@@ -5407,8 +5407,8 @@ pub mod code_generator_request {
                         let pointer = pointer_in fields 0 in
                         IsViewOf pointer
                         (λ view. Reads pointer (λ form. IsText form view.bytes.now))
-                        (Accepts pointer TakesText) (Refuses pointer DeclinesText)
-                        (Declines pointer DeclinesText) result }
+                        (Accepts pointer TakesText) (ViewError pointer TextFormError)
+                        (FormError pointer TextFormError) result }
                 {
                     self.fields.get_pointer_as(0)
                 }
@@ -5427,16 +5427,16 @@ pub mod code_generator_request {
 
                 ghost accepts = { λ pointer. Accepts pointer TakesStruct };
 
-                ghost refuses = { λ pointer kind. Refuses pointer DeclinesStruct kind };
+                ghost fails = { λ pointer kind. ViewError pointer StructFormError kind };
 
-                ghost declines = { λ pointer kind. Declines pointer DeclinesStruct kind };
+                ghost form_error = { λ pointer kind. FormError pointer StructFormError kind };
 
                 #[inline(always)]
                 fn get_from_pointer(reader: any_pointer::Reader<'a, S>) -> Result<Self>
                     ensures { let pointer = pointer_of S.segments reader.entry in IsViewOf pointer
                         (λ view. IsStruct pointer (struct_of S.segments view.fields))
-                        (Accepts pointer TakesStruct) (Refuses pointer DeclinesStruct)
-                        (Declines pointer DeclinesStruct) result }
+                        (Accepts pointer TakesStruct) (ViewError pointer StructFormError)
+                        (FormError pointer StructFormError) result }
                 {
                     match StructReader::get_from_pointer(reader) {
                         Ok(fields) => Ok(Reader { fields }),
@@ -5455,14 +5455,14 @@ pub mod code_generator_request {
             impl<'a, S: ReaderSegments> ListReader<'a, S> {
                 /// The number of elements.
                 pub fn len(&self) -> u32
-                    ensures { result ≡ length (upgraded_structs_of S.segments self.now.elements).rows }
+                    ensures { result ≡ length (upgraded_structs_of S.segments self.now.elements).elements }
                 {
                     self.elements.len()
                 }
 
                 /// The element of this index.
                 pub fn get(&self, index: u32) -> Reader<'a, S>
-                    requires { index < length (upgraded_structs_of S.segments self.now.elements).rows }
+                    requires { index < length (upgraded_structs_of S.segments self.now.elements).elements }
                     ensures { struct_of S.segments result.fields
                         ≡ element_of (upgraded_structs_of S.segments self.now.elements) index }
                 {
@@ -5474,7 +5474,7 @@ pub mod code_generator_request {
                 /// The element of this index, or `None` where there are no more elements than it.
                 pub fn try_get(&self, index: u32) -> Option<Reader<'a, S>>
                     ensures { let list = upgraded_structs_of S.segments self.now.elements in
-                        FindsElement (length list.rows) index
+                        FindsElement (length list.elements) index
                         (λ item. struct_of S.segments item.fields ≡ element_of list index) result }
                 {
                     self.try_index_move(index)
@@ -5495,7 +5495,7 @@ pub mod code_generator_request {
 
                 ghost seen = { λ item. struct_of S.segments item.fields };
 
-                ghost size = { λ list. length (upgraded_structs_of S.segments list.elements).rows };
+                ghost size = { λ list. length (upgraded_structs_of S.segments list.elements).elements };
 
                 ghost element = { λ list index.
                     element_of (upgraded_structs_of S.segments list.elements) index };
@@ -5525,17 +5525,17 @@ pub mod code_generator_request {
                 ghost shows = { λ pointer view.
                     IsUpgradedStructs pointer (upgraded_structs_of S.segments view.elements) };
 
-                ghost accepts = { λ pointer. Accepts pointer TakesRows };
+                ghost accepts = { λ pointer. Accepts pointer TakesAsStructs };
 
-                ghost refuses = { λ pointer kind. Refuses pointer DeclinesRows kind };
+                ghost fails = { λ pointer kind. ViewError pointer ElementsFormError kind };
 
-                ghost declines = { λ pointer kind. Declines pointer DeclinesRows kind };
+                ghost form_error = { λ pointer kind. FormError pointer ElementsFormError kind };
 
                 fn get_from_pointer(reader: any_pointer::Reader<'a, S>) -> Result<Self>
                     ensures { let pointer = pointer_of S.segments reader.entry in IsViewOf pointer
                         (λ view. IsUpgradedStructs pointer (upgraded_structs_of S.segments view.elements))
-                        (Accepts pointer TakesRows) (Refuses pointer DeclinesRows)
-                        (Declines pointer DeclinesRows) result }
+                        (Accepts pointer TakesAsStructs) (ViewError pointer ElementsFormError)
+                        (FormError pointer ElementsFormError) result }
                 {
                     match upgraded::StructList::get_from_pointer(reader) {
                         Ok(elements) => Ok(ListReader { elements }),
@@ -5544,7 +5544,7 @@ pub mod code_generator_request {
                 }
             }
 
-            /// Which pointer of the struct leads to `name`, for `fields.get_pointer`.
+            /// Which pointer of the struct points to `name`, for `fields.get_pointer`.
             pub const NAME_POINTER: u16 = 0;
         }
     }

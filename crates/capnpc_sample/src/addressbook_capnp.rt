@@ -1,8 +1,8 @@
 //! Types of `addressbook.capnp`, made by `capnpc-rattle`: change that file, and make them again.
 ghost use Rattle.std.specs.Prelude.{◌≡◌, ◌≤◌, ◌<◌, ◌↔◌, ◌≢◌, IfOk, IsTrue, length, map, replicate, slice_index_or, slice_set};
-ghost use Rattle.capnp_orphans.specs.Adding.{Adds, AddsRoot, Fails, Writes};
-ghost use Rattle.capnp_orphans.specs.Copied.{words_in, Copies};
-ghost use Rattle.capnp_orphans.specs.Held.{word_of, HoldsStruct, HoldsStructs, TakesStruct as StructWords, TakesStructs, ExceedsPointer, ManyStructs};
+ghost use Rattle.capnp_orphans.specs.Adding.{AddsOrphan, AddsRoot, FailsToAdd, Writes};
+ghost use Rattle.capnp_orphans.specs.Copied.{data_up_to, CopiesPointers};
+ghost use Rattle.capnp_orphans.specs.Holds.{word_of, HoldsStruct, HoldsStructs, TakesStructWords as StructWords, TakesStructsWords, StructSizeError, ManyStructs};
 ghost use Rattle.capnp_orphans.specs.Segments.{body_of};
 ghost use Rattle.capnp_values.specs.DataSections.{with_field};
 ghost use Rattle.capnp_wire.specs.Fields.{field};
@@ -11,9 +11,9 @@ ghost use Rattle.capnp_wire.specs.Lists.{FindsElement, IsIterator};
 ghost use Rattle.capnp_wire.specs.Object.{nothing};
 ghost use Rattle.capnp_wire.specs.Readers.{struct_of, pointer_of};
 ghost use Rattle.capnp_wire.specs.UpgradedReaders.{upgraded_structs_of};
-ghost use Rattle.capnp_wire.specs.UpgradedValues.{IsStructListValue, RefusesStructList, one_struct_list};
-ghost use Rattle.capnp_wire.specs.UpgradedViews.{IsUpgradedStructs, TakesRows, DeclinesRows};
-ghost use Rattle.capnp_wire.specs.Views.{Struct, IsViewOf, IsStruct, IsText, Accepts, Refuses, Declines, Denotes, Reads, TakesStruct, TakesText, DeclinesStruct, DeclinesText, pointer_in};
+ghost use Rattle.capnp_wire.specs.UpgradedValues.{IsStructListValue, StructListValueError, one_struct_list};
+ghost use Rattle.capnp_wire.specs.UpgradedViews.{IsUpgradedStructs, TakesAsStructs, ElementsFormError};
+ghost use Rattle.capnp_wire.specs.Views.{Struct, IsViewOf, IsStruct, IsText, Accepts, ViewError, FormError, Denotes, Reads, TakesStruct, TakesText, StructFormError, TextFormError, pointer_in};
 
 pub mod person {
     use capnp_frame::Result;
@@ -52,8 +52,8 @@ pub mod person {
                 let pointer = pointer_in fields 0 in
                 IsViewOf pointer
                 (λ view. Reads pointer (λ form. IsText form view.bytes.now))
-                (Accepts pointer TakesText) (Refuses pointer DeclinesText)
-                (Declines pointer DeclinesText) result }
+                (Accepts pointer TakesText) (ViewError pointer TextFormError)
+                (FormError pointer TextFormError) result }
         {
             self.fields.get_pointer_as(0)
         }
@@ -72,8 +72,8 @@ pub mod person {
                 let pointer = pointer_in fields 1 in
                 IsViewOf pointer
                 (λ view. Reads pointer (λ form. IsText form view.bytes.now))
-                (Accepts pointer TakesText) (Refuses pointer DeclinesText)
-                (Declines pointer DeclinesText) result }
+                (Accepts pointer TakesText) (ViewError pointer TextFormError)
+                (FormError pointer TextFormError) result }
         {
             self.fields.get_pointer_as(1)
         }
@@ -92,8 +92,8 @@ pub mod person {
                 let pointer = pointer_in fields 2 in
                 IsViewOf pointer
                 (λ view. IsUpgradedStructs pointer (upgraded_structs_of S.segments view.elements))
-                (Accepts pointer TakesRows) (Refuses pointer DeclinesRows)
-                (Declines pointer DeclinesRows) result }
+                (Accepts pointer TakesAsStructs) (ViewError pointer ElementsFormError)
+                (FormError pointer ElementsFormError) result }
         {
             match self.fields.get_pointer_as(2) {
                 Ok(elements) => Ok(phone_number::ListReader { elements }),
@@ -126,16 +126,16 @@ pub mod person {
 
         ghost accepts = { λ pointer. Accepts pointer TakesStruct };
 
-        ghost refuses = { λ pointer kind. Refuses pointer DeclinesStruct kind };
+        ghost fails = { λ pointer kind. ViewError pointer StructFormError kind };
 
-        ghost declines = { λ pointer kind. Declines pointer DeclinesStruct kind };
+        ghost form_error = { λ pointer kind. FormError pointer StructFormError kind };
 
         #[inline(always)]
         fn get_from_pointer(reader: any_pointer::Reader<'a, S>) -> Result<Self>
             ensures { let pointer = pointer_of S.segments reader.entry in IsViewOf pointer
                 (λ view. IsStruct pointer (struct_of S.segments view.fields))
-                (Accepts pointer TakesStruct) (Refuses pointer DeclinesStruct)
-                (Declines pointer DeclinesStruct) result }
+                (Accepts pointer TakesStruct) (ViewError pointer StructFormError)
+                (FormError pointer StructFormError) result }
         {
             match StructReader::get_from_pointer(reader) {
                 Ok(fields) => Ok(Reader { fields }),
@@ -154,14 +154,14 @@ pub mod person {
     impl<'a, S: ReaderSegments> ListReader<'a, S> {
         /// The number of elements.
         pub fn len(&self) -> u32
-            ensures { result ≡ length (upgraded_structs_of S.segments self.now.elements).rows }
+            ensures { result ≡ length (upgraded_structs_of S.segments self.now.elements).elements }
         {
             self.elements.len()
         }
 
         /// The element of this index.
         pub fn get(&self, index: u32) -> Reader<'a, S>
-            requires { index < length (upgraded_structs_of S.segments self.now.elements).rows }
+            requires { index < length (upgraded_structs_of S.segments self.now.elements).elements }
             ensures { struct_of S.segments result.fields
                 ≡ element_of (upgraded_structs_of S.segments self.now.elements) index }
         {
@@ -173,7 +173,7 @@ pub mod person {
         /// The element of this index, or `None` where there are no more elements than it.
         pub fn try_get(&self, index: u32) -> Option<Reader<'a, S>>
             ensures { let list = upgraded_structs_of S.segments self.now.elements in
-                FindsElement (length list.rows) index
+                FindsElement (length list.elements) index
                 (λ item. struct_of S.segments item.fields ≡ element_of list index) result }
         {
             self.try_index_move(index)
@@ -194,7 +194,7 @@ pub mod person {
 
         ghost seen = { λ item. struct_of S.segments item.fields };
 
-        ghost size = { λ list. length (upgraded_structs_of S.segments list.elements).rows };
+        ghost size = { λ list. length (upgraded_structs_of S.segments list.elements).elements };
 
         ghost element = { λ list index.
             element_of (upgraded_structs_of S.segments list.elements) index };
@@ -224,17 +224,17 @@ pub mod person {
         ghost shows = { λ pointer view.
             IsUpgradedStructs pointer (upgraded_structs_of S.segments view.elements) };
 
-        ghost accepts = { λ pointer. Accepts pointer TakesRows };
+        ghost accepts = { λ pointer. Accepts pointer TakesAsStructs };
 
-        ghost refuses = { λ pointer kind. Refuses pointer DeclinesRows kind };
+        ghost fails = { λ pointer kind. ViewError pointer ElementsFormError kind };
 
-        ghost declines = { λ pointer kind. Declines pointer DeclinesRows kind };
+        ghost form_error = { λ pointer kind. FormError pointer ElementsFormError kind };
 
         fn get_from_pointer(reader: any_pointer::Reader<'a, S>) -> Result<Self>
             ensures { let pointer = pointer_of S.segments reader.entry in IsViewOf pointer
                 (λ view. IsUpgradedStructs pointer (upgraded_structs_of S.segments view.elements))
-                (Accepts pointer TakesRows) (Refuses pointer DeclinesRows)
-                (Declines pointer DeclinesRows) result }
+                (Accepts pointer TakesAsStructs) (ViewError pointer ElementsFormError)
+                (FormError pointer ElementsFormError) result }
         {
             match upgraded::StructList::get_from_pointer(reader) {
                 Ok(elements) => Ok(ListReader { elements }),
@@ -254,7 +254,7 @@ pub mod person {
     impl<'a, S: ReaderSegments> traits::SetterInput<OwnedList> for ListReader<'a, S> {
         ghost has_tree = { λ list trees. IsStructListValue S.segments list.elements trees };
 
-        ghost refuses = { λ list kind. RefusesStructList S.segments list.elements kind };
+        ghost fails = { λ list kind. StructListValueError S.segments list.elements kind };
 
         ghost one = { λ list trees is. one_struct_list S.segments list.elements trees is };
 
@@ -280,7 +280,7 @@ pub mod person {
     /// A struct of this type before it is written. What is not set has its default.
     #[derive(Clone, Copy)]
     pub struct Builder {
-        /// Its data words, and what its pointers lead to.
+        /// Its data words, and what its pointers point to.
         pub draft: StructDraft<Owned, 1, 4>,
     }
 
@@ -295,12 +295,12 @@ pub mod person {
             }
         }
 
-        /// One of what a reader shows, to be changed and written again. What its pointers lead to is
+        /// One of what a reader shows, to be changed and written again. What its pointers point to is
         /// copied, each object as an orphan, and null stays null. What a writer of another version of
         /// the type left out is zero and null, and what it had beyond this one is left out.
         ///
         /// What a setter replaces after that was copied, and stays in the bytes of the message, where no
-        /// pointer leads to it. Canonical words of the message are without it.
+        /// pointer points to it. Canonical words of the message are without it.
         ///
         /// It fails as `Orphanage::set` of the first pointer does that can't be copied.
         pub fn from_reader<R: ReaderSegments, S: GrowingSegment>(
@@ -308,8 +308,8 @@ pub mod person {
             objects: &mut Orphanage<S>,
         ) -> Result<Builder>
             ensures words { IfOk result (λ made. made.draft.words
-                ≡ words_in (struct_of R.segments read.now.fields) 1) }
-            ensures copies { Copies (struct_of R.segments read.now.fields) 4
+                ≡ data_up_to (struct_of R.segments read.now.fields) 1) }
+            ensures copies { CopiesPointers (struct_of R.segments read.now.fields) 4
                 objects.old objects.new (λ made. made.draft.pointers) result }
         {
             match StructDraft::from_reader(&read.fields, objects) {
@@ -322,7 +322,7 @@ pub mod person {
         /// pointers are null.
         pub fn from_data_section<R: ReaderSegments>(read: &Reader<'_, R>) -> Builder
             ensures words { result.draft.words
-                ≡ words_in (struct_of R.segments read.now.fields) 1 }
+                ≡ data_up_to (struct_of R.segments read.now.fields) 1 }
             ensures pointers { result.draft.pointers ≡ replicate 4 0 }
         {
             Builder {
@@ -330,11 +330,11 @@ pub mod person {
             }
         }
 
-        /// Writes it, as an object that a pointer can lead to.
+        /// Writes it, as an object that a pointer can point to.
         pub fn add<S: GrowingSegment>(&self, objects: &mut Orphanage<S>) -> Result<Orphan<Owned>>
-            ensures adds { Adds (HoldsStruct (body_of objects.old) self.now.draft.words
+            ensures adds { AddsOrphan (HoldsStruct (body_of objects.old) self.now.draft.words
                 self.now.draft.pointers) objects.old objects.new word_of result }
-            ensures writes { Writes (StructWords 1 4) (ExceedsPointer 1 4)
+            ensures writes { Writes (StructWords 1 4) (StructSizeError 1 4)
                 objects.old objects.new result }
         {
             objects.add(&self.draft)
@@ -344,7 +344,7 @@ pub mod person {
         pub fn add_root<S: GrowingSegment>(&self, objects: &mut Orphanage<S>) -> Result<()>
             ensures adds { AddsRoot (StructWords 1 4) (HoldsStruct (body_of objects.old)
                 self.now.draft.words self.now.draft.pointers) objects.old objects.new result }
-            ensures fails { Fails (StructWords 1 4) (ExceedsPointer 1 4)
+            ensures fails { FailsToAdd (StructWords 1 4) (StructSizeError 1 4)
                 objects.old result }
         {
             objects.add_root(&self.draft)
@@ -355,10 +355,10 @@ pub mod person {
             elements: &[Builder],
             objects: &mut Orphanage<S>,
         ) -> Result<Orphan<OwnedList>>
-            ensures adds { Adds (HoldsStructs (body_of objects.old)
+            ensures adds { AddsOrphan (HoldsStructs (body_of objects.old)
                 (map (λ element. element.draft) elements.now)) objects.old objects.new word_of result }
             ensures writes { let count = length elements.now in
-                Writes (TakesStructs 1 4 count) (ManyStructs 1 4 count)
+                Writes (TakesStructsWords 1 4 count) (ManyStructs 1 4 count)
                 objects.old objects.new result }
         {
             objects.draft_list(elements)
@@ -393,7 +393,7 @@ pub mod person {
 
         /// Sets the field `name`.
         ///
-        /// An object that it led to before stays in the bytes of the message.
+        /// An object that it pointed to before stays in the bytes of the message.
         pub fn set_name(&mut self, value: Orphan<text::Owned>)
             ensures words { self.new.draft.words ≡ self.old.draft.words }
             ensures pointers { self.new.draft.pointers
@@ -411,7 +411,7 @@ pub mod person {
 
         /// Sets the field `email`.
         ///
-        /// An object that it led to before stays in the bytes of the message.
+        /// An object that it pointed to before stays in the bytes of the message.
         pub fn set_email(&mut self, value: Orphan<text::Owned>)
             ensures words { self.new.draft.words ≡ self.old.draft.words }
             ensures pointers { self.new.draft.pointers
@@ -429,7 +429,7 @@ pub mod person {
 
         /// Sets the field `phones`.
         ///
-        /// An object that it led to before stays in the bytes of the message.
+        /// An object that it pointed to before stays in the bytes of the message.
         pub fn set_phones(&mut self, value: Orphan<phone_number::OwnedList>)
             ensures words { self.new.draft.words ≡ self.old.draft.words }
             ensures pointers { self.new.draft.pointers
@@ -446,13 +446,13 @@ pub mod person {
         }
     }
 
-    /// Which pointer of the struct leads to `name`, for `fields.get_pointer`.
+    /// Which pointer of the struct points to `name`, for `fields.get_pointer`.
     pub const NAME_POINTER: u16 = 0;
 
-    /// Which pointer of the struct leads to `email`, for `fields.get_pointer`.
+    /// Which pointer of the struct points to `email`, for `fields.get_pointer`.
     pub const EMAIL_POINTER: u16 = 1;
 
-    /// Which pointer of the struct leads to `phones`, for `fields.get_pointer`.
+    /// Which pointer of the struct points to `phones`, for `fields.get_pointer`.
     pub const PHONES_POINTER: u16 = 2;
 
     pub mod employment {
@@ -479,8 +479,8 @@ pub mod person {
                     let pointer = pointer_in fields 3 in
                     IsViewOf pointer
                     (λ view. Reads pointer (λ form. IsText form view.bytes.now))
-                    (Accepts pointer TakesText) (Refuses pointer DeclinesText)
-                    (Declines pointer DeclinesText) result }
+                    (Accepts pointer TakesText) (ViewError pointer TextFormError)
+                    (FormError pointer TextFormError) result }
             {
                 self.fields.get_pointer_as(3)
             }
@@ -499,8 +499,8 @@ pub mod person {
                     let pointer = pointer_in fields 3 in
                     IsViewOf pointer
                     (λ view. Reads pointer (λ form. IsText form view.bytes.now))
-                    (Accepts pointer TakesText) (Refuses pointer DeclinesText)
-                    (Declines pointer DeclinesText) result }
+                    (Accepts pointer TakesText) (ViewError pointer TextFormError)
+                    (FormError pointer TextFormError) result }
             {
                 self.fields.get_pointer_as(3)
             }
@@ -527,14 +527,14 @@ pub mod person {
                           (let pointer = pointer_in fields 3 in
                           IsViewOf pointer
                           (λ view. Reads pointer (λ form. IsText form view.bytes.now))
-                          (Accepts pointer TakesText) (Refuses pointer DeclinesText)
-                          (Declines pointer DeclinesText) value)
+                          (Accepts pointer TakesText) (ViewError pointer TextFormError)
+                          (FormError pointer TextFormError) value)
                       | Which.School value ↦ (number ≡ 2) ×
                           (let pointer = pointer_in fields 3 in
                           IsViewOf pointer
                           (λ view. Reads pointer (λ form. IsText form view.bytes.now))
-                          (Accepts pointer TakesText) (Refuses pointer DeclinesText)
-                          (Declines pointer DeclinesText) value)
+                          (Accepts pointer TakesText) (ViewError pointer TextFormError)
+                          (FormError pointer TextFormError) value)
                       | Which.SelfEmployed ↦ number ≡ 3
                       | Which.NotInSchema unknown ↦ (unknown ≡ number) × (4 ≤ number)
                     ] }
@@ -572,7 +572,7 @@ pub mod person {
 
             /// Sets the field `employer`.
             ///
-            /// An object that it led to before stays in the bytes of the message.
+            /// An object that it pointed to before stays in the bytes of the message.
             pub fn set_employment_employer(&mut self, value: Orphan<text::Owned>)
                 ensures words { self.new.draft.words
                     ≡ (with_field self.old.draft.words 16 2 1) }
@@ -592,7 +592,7 @@ pub mod person {
 
             /// Sets the field `school`.
             ///
-            /// An object that it led to before stays in the bytes of the message.
+            /// An object that it pointed to before stays in the bytes of the message.
             pub fn set_employment_school(&mut self, value: Orphan<text::Owned>)
                 ensures words { self.new.draft.words
                     ≡ (with_field self.old.draft.words 16 2 2) }
@@ -621,10 +621,10 @@ pub mod person {
             }
         }
 
-        /// Which pointer of the struct leads to `employer`, for `fields.get_pointer`.
+        /// Which pointer of the struct points to `employer`, for `fields.get_pointer`.
         pub const EMPLOYER_POINTER: u16 = 3;
 
-        /// Which pointer of the struct leads to `school`, for `fields.get_pointer`.
+        /// Which pointer of the struct points to `school`, for `fields.get_pointer`.
         pub const SCHOOL_POINTER: u16 = 3;
     }
 
@@ -657,8 +657,8 @@ pub mod person {
                     let pointer = pointer_in fields 0 in
                     IsViewOf pointer
                     (λ view. Reads pointer (λ form. IsText form view.bytes.now))
-                    (Accepts pointer TakesText) (Refuses pointer DeclinesText)
-                    (Declines pointer DeclinesText) result }
+                    (Accepts pointer TakesText) (ViewError pointer TextFormError)
+                    (FormError pointer TextFormError) result }
             {
                 self.fields.get_pointer_as(0)
             }
@@ -691,16 +691,16 @@ pub mod person {
 
             ghost accepts = { λ pointer. Accepts pointer TakesStruct };
 
-            ghost refuses = { λ pointer kind. Refuses pointer DeclinesStruct kind };
+            ghost fails = { λ pointer kind. ViewError pointer StructFormError kind };
 
-            ghost declines = { λ pointer kind. Declines pointer DeclinesStruct kind };
+            ghost form_error = { λ pointer kind. FormError pointer StructFormError kind };
 
             #[inline(always)]
             fn get_from_pointer(reader: any_pointer::Reader<'a, S>) -> Result<Self>
                 ensures { let pointer = pointer_of S.segments reader.entry in IsViewOf pointer
                     (λ view. IsStruct pointer (struct_of S.segments view.fields))
-                    (Accepts pointer TakesStruct) (Refuses pointer DeclinesStruct)
-                    (Declines pointer DeclinesStruct) result }
+                    (Accepts pointer TakesStruct) (ViewError pointer StructFormError)
+                    (FormError pointer StructFormError) result }
             {
                 match StructReader::get_from_pointer(reader) {
                     Ok(fields) => Ok(Reader { fields }),
@@ -719,14 +719,14 @@ pub mod person {
         impl<'a, S: ReaderSegments> ListReader<'a, S> {
             /// The number of elements.
             pub fn len(&self) -> u32
-                ensures { result ≡ length (upgraded_structs_of S.segments self.now.elements).rows }
+                ensures { result ≡ length (upgraded_structs_of S.segments self.now.elements).elements }
             {
                 self.elements.len()
             }
 
             /// The element of this index.
             pub fn get(&self, index: u32) -> Reader<'a, S>
-                requires { index < length (upgraded_structs_of S.segments self.now.elements).rows }
+                requires { index < length (upgraded_structs_of S.segments self.now.elements).elements }
                 ensures { struct_of S.segments result.fields
                     ≡ element_of (upgraded_structs_of S.segments self.now.elements) index }
             {
@@ -738,7 +738,7 @@ pub mod person {
             /// The element of this index, or `None` where there are no more elements than it.
             pub fn try_get(&self, index: u32) -> Option<Reader<'a, S>>
                 ensures { let list = upgraded_structs_of S.segments self.now.elements in
-                    FindsElement (length list.rows) index
+                    FindsElement (length list.elements) index
                     (λ item. struct_of S.segments item.fields ≡ element_of list index) result }
             {
                 self.try_index_move(index)
@@ -759,7 +759,7 @@ pub mod person {
 
             ghost seen = { λ item. struct_of S.segments item.fields };
 
-            ghost size = { λ list. length (upgraded_structs_of S.segments list.elements).rows };
+            ghost size = { λ list. length (upgraded_structs_of S.segments list.elements).elements };
 
             ghost element = { λ list index.
                 element_of (upgraded_structs_of S.segments list.elements) index };
@@ -789,17 +789,17 @@ pub mod person {
             ghost shows = { λ pointer view.
                 IsUpgradedStructs pointer (upgraded_structs_of S.segments view.elements) };
 
-            ghost accepts = { λ pointer. Accepts pointer TakesRows };
+            ghost accepts = { λ pointer. Accepts pointer TakesAsStructs };
 
-            ghost refuses = { λ pointer kind. Refuses pointer DeclinesRows kind };
+            ghost fails = { λ pointer kind. ViewError pointer ElementsFormError kind };
 
-            ghost declines = { λ pointer kind. Declines pointer DeclinesRows kind };
+            ghost form_error = { λ pointer kind. FormError pointer ElementsFormError kind };
 
             fn get_from_pointer(reader: any_pointer::Reader<'a, S>) -> Result<Self>
                 ensures { let pointer = pointer_of S.segments reader.entry in IsViewOf pointer
                     (λ view. IsUpgradedStructs pointer (upgraded_structs_of S.segments view.elements))
-                    (Accepts pointer TakesRows) (Refuses pointer DeclinesRows)
-                    (Declines pointer DeclinesRows) result }
+                    (Accepts pointer TakesAsStructs) (ViewError pointer ElementsFormError)
+                    (FormError pointer ElementsFormError) result }
             {
                 match upgraded::StructList::get_from_pointer(reader) {
                     Ok(elements) => Ok(ListReader { elements }),
@@ -819,7 +819,7 @@ pub mod person {
         impl<'a, S: ReaderSegments> traits::SetterInput<OwnedList> for ListReader<'a, S> {
             ghost has_tree = { λ list trees. IsStructListValue S.segments list.elements trees };
 
-            ghost refuses = { λ list kind. RefusesStructList S.segments list.elements kind };
+            ghost fails = { λ list kind. StructListValueError S.segments list.elements kind };
 
             ghost one = { λ list trees is. one_struct_list S.segments list.elements trees is };
 
@@ -845,7 +845,7 @@ pub mod person {
         /// A struct of this type before it is written. What is not set has its default.
         #[derive(Clone, Copy)]
         pub struct Builder {
-            /// Its data words, and what its pointers lead to.
+            /// Its data words, and what its pointers point to.
             pub draft: StructDraft<Owned, 1, 1>,
         }
 
@@ -860,12 +860,12 @@ pub mod person {
                 }
             }
 
-            /// One of what a reader shows, to be changed and written again. What its pointers lead to is
+            /// One of what a reader shows, to be changed and written again. What its pointers point to is
             /// copied, each object as an orphan, and null stays null. What a writer of another version of
             /// the type left out is zero and null, and what it had beyond this one is left out.
             ///
             /// What a setter replaces after that was copied, and stays in the bytes of the message, where no
-            /// pointer leads to it. Canonical words of the message are without it.
+            /// pointer points to it. Canonical words of the message are without it.
             ///
             /// It fails as `Orphanage::set` of the first pointer does that can't be copied.
             pub fn from_reader<R: ReaderSegments, S: GrowingSegment>(
@@ -873,8 +873,8 @@ pub mod person {
                 objects: &mut Orphanage<S>,
             ) -> Result<Builder>
                 ensures words { IfOk result (λ made. made.draft.words
-                    ≡ words_in (struct_of R.segments read.now.fields) 1) }
-                ensures copies { Copies (struct_of R.segments read.now.fields) 1
+                    ≡ data_up_to (struct_of R.segments read.now.fields) 1) }
+                ensures copies { CopiesPointers (struct_of R.segments read.now.fields) 1
                     objects.old objects.new (λ made. made.draft.pointers) result }
             {
                 match StructDraft::from_reader(&read.fields, objects) {
@@ -887,7 +887,7 @@ pub mod person {
             /// pointers are null.
             pub fn from_data_section<R: ReaderSegments>(read: &Reader<'_, R>) -> Builder
                 ensures words { result.draft.words
-                    ≡ words_in (struct_of R.segments read.now.fields) 1 }
+                    ≡ data_up_to (struct_of R.segments read.now.fields) 1 }
                 ensures pointers { result.draft.pointers ≡ replicate 1 0 }
             {
                 Builder {
@@ -895,14 +895,14 @@ pub mod person {
                 }
             }
 
-            /// Writes it, as an object that a pointer can lead to.
+            /// Writes it, as an object that a pointer can point to.
             pub fn add<S: GrowingSegment>(
                 &self,
                 objects: &mut Orphanage<S>,
             ) -> Result<Orphan<Owned>>
-                ensures adds { Adds (HoldsStruct (body_of objects.old) self.now.draft.words
+                ensures adds { AddsOrphan (HoldsStruct (body_of objects.old) self.now.draft.words
                     self.now.draft.pointers) objects.old objects.new word_of result }
-                ensures writes { Writes (StructWords 1 1) (ExceedsPointer 1 1)
+                ensures writes { Writes (StructWords 1 1) (StructSizeError 1 1)
                     objects.old objects.new result }
             {
                 objects.add(&self.draft)
@@ -912,7 +912,7 @@ pub mod person {
             pub fn add_root<S: GrowingSegment>(&self, objects: &mut Orphanage<S>) -> Result<()>
                 ensures adds { AddsRoot (StructWords 1 1) (HoldsStruct (body_of objects.old)
                     self.now.draft.words self.now.draft.pointers) objects.old objects.new result }
-                ensures fails { Fails (StructWords 1 1) (ExceedsPointer 1 1)
+                ensures fails { FailsToAdd (StructWords 1 1) (StructSizeError 1 1)
                     objects.old result }
             {
                 objects.add_root(&self.draft)
@@ -923,10 +923,10 @@ pub mod person {
                 elements: &[Builder],
                 objects: &mut Orphanage<S>,
             ) -> Result<Orphan<OwnedList>>
-                ensures adds { Adds (HoldsStructs (body_of objects.old)
+                ensures adds { AddsOrphan (HoldsStructs (body_of objects.old)
                     (map (λ element. element.draft) elements.now)) objects.old objects.new word_of result }
                 ensures writes { let count = length elements.now in
-                    Writes (TakesStructs 1 1 count) (ManyStructs 1 1 count)
+                    Writes (TakesStructsWords 1 1 count) (ManyStructs 1 1 count)
                     objects.old objects.new result }
             {
                 objects.draft_list(elements)
@@ -944,7 +944,7 @@ pub mod person {
         impl Builder {
             /// Sets the field `number`.
             ///
-            /// An object that it led to before stays in the bytes of the message.
+            /// An object that it pointed to before stays in the bytes of the message.
             pub fn set_number(&mut self, value: Orphan<text::Owned>)
                 ensures words { self.new.draft.words ≡ self.old.draft.words }
                 ensures pointers { self.new.draft.pointers
@@ -989,7 +989,7 @@ pub mod person {
             }
         }
 
-        /// Which pointer of the struct leads to `number`, for `fields.get_pointer`.
+        /// Which pointer of the struct points to `number`, for `fields.get_pointer`.
         pub const NUMBER_POINTER: u16 = 0;
 
         #[derive(Clone, Copy, PartialEq, Eq, Hash, Debug)]
@@ -1078,8 +1078,8 @@ pub mod address_book {
                 let pointer = pointer_in fields 0 in
                 IsViewOf pointer
                 (λ view. IsUpgradedStructs pointer (upgraded_structs_of S.segments view.elements))
-                (Accepts pointer TakesRows) (Refuses pointer DeclinesRows)
-                (Declines pointer DeclinesRows) result }
+                (Accepts pointer TakesAsStructs) (ViewError pointer ElementsFormError)
+                (FormError pointer ElementsFormError) result }
         {
             match self.fields.get_pointer_as(0) {
                 Ok(elements) => Ok(super::person::ListReader { elements }),
@@ -1101,16 +1101,16 @@ pub mod address_book {
 
         ghost accepts = { λ pointer. Accepts pointer TakesStruct };
 
-        ghost refuses = { λ pointer kind. Refuses pointer DeclinesStruct kind };
+        ghost fails = { λ pointer kind. ViewError pointer StructFormError kind };
 
-        ghost declines = { λ pointer kind. Declines pointer DeclinesStruct kind };
+        ghost form_error = { λ pointer kind. FormError pointer StructFormError kind };
 
         #[inline(always)]
         fn get_from_pointer(reader: any_pointer::Reader<'a, S>) -> Result<Self>
             ensures { let pointer = pointer_of S.segments reader.entry in IsViewOf pointer
                 (λ view. IsStruct pointer (struct_of S.segments view.fields))
-                (Accepts pointer TakesStruct) (Refuses pointer DeclinesStruct)
-                (Declines pointer DeclinesStruct) result }
+                (Accepts pointer TakesStruct) (ViewError pointer StructFormError)
+                (FormError pointer StructFormError) result }
         {
             match StructReader::get_from_pointer(reader) {
                 Ok(fields) => Ok(Reader { fields }),
@@ -1129,14 +1129,14 @@ pub mod address_book {
     impl<'a, S: ReaderSegments> ListReader<'a, S> {
         /// The number of elements.
         pub fn len(&self) -> u32
-            ensures { result ≡ length (upgraded_structs_of S.segments self.now.elements).rows }
+            ensures { result ≡ length (upgraded_structs_of S.segments self.now.elements).elements }
         {
             self.elements.len()
         }
 
         /// The element of this index.
         pub fn get(&self, index: u32) -> Reader<'a, S>
-            requires { index < length (upgraded_structs_of S.segments self.now.elements).rows }
+            requires { index < length (upgraded_structs_of S.segments self.now.elements).elements }
             ensures { struct_of S.segments result.fields
                 ≡ element_of (upgraded_structs_of S.segments self.now.elements) index }
         {
@@ -1148,7 +1148,7 @@ pub mod address_book {
         /// The element of this index, or `None` where there are no more elements than it.
         pub fn try_get(&self, index: u32) -> Option<Reader<'a, S>>
             ensures { let list = upgraded_structs_of S.segments self.now.elements in
-                FindsElement (length list.rows) index
+                FindsElement (length list.elements) index
                 (λ item. struct_of S.segments item.fields ≡ element_of list index) result }
         {
             self.try_index_move(index)
@@ -1169,7 +1169,7 @@ pub mod address_book {
 
         ghost seen = { λ item. struct_of S.segments item.fields };
 
-        ghost size = { λ list. length (upgraded_structs_of S.segments list.elements).rows };
+        ghost size = { λ list. length (upgraded_structs_of S.segments list.elements).elements };
 
         ghost element = { λ list index.
             element_of (upgraded_structs_of S.segments list.elements) index };
@@ -1199,17 +1199,17 @@ pub mod address_book {
         ghost shows = { λ pointer view.
             IsUpgradedStructs pointer (upgraded_structs_of S.segments view.elements) };
 
-        ghost accepts = { λ pointer. Accepts pointer TakesRows };
+        ghost accepts = { λ pointer. Accepts pointer TakesAsStructs };
 
-        ghost refuses = { λ pointer kind. Refuses pointer DeclinesRows kind };
+        ghost fails = { λ pointer kind. ViewError pointer ElementsFormError kind };
 
-        ghost declines = { λ pointer kind. Declines pointer DeclinesRows kind };
+        ghost form_error = { λ pointer kind. FormError pointer ElementsFormError kind };
 
         fn get_from_pointer(reader: any_pointer::Reader<'a, S>) -> Result<Self>
             ensures { let pointer = pointer_of S.segments reader.entry in IsViewOf pointer
                 (λ view. IsUpgradedStructs pointer (upgraded_structs_of S.segments view.elements))
-                (Accepts pointer TakesRows) (Refuses pointer DeclinesRows)
-                (Declines pointer DeclinesRows) result }
+                (Accepts pointer TakesAsStructs) (ViewError pointer ElementsFormError)
+                (FormError pointer ElementsFormError) result }
         {
             match upgraded::StructList::get_from_pointer(reader) {
                 Ok(elements) => Ok(ListReader { elements }),
@@ -1229,7 +1229,7 @@ pub mod address_book {
     impl<'a, S: ReaderSegments> traits::SetterInput<OwnedList> for ListReader<'a, S> {
         ghost has_tree = { λ list trees. IsStructListValue S.segments list.elements trees };
 
-        ghost refuses = { λ list kind. RefusesStructList S.segments list.elements kind };
+        ghost fails = { λ list kind. StructListValueError S.segments list.elements kind };
 
         ghost one = { λ list trees is. one_struct_list S.segments list.elements trees is };
 
@@ -1255,7 +1255,7 @@ pub mod address_book {
     /// A struct of this type before it is written. What is not set has its default.
     #[derive(Clone, Copy)]
     pub struct Builder {
-        /// Its data words, and what its pointers lead to.
+        /// Its data words, and what its pointers point to.
         pub draft: StructDraft<Owned, 0, 1>,
     }
 
@@ -1270,12 +1270,12 @@ pub mod address_book {
             }
         }
 
-        /// One of what a reader shows, to be changed and written again. What its pointers lead to is
+        /// One of what a reader shows, to be changed and written again. What its pointers point to is
         /// copied, each object as an orphan, and null stays null. What a writer of another version of
         /// the type left out is zero and null, and what it had beyond this one is left out.
         ///
         /// What a setter replaces after that was copied, and stays in the bytes of the message, where no
-        /// pointer leads to it. Canonical words of the message are without it.
+        /// pointer points to it. Canonical words of the message are without it.
         ///
         /// It fails as `Orphanage::set` of the first pointer does that can't be copied.
         pub fn from_reader<R: ReaderSegments, S: GrowingSegment>(
@@ -1283,8 +1283,8 @@ pub mod address_book {
             objects: &mut Orphanage<S>,
         ) -> Result<Builder>
             ensures words { IfOk result (λ made. made.draft.words
-                ≡ words_in (struct_of R.segments read.now.fields) 0) }
-            ensures copies { Copies (struct_of R.segments read.now.fields) 1
+                ≡ data_up_to (struct_of R.segments read.now.fields) 0) }
+            ensures copies { CopiesPointers (struct_of R.segments read.now.fields) 1
                 objects.old objects.new (λ made. made.draft.pointers) result }
         {
             match StructDraft::from_reader(&read.fields, objects) {
@@ -1297,7 +1297,7 @@ pub mod address_book {
         /// pointers are null.
         pub fn from_data_section<R: ReaderSegments>(read: &Reader<'_, R>) -> Builder
             ensures words { result.draft.words
-                ≡ words_in (struct_of R.segments read.now.fields) 0 }
+                ≡ data_up_to (struct_of R.segments read.now.fields) 0 }
             ensures pointers { result.draft.pointers ≡ replicate 1 0 }
         {
             Builder {
@@ -1305,11 +1305,11 @@ pub mod address_book {
             }
         }
 
-        /// Writes it, as an object that a pointer can lead to.
+        /// Writes it, as an object that a pointer can point to.
         pub fn add<S: GrowingSegment>(&self, objects: &mut Orphanage<S>) -> Result<Orphan<Owned>>
-            ensures adds { Adds (HoldsStruct (body_of objects.old) self.now.draft.words
+            ensures adds { AddsOrphan (HoldsStruct (body_of objects.old) self.now.draft.words
                 self.now.draft.pointers) objects.old objects.new word_of result }
-            ensures writes { Writes (StructWords 0 1) (ExceedsPointer 0 1)
+            ensures writes { Writes (StructWords 0 1) (StructSizeError 0 1)
                 objects.old objects.new result }
         {
             objects.add(&self.draft)
@@ -1319,7 +1319,7 @@ pub mod address_book {
         pub fn add_root<S: GrowingSegment>(&self, objects: &mut Orphanage<S>) -> Result<()>
             ensures adds { AddsRoot (StructWords 0 1) (HoldsStruct (body_of objects.old)
                 self.now.draft.words self.now.draft.pointers) objects.old objects.new result }
-            ensures fails { Fails (StructWords 0 1) (ExceedsPointer 0 1)
+            ensures fails { FailsToAdd (StructWords 0 1) (StructSizeError 0 1)
                 objects.old result }
         {
             objects.add_root(&self.draft)
@@ -1330,10 +1330,10 @@ pub mod address_book {
             elements: &[Builder],
             objects: &mut Orphanage<S>,
         ) -> Result<Orphan<OwnedList>>
-            ensures adds { Adds (HoldsStructs (body_of objects.old)
+            ensures adds { AddsOrphan (HoldsStructs (body_of objects.old)
                 (map (λ element. element.draft) elements.now)) objects.old objects.new word_of result }
             ensures writes { let count = length elements.now in
-                Writes (TakesStructs 0 1 count) (ManyStructs 0 1 count)
+                Writes (TakesStructsWords 0 1 count) (ManyStructs 0 1 count)
                 objects.old objects.new result }
         {
             objects.draft_list(elements)
@@ -1351,7 +1351,7 @@ pub mod address_book {
     impl Builder {
         /// Sets the field `people`.
         ///
-        /// An object that it led to before stays in the bytes of the message.
+        /// An object that it pointed to before stays in the bytes of the message.
         pub fn set_people(&mut self, value: Orphan<super::person::OwnedList>)
             ensures words { self.new.draft.words ≡ self.old.draft.words }
             ensures pointers { self.new.draft.pointers
@@ -1368,6 +1368,6 @@ pub mod address_book {
         }
     }
 
-    /// Which pointer of the struct leads to `people`, for `fields.get_pointer`.
+    /// Which pointer of the struct points to `people`, for `fields.get_pointer`.
     pub const PEOPLE_POINTER: u16 = 0;
 }

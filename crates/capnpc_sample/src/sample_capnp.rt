@@ -2,9 +2,9 @@
 ghost use Rattle.std.specs.Prelude.{◌≡◌, ◌≤◌, ◌<◌, ◌==◌, ◌↔◌, ◌≢◌, ◌∷◌, [], if◌then◌else◌, IfOk, IsTrue, bit_xor, from_bits, to_bits, length, map, replicate, slice_index_or, slice_set};
 ghost use Rattle.std.specs.Float.{binary64};
 ghost use Rattle.std.specs.Int.{w32, w64, cast_signed, cast_unsigned};
-ghost use Rattle.capnp_orphans.specs.Adding.{Adds, AddsRoot, Fails, Writes};
-ghost use Rattle.capnp_orphans.specs.Copied.{words_in, Copies};
-ghost use Rattle.capnp_orphans.specs.Held.{word_of, HoldsStruct, HoldsStructs, TakesStruct as StructWords, TakesStructs, ExceedsPointer, ManyStructs};
+ghost use Rattle.capnp_orphans.specs.Adding.{AddsOrphan, AddsRoot, FailsToAdd, Writes};
+ghost use Rattle.capnp_orphans.specs.Copied.{data_up_to, CopiesPointers};
+ghost use Rattle.capnp_orphans.specs.Holds.{word_of, HoldsStruct, HoldsStructs, TakesStructWords as StructWords, TakesStructsWords, StructSizeError, ManyStructs};
 ghost use Rattle.capnp_orphans.specs.Segments.{body_of};
 ghost use Rattle.capnp_values.specs.DataSections.{with_field};
 ghost use Rattle.capnp_wire.specs.Constants.{segments_of, root_of, IsDefaultData};
@@ -17,9 +17,9 @@ ghost use Rattle.capnp_wire.specs.Pointer.{words_of};
 ghost use Rattle.capnp_wire.specs.Readers.{struct_of, pointer_of};
 ghost use Rattle.capnp_wire.specs.Tree.{none as NoTrees, tree as TreeOf, struct as StructForm, numbers as NumbersForm, pointers as PointersForm};
 ghost use Rattle.capnp_wire.specs.UpgradedReaders.{upgraded_structs_of, upgraded_numbers_of, upgraded_pointers_of};
-ghost use Rattle.capnp_wire.specs.UpgradedValues.{IsStructListValue, RefusesStructList, one_struct_list};
-ghost use Rattle.capnp_wire.specs.UpgradedViews.{IsUpgradedStructs, IsUpgradedPointers, ReadsAsNumbers, TakesRows, TakesFields, TakesFirstPointers, DeclinesRows, DeclinesFields, DeclinesFirstPointers};
-ghost use Rattle.capnp_wire.specs.Views.{Struct, IsViewOf, IsStruct, IsText, IsData, Accepts, Refuses, Declines, Denotes, Reads, TakesStruct, TakesText, TakesNumbers, DeclinesStruct, DeclinesText, DeclinesNumbers, pointer_in};
+ghost use Rattle.capnp_wire.specs.UpgradedValues.{IsStructListValue, StructListValueError, one_struct_list};
+ghost use Rattle.capnp_wire.specs.UpgradedViews.{IsUpgradedStructs, IsUpgradedPointers, ReadsAsNumbers, TakesAsStructs, TakesFields, TakesFirstPointers, ElementsFormError, FieldsFormError, FirstPointersFormError};
+ghost use Rattle.capnp_wire.specs.Views.{Struct, IsViewOf, IsStruct, IsText, IsData, Accepts, ViewError, FormError, Denotes, Reads, TakesStruct, TakesText, TakesNumbers, StructFormError, TextFormError, NumbersFormError, pointer_in};
 
 use capnp_frame::Result;
 use capnp_wire::constant::Words;
@@ -43,8 +43,8 @@ pub fn get_corner() -> Result<point::Reader<'static, Words<16>>>
     ensures { let pointer = root_of CORNER in
         IsViewOf pointer
         (λ view. IsStruct pointer (struct_of segments_of view.fields))
-        (Accepts pointer TakesStruct) (Refuses pointer DeclinesStruct)
-        (Declines pointer DeclinesStruct) result }
+        (Accepts pointer TakesStruct) (ViewError pointer StructFormError)
+        (FormError pointer StructFormError) result }
 {
     capnp_wire::constant::view_of(&CORNER)
 }
@@ -95,16 +95,16 @@ pub mod point {
 
         ghost accepts = { λ pointer. Accepts pointer TakesStruct };
 
-        ghost refuses = { λ pointer kind. Refuses pointer DeclinesStruct kind };
+        ghost fails = { λ pointer kind. ViewError pointer StructFormError kind };
 
-        ghost declines = { λ pointer kind. Declines pointer DeclinesStruct kind };
+        ghost form_error = { λ pointer kind. FormError pointer StructFormError kind };
 
         #[inline(always)]
         fn get_from_pointer(reader: any_pointer::Reader<'a, S>) -> Result<Self>
             ensures { let pointer = pointer_of S.segments reader.entry in IsViewOf pointer
                 (λ view. IsStruct pointer (struct_of S.segments view.fields))
-                (Accepts pointer TakesStruct) (Refuses pointer DeclinesStruct)
-                (Declines pointer DeclinesStruct) result }
+                (Accepts pointer TakesStruct) (ViewError pointer StructFormError)
+                (FormError pointer StructFormError) result }
         {
             match StructReader::get_from_pointer(reader) {
                 Ok(fields) => Ok(Reader { fields }),
@@ -123,14 +123,14 @@ pub mod point {
     impl<'a, S: ReaderSegments> ListReader<'a, S> {
         /// The number of elements.
         pub fn len(&self) -> u32
-            ensures { result ≡ length (upgraded_structs_of S.segments self.now.elements).rows }
+            ensures { result ≡ length (upgraded_structs_of S.segments self.now.elements).elements }
         {
             self.elements.len()
         }
 
         /// The element of this index.
         pub fn get(&self, index: u32) -> Reader<'a, S>
-            requires { index < length (upgraded_structs_of S.segments self.now.elements).rows }
+            requires { index < length (upgraded_structs_of S.segments self.now.elements).elements }
             ensures { struct_of S.segments result.fields
                 ≡ element_of (upgraded_structs_of S.segments self.now.elements) index }
         {
@@ -142,7 +142,7 @@ pub mod point {
         /// The element of this index, or `None` where there are no more elements than it.
         pub fn try_get(&self, index: u32) -> Option<Reader<'a, S>>
             ensures { let list = upgraded_structs_of S.segments self.now.elements in
-                FindsElement (length list.rows) index
+                FindsElement (length list.elements) index
                 (λ item. struct_of S.segments item.fields ≡ element_of list index) result }
         {
             self.try_index_move(index)
@@ -163,7 +163,7 @@ pub mod point {
 
         ghost seen = { λ item. struct_of S.segments item.fields };
 
-        ghost size = { λ list. length (upgraded_structs_of S.segments list.elements).rows };
+        ghost size = { λ list. length (upgraded_structs_of S.segments list.elements).elements };
 
         ghost element = { λ list index.
             element_of (upgraded_structs_of S.segments list.elements) index };
@@ -193,17 +193,17 @@ pub mod point {
         ghost shows = { λ pointer view.
             IsUpgradedStructs pointer (upgraded_structs_of S.segments view.elements) };
 
-        ghost accepts = { λ pointer. Accepts pointer TakesRows };
+        ghost accepts = { λ pointer. Accepts pointer TakesAsStructs };
 
-        ghost refuses = { λ pointer kind. Refuses pointer DeclinesRows kind };
+        ghost fails = { λ pointer kind. ViewError pointer ElementsFormError kind };
 
-        ghost declines = { λ pointer kind. Declines pointer DeclinesRows kind };
+        ghost form_error = { λ pointer kind. FormError pointer ElementsFormError kind };
 
         fn get_from_pointer(reader: any_pointer::Reader<'a, S>) -> Result<Self>
             ensures { let pointer = pointer_of S.segments reader.entry in IsViewOf pointer
                 (λ view. IsUpgradedStructs pointer (upgraded_structs_of S.segments view.elements))
-                (Accepts pointer TakesRows) (Refuses pointer DeclinesRows)
-                (Declines pointer DeclinesRows) result }
+                (Accepts pointer TakesAsStructs) (ViewError pointer ElementsFormError)
+                (FormError pointer ElementsFormError) result }
         {
             match upgraded::StructList::get_from_pointer(reader) {
                 Ok(elements) => Ok(ListReader { elements }),
@@ -223,7 +223,7 @@ pub mod point {
     impl<'a, S: ReaderSegments> traits::SetterInput<OwnedList> for ListReader<'a, S> {
         ghost has_tree = { λ list trees. IsStructListValue S.segments list.elements trees };
 
-        ghost refuses = { λ list kind. RefusesStructList S.segments list.elements kind };
+        ghost fails = { λ list kind. StructListValueError S.segments list.elements kind };
 
         ghost one = { λ list trees is. one_struct_list S.segments list.elements trees is };
 
@@ -249,7 +249,7 @@ pub mod point {
     /// A struct of this type before it is written. What is not set has its default.
     #[derive(Clone, Copy)]
     pub struct Builder {
-        /// Its data words, and what its pointers lead to.
+        /// Its data words, and what its pointers point to.
         pub draft: StructDraft<Owned, 1, 0>,
     }
 
@@ -264,12 +264,12 @@ pub mod point {
             }
         }
 
-        /// One of what a reader shows, to be changed and written again. What its pointers lead to is
+        /// One of what a reader shows, to be changed and written again. What its pointers point to is
         /// copied, each object as an orphan, and null stays null. What a writer of another version of
         /// the type left out is zero and null, and what it had beyond this one is left out.
         ///
         /// What a setter replaces after that was copied, and stays in the bytes of the message, where no
-        /// pointer leads to it. Canonical words of the message are without it.
+        /// pointer points to it. Canonical words of the message are without it.
         ///
         /// It fails as `Orphanage::set` of the first pointer does that can't be copied.
         pub fn from_reader<R: ReaderSegments, S: GrowingSegment>(
@@ -277,8 +277,8 @@ pub mod point {
             objects: &mut Orphanage<S>,
         ) -> Result<Builder>
             ensures words { IfOk result (λ made. made.draft.words
-                ≡ words_in (struct_of R.segments read.now.fields) 1) }
-            ensures copies { Copies (struct_of R.segments read.now.fields) 0
+                ≡ data_up_to (struct_of R.segments read.now.fields) 1) }
+            ensures copies { CopiesPointers (struct_of R.segments read.now.fields) 0
                 objects.old objects.new (λ made. made.draft.pointers) result }
         {
             match StructDraft::from_reader(&read.fields, objects) {
@@ -291,7 +291,7 @@ pub mod point {
         /// pointers are null.
         pub fn from_data_section<R: ReaderSegments>(read: &Reader<'_, R>) -> Builder
             ensures words { result.draft.words
-                ≡ words_in (struct_of R.segments read.now.fields) 1 }
+                ≡ data_up_to (struct_of R.segments read.now.fields) 1 }
             ensures pointers { result.draft.pointers ≡ replicate 0 0 }
         {
             Builder {
@@ -299,11 +299,11 @@ pub mod point {
             }
         }
 
-        /// Writes it, as an object that a pointer can lead to.
+        /// Writes it, as an object that a pointer can point to.
         pub fn add<S: GrowingSegment>(&self, objects: &mut Orphanage<S>) -> Result<Orphan<Owned>>
-            ensures adds { Adds (HoldsStruct (body_of objects.old) self.now.draft.words
+            ensures adds { AddsOrphan (HoldsStruct (body_of objects.old) self.now.draft.words
                 self.now.draft.pointers) objects.old objects.new word_of result }
-            ensures writes { Writes (StructWords 1 0) (ExceedsPointer 1 0)
+            ensures writes { Writes (StructWords 1 0) (StructSizeError 1 0)
                 objects.old objects.new result }
         {
             objects.add(&self.draft)
@@ -313,7 +313,7 @@ pub mod point {
         pub fn add_root<S: GrowingSegment>(&self, objects: &mut Orphanage<S>) -> Result<()>
             ensures adds { AddsRoot (StructWords 1 0) (HoldsStruct (body_of objects.old)
                 self.now.draft.words self.now.draft.pointers) objects.old objects.new result }
-            ensures fails { Fails (StructWords 1 0) (ExceedsPointer 1 0)
+            ensures fails { FailsToAdd (StructWords 1 0) (StructSizeError 1 0)
                 objects.old result }
         {
             objects.add_root(&self.draft)
@@ -324,10 +324,10 @@ pub mod point {
             elements: &[Builder],
             objects: &mut Orphanage<S>,
         ) -> Result<Orphan<OwnedList>>
-            ensures adds { Adds (HoldsStructs (body_of objects.old)
+            ensures adds { AddsOrphan (HoldsStructs (body_of objects.old)
                 (map (λ element. element.draft) elements.now)) objects.old objects.new word_of result }
             ensures writes { let count = length elements.now in
-                Writes (TakesStructs 1 0 count) (ManyStructs 1 0 count)
+                Writes (TakesStructsWords 1 0 count) (ManyStructs 1 0 count)
                 objects.old objects.new result }
         {
             objects.draft_list(elements)
@@ -417,8 +417,8 @@ pub mod tree {
                 let pointer = pointer_in fields 0 in
                 IsViewOf pointer
                 (λ view. IsStruct pointer (struct_of S.segments view.fields))
-                (Accepts pointer TakesStruct) (Refuses pointer DeclinesStruct)
-                (Declines pointer DeclinesStruct) result }
+                (Accepts pointer TakesStruct) (ViewError pointer StructFormError)
+                (FormError pointer StructFormError) result }
         {
             match self.fields.get_pointer_as(0) {
                 Ok(fields) => Ok(super::tree::Reader { fields }),
@@ -440,8 +440,8 @@ pub mod tree {
                 let pointer = pointer_in fields 1 in
                 IsViewOf pointer
                 (λ view. IsStruct pointer (struct_of S.segments view.fields))
-                (Accepts pointer TakesStruct) (Refuses pointer DeclinesStruct)
-                (Declines pointer DeclinesStruct) result }
+                (Accepts pointer TakesStruct) (ViewError pointer StructFormError)
+                (FormError pointer StructFormError) result }
         {
             match self.fields.get_pointer_as(1) {
                 Ok(fields) => Ok(super::tree::Reader { fields }),
@@ -463,16 +463,16 @@ pub mod tree {
 
         ghost accepts = { λ pointer. Accepts pointer TakesStruct };
 
-        ghost refuses = { λ pointer kind. Refuses pointer DeclinesStruct kind };
+        ghost fails = { λ pointer kind. ViewError pointer StructFormError kind };
 
-        ghost declines = { λ pointer kind. Declines pointer DeclinesStruct kind };
+        ghost form_error = { λ pointer kind. FormError pointer StructFormError kind };
 
         #[inline(always)]
         fn get_from_pointer(reader: any_pointer::Reader<'a, S>) -> Result<Self>
             ensures { let pointer = pointer_of S.segments reader.entry in IsViewOf pointer
                 (λ view. IsStruct pointer (struct_of S.segments view.fields))
-                (Accepts pointer TakesStruct) (Refuses pointer DeclinesStruct)
-                (Declines pointer DeclinesStruct) result }
+                (Accepts pointer TakesStruct) (ViewError pointer StructFormError)
+                (FormError pointer StructFormError) result }
         {
             match StructReader::get_from_pointer(reader) {
                 Ok(fields) => Ok(Reader { fields }),
@@ -491,14 +491,14 @@ pub mod tree {
     impl<'a, S: ReaderSegments> ListReader<'a, S> {
         /// The number of elements.
         pub fn len(&self) -> u32
-            ensures { result ≡ length (upgraded_structs_of S.segments self.now.elements).rows }
+            ensures { result ≡ length (upgraded_structs_of S.segments self.now.elements).elements }
         {
             self.elements.len()
         }
 
         /// The element of this index.
         pub fn get(&self, index: u32) -> Reader<'a, S>
-            requires { index < length (upgraded_structs_of S.segments self.now.elements).rows }
+            requires { index < length (upgraded_structs_of S.segments self.now.elements).elements }
             ensures { struct_of S.segments result.fields
                 ≡ element_of (upgraded_structs_of S.segments self.now.elements) index }
         {
@@ -510,7 +510,7 @@ pub mod tree {
         /// The element of this index, or `None` where there are no more elements than it.
         pub fn try_get(&self, index: u32) -> Option<Reader<'a, S>>
             ensures { let list = upgraded_structs_of S.segments self.now.elements in
-                FindsElement (length list.rows) index
+                FindsElement (length list.elements) index
                 (λ item. struct_of S.segments item.fields ≡ element_of list index) result }
         {
             self.try_index_move(index)
@@ -531,7 +531,7 @@ pub mod tree {
 
         ghost seen = { λ item. struct_of S.segments item.fields };
 
-        ghost size = { λ list. length (upgraded_structs_of S.segments list.elements).rows };
+        ghost size = { λ list. length (upgraded_structs_of S.segments list.elements).elements };
 
         ghost element = { λ list index.
             element_of (upgraded_structs_of S.segments list.elements) index };
@@ -561,17 +561,17 @@ pub mod tree {
         ghost shows = { λ pointer view.
             IsUpgradedStructs pointer (upgraded_structs_of S.segments view.elements) };
 
-        ghost accepts = { λ pointer. Accepts pointer TakesRows };
+        ghost accepts = { λ pointer. Accepts pointer TakesAsStructs };
 
-        ghost refuses = { λ pointer kind. Refuses pointer DeclinesRows kind };
+        ghost fails = { λ pointer kind. ViewError pointer ElementsFormError kind };
 
-        ghost declines = { λ pointer kind. Declines pointer DeclinesRows kind };
+        ghost form_error = { λ pointer kind. FormError pointer ElementsFormError kind };
 
         fn get_from_pointer(reader: any_pointer::Reader<'a, S>) -> Result<Self>
             ensures { let pointer = pointer_of S.segments reader.entry in IsViewOf pointer
                 (λ view. IsUpgradedStructs pointer (upgraded_structs_of S.segments view.elements))
-                (Accepts pointer TakesRows) (Refuses pointer DeclinesRows)
-                (Declines pointer DeclinesRows) result }
+                (Accepts pointer TakesAsStructs) (ViewError pointer ElementsFormError)
+                (FormError pointer ElementsFormError) result }
         {
             match upgraded::StructList::get_from_pointer(reader) {
                 Ok(elements) => Ok(ListReader { elements }),
@@ -591,7 +591,7 @@ pub mod tree {
     impl<'a, S: ReaderSegments> traits::SetterInput<OwnedList> for ListReader<'a, S> {
         ghost has_tree = { λ list trees. IsStructListValue S.segments list.elements trees };
 
-        ghost refuses = { λ list kind. RefusesStructList S.segments list.elements kind };
+        ghost fails = { λ list kind. StructListValueError S.segments list.elements kind };
 
         ghost one = { λ list trees is. one_struct_list S.segments list.elements trees is };
 
@@ -617,7 +617,7 @@ pub mod tree {
     /// A struct of this type before it is written. What is not set has its default.
     #[derive(Clone, Copy)]
     pub struct Builder {
-        /// Its data words, and what its pointers lead to.
+        /// Its data words, and what its pointers point to.
         pub draft: StructDraft<Owned, 1, 2>,
     }
 
@@ -632,12 +632,12 @@ pub mod tree {
             }
         }
 
-        /// One of what a reader shows, to be changed and written again. What its pointers lead to is
+        /// One of what a reader shows, to be changed and written again. What its pointers point to is
         /// copied, each object as an orphan, and null stays null. What a writer of another version of
         /// the type left out is zero and null, and what it had beyond this one is left out.
         ///
         /// What a setter replaces after that was copied, and stays in the bytes of the message, where no
-        /// pointer leads to it. Canonical words of the message are without it.
+        /// pointer points to it. Canonical words of the message are without it.
         ///
         /// It fails as `Orphanage::set` of the first pointer does that can't be copied.
         pub fn from_reader<R: ReaderSegments, S: GrowingSegment>(
@@ -645,8 +645,8 @@ pub mod tree {
             objects: &mut Orphanage<S>,
         ) -> Result<Builder>
             ensures words { IfOk result (λ made. made.draft.words
-                ≡ words_in (struct_of R.segments read.now.fields) 1) }
-            ensures copies { Copies (struct_of R.segments read.now.fields) 2
+                ≡ data_up_to (struct_of R.segments read.now.fields) 1) }
+            ensures copies { CopiesPointers (struct_of R.segments read.now.fields) 2
                 objects.old objects.new (λ made. made.draft.pointers) result }
         {
             match StructDraft::from_reader(&read.fields, objects) {
@@ -659,7 +659,7 @@ pub mod tree {
         /// pointers are null.
         pub fn from_data_section<R: ReaderSegments>(read: &Reader<'_, R>) -> Builder
             ensures words { result.draft.words
-                ≡ words_in (struct_of R.segments read.now.fields) 1 }
+                ≡ data_up_to (struct_of R.segments read.now.fields) 1 }
             ensures pointers { result.draft.pointers ≡ replicate 2 0 }
         {
             Builder {
@@ -667,11 +667,11 @@ pub mod tree {
             }
         }
 
-        /// Writes it, as an object that a pointer can lead to.
+        /// Writes it, as an object that a pointer can point to.
         pub fn add<S: GrowingSegment>(&self, objects: &mut Orphanage<S>) -> Result<Orphan<Owned>>
-            ensures adds { Adds (HoldsStruct (body_of objects.old) self.now.draft.words
+            ensures adds { AddsOrphan (HoldsStruct (body_of objects.old) self.now.draft.words
                 self.now.draft.pointers) objects.old objects.new word_of result }
-            ensures writes { Writes (StructWords 1 2) (ExceedsPointer 1 2)
+            ensures writes { Writes (StructWords 1 2) (StructSizeError 1 2)
                 objects.old objects.new result }
         {
             objects.add(&self.draft)
@@ -681,7 +681,7 @@ pub mod tree {
         pub fn add_root<S: GrowingSegment>(&self, objects: &mut Orphanage<S>) -> Result<()>
             ensures adds { AddsRoot (StructWords 1 2) (HoldsStruct (body_of objects.old)
                 self.now.draft.words self.now.draft.pointers) objects.old objects.new result }
-            ensures fails { Fails (StructWords 1 2) (ExceedsPointer 1 2)
+            ensures fails { FailsToAdd (StructWords 1 2) (StructSizeError 1 2)
                 objects.old result }
         {
             objects.add_root(&self.draft)
@@ -692,10 +692,10 @@ pub mod tree {
             elements: &[Builder],
             objects: &mut Orphanage<S>,
         ) -> Result<Orphan<OwnedList>>
-            ensures adds { Adds (HoldsStructs (body_of objects.old)
+            ensures adds { AddsOrphan (HoldsStructs (body_of objects.old)
                 (map (λ element. element.draft) elements.now)) objects.old objects.new word_of result }
             ensures writes { let count = length elements.now in
-                Writes (TakesStructs 1 2 count) (ManyStructs 1 2 count)
+                Writes (TakesStructsWords 1 2 count) (ManyStructs 1 2 count)
                 objects.old objects.new result }
         {
             objects.draft_list(elements)
@@ -730,7 +730,7 @@ pub mod tree {
 
         /// Sets the field `left`.
         ///
-        /// An object that it led to before stays in the bytes of the message.
+        /// An object that it pointed to before stays in the bytes of the message.
         pub fn set_left(&mut self, value: Orphan<super::tree::Owned>)
             ensures words { self.new.draft.words ≡ self.old.draft.words }
             ensures pointers { self.new.draft.pointers
@@ -748,7 +748,7 @@ pub mod tree {
 
         /// Sets the field `right`.
         ///
-        /// An object that it led to before stays in the bytes of the message.
+        /// An object that it pointed to before stays in the bytes of the message.
         pub fn set_right(&mut self, value: Orphan<super::tree::Owned>)
             ensures words { self.new.draft.words ≡ self.old.draft.words }
             ensures pointers { self.new.draft.pointers
@@ -765,10 +765,10 @@ pub mod tree {
         }
     }
 
-    /// Which pointer of the struct leads to `left`, for `fields.get_pointer`.
+    /// Which pointer of the struct points to `left`, for `fields.get_pointer`.
     pub const LEFT_POINTER: u16 = 0;
 
-    /// Which pointer of the struct leads to `right`, for `fields.get_pointer`.
+    /// Which pointer of the struct points to `right`, for `fields.get_pointer`.
     pub const RIGHT_POINTER: u16 = 1;
 }
 
@@ -885,8 +885,8 @@ pub mod sample {
                 let pointer = pointer_in fields 0 in
                 IsViewOf pointer
                 (λ view. Reads pointer (λ form. IsText form view.bytes.now))
-                (Accepts pointer TakesText) (Refuses pointer DeclinesText)
-                (Declines pointer DeclinesText) result }
+                (Accepts pointer TakesText) (ViewError pointer TextFormError)
+                (FormError pointer TextFormError) result }
         {
             self.fields.get_pointer_as(0)
         }
@@ -905,8 +905,8 @@ pub mod sample {
                 let pointer = pointer_in fields 1 in
                 IsViewOf pointer
                 (λ view. Reads pointer (λ form. IsData form view.now))
-                (Accepts pointer (TakesNumbers 2)) (Refuses pointer (DeclinesNumbers 2))
-                (Declines pointer (DeclinesNumbers 2)) result }
+                (Accepts pointer (TakesNumbers 2)) (ViewError pointer (NumbersFormError 2))
+                (FormError pointer (NumbersFormError 2)) result }
         {
             self.fields.get_pointer_as(1)
         }
@@ -925,8 +925,8 @@ pub mod sample {
                 let pointer = pointer_in fields 2 in
                 IsViewOf pointer
                 (λ view. IsUpgradedStructs pointer (upgraded_structs_of S.segments view.elements))
-                (Accepts pointer TakesRows) (Refuses pointer DeclinesRows)
-                (Declines pointer DeclinesRows) result }
+                (Accepts pointer TakesAsStructs) (ViewError pointer ElementsFormError)
+                (FormError pointer ElementsFormError) result }
         {
             match self.fields.get_pointer_as(2) {
                 Ok(elements) => Ok(super::point::ListReader { elements }),
@@ -948,8 +948,8 @@ pub mod sample {
                 let pointer = pointer_in fields 3 in
                 IsViewOf pointer
                 (λ view. Reads pointer (λ form. ReadsAsNumbers 4 form (upgraded_numbers_of 4 view)))
-                (Accepts pointer (TakesFields 4)) (Refuses pointer (DeclinesFields 4))
-                (Declines pointer (DeclinesFields 4)) result }
+                (Accepts pointer (TakesFields 4)) (ViewError pointer (FieldsFormError 4))
+                (FormError pointer (FieldsFormError 4)) result }
         {
             self.fields.get_pointer_as(3)
         }
@@ -968,8 +968,8 @@ pub mod sample {
                 let pointer = pointer_in fields 4 in
                 IsViewOf pointer
                 (λ view. IsStruct pointer (struct_of S.segments view.fields))
-                (Accepts pointer TakesStruct) (Refuses pointer DeclinesStruct)
-                (Declines pointer DeclinesStruct) result }
+                (Accepts pointer TakesStruct) (ViewError pointer StructFormError)
+                (FormError pointer StructFormError) result }
         {
             match self.fields.get_pointer_as(4) {
                 Ok(fields) => Ok(super::point::Reader { fields }),
@@ -1027,8 +1027,8 @@ pub mod sample {
                 let pointer = pointer_in fields 5 in
                 IsViewOf pointer
                 (λ view. Reads pointer (λ form. IsText form view.bytes.now))
-                (Accepts pointer TakesText) (Refuses pointer DeclinesText)
-                (Declines pointer DeclinesText) result }
+                (Accepts pointer TakesText) (ViewError pointer TextFormError)
+                (FormError pointer TextFormError) result }
         {
             self.fields.get_pointer_as(5)
         }
@@ -1056,13 +1056,13 @@ pub mod sample {
                 let pointer = pointer_in fields 6 in
                 ((Denotes pointer nothing → ⊥) → IsViewOf pointer
                 (λ view. Reads pointer (λ form. IsText form view.bytes.now))
-                (Accepts pointer TakesText) (Refuses pointer DeclinesText)
-                (Declines pointer DeclinesText) result)
+                (Accepts pointer TakesText) (ViewError pointer TextFormError)
+                (FormError pointer TextFormError) result)
                 × (Denotes pointer nothing → (let pointer = root_of NOTE_DEFAULT in
                 IsViewOf pointer
                 (λ view. Reads pointer (λ form. IsText form view.bytes.now))
-                (Accepts pointer TakesText) (Refuses pointer DeclinesText)
-                (Declines pointer DeclinesText) result)) }
+                (Accepts pointer TakesText) (ViewError pointer TextFormError)
+                (FormError pointer TextFormError) result)) }
         {
             let pointer = self.fields.get_pointer(6);
             if pointer.is_null() {
@@ -1086,13 +1086,13 @@ pub mod sample {
                 let pointer = pointer_in fields 7 in
                 ((Denotes pointer nothing → ⊥) → IsViewOf pointer
                 (λ view. IsStruct pointer (struct_of S.segments view.fields))
-                (Accepts pointer TakesStruct) (Refuses pointer DeclinesStruct)
-                (Declines pointer DeclinesStruct) result)
+                (Accepts pointer TakesStruct) (ViewError pointer StructFormError)
+                (FormError pointer StructFormError) result)
                 × (Denotes pointer nothing → (let constant = root_of TARGET_DEFAULT in
                 IsViewOf constant
                 (λ view. IsDefaultData constant pointer (struct_of S.segments view.fields))
-                (Accepts constant TakesStruct) (Refuses constant DeclinesStruct)
-                (Declines constant DeclinesStruct) result)) }
+                (Accepts constant TakesStruct) (ViewError constant StructFormError)
+                (FormError constant StructFormError) result)) }
         {
             let pointer = self.fields.get_pointer(7);
             if pointer.is_null() {
@@ -1141,8 +1141,8 @@ pub mod sample {
                       (let pointer = pointer_in fields 5 in
                       IsViewOf pointer
                       (λ view. Reads pointer (λ form. IsText form view.bytes.now))
-                      (Accepts pointer TakesText) (Refuses pointer DeclinesText)
-                      (Declines pointer DeclinesText) value)
+                      (Accepts pointer TakesText) (ViewError pointer TextFormError)
+                      (FormError pointer TextFormError) value)
                   | Which.NotInSchema unknown ↦ (unknown ≡ number) × (3 ≤ number)
                 ] }
         {
@@ -1170,16 +1170,16 @@ pub mod sample {
 
         ghost accepts = { λ pointer. Accepts pointer TakesStruct };
 
-        ghost refuses = { λ pointer kind. Refuses pointer DeclinesStruct kind };
+        ghost fails = { λ pointer kind. ViewError pointer StructFormError kind };
 
-        ghost declines = { λ pointer kind. Declines pointer DeclinesStruct kind };
+        ghost form_error = { λ pointer kind. FormError pointer StructFormError kind };
 
         #[inline(always)]
         fn get_from_pointer(reader: any_pointer::Reader<'a, S>) -> Result<Self>
             ensures { let pointer = pointer_of S.segments reader.entry in IsViewOf pointer
                 (λ view. IsStruct pointer (struct_of S.segments view.fields))
-                (Accepts pointer TakesStruct) (Refuses pointer DeclinesStruct)
-                (Declines pointer DeclinesStruct) result }
+                (Accepts pointer TakesStruct) (ViewError pointer StructFormError)
+                (FormError pointer StructFormError) result }
         {
             match StructReader::get_from_pointer(reader) {
                 Ok(fields) => Ok(Reader { fields }),
@@ -1198,14 +1198,14 @@ pub mod sample {
     impl<'a, S: ReaderSegments> ListReader<'a, S> {
         /// The number of elements.
         pub fn len(&self) -> u32
-            ensures { result ≡ length (upgraded_structs_of S.segments self.now.elements).rows }
+            ensures { result ≡ length (upgraded_structs_of S.segments self.now.elements).elements }
         {
             self.elements.len()
         }
 
         /// The element of this index.
         pub fn get(&self, index: u32) -> Reader<'a, S>
-            requires { index < length (upgraded_structs_of S.segments self.now.elements).rows }
+            requires { index < length (upgraded_structs_of S.segments self.now.elements).elements }
             ensures { struct_of S.segments result.fields
                 ≡ element_of (upgraded_structs_of S.segments self.now.elements) index }
         {
@@ -1217,7 +1217,7 @@ pub mod sample {
         /// The element of this index, or `None` where there are no more elements than it.
         pub fn try_get(&self, index: u32) -> Option<Reader<'a, S>>
             ensures { let list = upgraded_structs_of S.segments self.now.elements in
-                FindsElement (length list.rows) index
+                FindsElement (length list.elements) index
                 (λ item. struct_of S.segments item.fields ≡ element_of list index) result }
         {
             self.try_index_move(index)
@@ -1238,7 +1238,7 @@ pub mod sample {
 
         ghost seen = { λ item. struct_of S.segments item.fields };
 
-        ghost size = { λ list. length (upgraded_structs_of S.segments list.elements).rows };
+        ghost size = { λ list. length (upgraded_structs_of S.segments list.elements).elements };
 
         ghost element = { λ list index.
             element_of (upgraded_structs_of S.segments list.elements) index };
@@ -1268,17 +1268,17 @@ pub mod sample {
         ghost shows = { λ pointer view.
             IsUpgradedStructs pointer (upgraded_structs_of S.segments view.elements) };
 
-        ghost accepts = { λ pointer. Accepts pointer TakesRows };
+        ghost accepts = { λ pointer. Accepts pointer TakesAsStructs };
 
-        ghost refuses = { λ pointer kind. Refuses pointer DeclinesRows kind };
+        ghost fails = { λ pointer kind. ViewError pointer ElementsFormError kind };
 
-        ghost declines = { λ pointer kind. Declines pointer DeclinesRows kind };
+        ghost form_error = { λ pointer kind. FormError pointer ElementsFormError kind };
 
         fn get_from_pointer(reader: any_pointer::Reader<'a, S>) -> Result<Self>
             ensures { let pointer = pointer_of S.segments reader.entry in IsViewOf pointer
                 (λ view. IsUpgradedStructs pointer (upgraded_structs_of S.segments view.elements))
-                (Accepts pointer TakesRows) (Refuses pointer DeclinesRows)
-                (Declines pointer DeclinesRows) result }
+                (Accepts pointer TakesAsStructs) (ViewError pointer ElementsFormError)
+                (FormError pointer ElementsFormError) result }
         {
             match upgraded::StructList::get_from_pointer(reader) {
                 Ok(elements) => Ok(ListReader { elements }),
@@ -1298,7 +1298,7 @@ pub mod sample {
     impl<'a, S: ReaderSegments> traits::SetterInput<OwnedList> for ListReader<'a, S> {
         ghost has_tree = { λ list trees. IsStructListValue S.segments list.elements trees };
 
-        ghost refuses = { λ list kind. RefusesStructList S.segments list.elements kind };
+        ghost fails = { λ list kind. StructListValueError S.segments list.elements kind };
 
         ghost one = { λ list trees is. one_struct_list S.segments list.elements trees is };
 
@@ -1324,7 +1324,7 @@ pub mod sample {
     /// A struct of this type before it is written. What is not set has its default.
     #[derive(Clone, Copy)]
     pub struct Builder {
-        /// Its data words, and what its pointers lead to.
+        /// Its data words, and what its pointers point to.
         pub draft: StructDraft<Owned, 4, 9>,
     }
 
@@ -1339,12 +1339,12 @@ pub mod sample {
             }
         }
 
-        /// One of what a reader shows, to be changed and written again. What its pointers lead to is
+        /// One of what a reader shows, to be changed and written again. What its pointers point to is
         /// copied, each object as an orphan, and null stays null. What a writer of another version of
         /// the type left out is zero and null, and what it had beyond this one is left out.
         ///
         /// What a setter replaces after that was copied, and stays in the bytes of the message, where no
-        /// pointer leads to it. Canonical words of the message are without it.
+        /// pointer points to it. Canonical words of the message are without it.
         ///
         /// It fails as `Orphanage::set` of the first pointer does that can't be copied.
         pub fn from_reader<R: ReaderSegments, S: GrowingSegment>(
@@ -1352,8 +1352,8 @@ pub mod sample {
             objects: &mut Orphanage<S>,
         ) -> Result<Builder>
             ensures words { IfOk result (λ made. made.draft.words
-                ≡ words_in (struct_of R.segments read.now.fields) 4) }
-            ensures copies { Copies (struct_of R.segments read.now.fields) 9
+                ≡ data_up_to (struct_of R.segments read.now.fields) 4) }
+            ensures copies { CopiesPointers (struct_of R.segments read.now.fields) 9
                 objects.old objects.new (λ made. made.draft.pointers) result }
         {
             match StructDraft::from_reader(&read.fields, objects) {
@@ -1366,7 +1366,7 @@ pub mod sample {
         /// pointers are null.
         pub fn from_data_section<R: ReaderSegments>(read: &Reader<'_, R>) -> Builder
             ensures words { result.draft.words
-                ≡ words_in (struct_of R.segments read.now.fields) 4 }
+                ≡ data_up_to (struct_of R.segments read.now.fields) 4 }
             ensures pointers { result.draft.pointers ≡ replicate 9 0 }
         {
             Builder {
@@ -1374,11 +1374,11 @@ pub mod sample {
             }
         }
 
-        /// Writes it, as an object that a pointer can lead to.
+        /// Writes it, as an object that a pointer can point to.
         pub fn add<S: GrowingSegment>(&self, objects: &mut Orphanage<S>) -> Result<Orphan<Owned>>
-            ensures adds { Adds (HoldsStruct (body_of objects.old) self.now.draft.words
+            ensures adds { AddsOrphan (HoldsStruct (body_of objects.old) self.now.draft.words
                 self.now.draft.pointers) objects.old objects.new word_of result }
-            ensures writes { Writes (StructWords 4 9) (ExceedsPointer 4 9)
+            ensures writes { Writes (StructWords 4 9) (StructSizeError 4 9)
                 objects.old objects.new result }
         {
             objects.add(&self.draft)
@@ -1388,7 +1388,7 @@ pub mod sample {
         pub fn add_root<S: GrowingSegment>(&self, objects: &mut Orphanage<S>) -> Result<()>
             ensures adds { AddsRoot (StructWords 4 9) (HoldsStruct (body_of objects.old)
                 self.now.draft.words self.now.draft.pointers) objects.old objects.new result }
-            ensures fails { Fails (StructWords 4 9) (ExceedsPointer 4 9)
+            ensures fails { FailsToAdd (StructWords 4 9) (StructSizeError 4 9)
                 objects.old result }
         {
             objects.add_root(&self.draft)
@@ -1399,10 +1399,10 @@ pub mod sample {
             elements: &[Builder],
             objects: &mut Orphanage<S>,
         ) -> Result<Orphan<OwnedList>>
-            ensures adds { Adds (HoldsStructs (body_of objects.old)
+            ensures adds { AddsOrphan (HoldsStructs (body_of objects.old)
                 (map (λ element. element.draft) elements.now)) objects.old objects.new word_of result }
             ensures writes { let count = length elements.now in
-                Writes (TakesStructs 4 9 count) (ManyStructs 4 9 count)
+                Writes (TakesStructsWords 4 9 count) (ManyStructs 4 9 count)
                 objects.old objects.new result }
         {
             objects.draft_list(elements)
@@ -1472,7 +1472,7 @@ pub mod sample {
 
         /// Sets the field `title`.
         ///
-        /// An object that it led to before stays in the bytes of the message.
+        /// An object that it pointed to before stays in the bytes of the message.
         pub fn set_title(&mut self, value: Orphan<text::Owned>)
             ensures words { self.new.draft.words ≡ self.old.draft.words }
             ensures pointers { self.new.draft.pointers
@@ -1490,7 +1490,7 @@ pub mod sample {
 
         /// Sets the field `payload`.
         ///
-        /// An object that it led to before stays in the bytes of the message.
+        /// An object that it pointed to before stays in the bytes of the message.
         pub fn set_payload(&mut self, value: Orphan<capnp_wire::data::Owned>)
             ensures words { self.new.draft.words ≡ self.old.draft.words }
             ensures pointers { self.new.draft.pointers
@@ -1508,7 +1508,7 @@ pub mod sample {
 
         /// Sets the field `points`.
         ///
-        /// An object that it led to before stays in the bytes of the message.
+        /// An object that it pointed to before stays in the bytes of the message.
         pub fn set_points(&mut self, value: Orphan<super::point::OwnedList>)
             ensures words { self.new.draft.words ≡ self.old.draft.words }
             ensures pointers { self.new.draft.pointers
@@ -1526,7 +1526,7 @@ pub mod sample {
 
         /// Sets the field `numbers`.
         ///
-        /// An object that it led to before stays in the bytes of the message.
+        /// An object that it pointed to before stays in the bytes of the message.
         pub fn set_numbers(&mut self, value: Orphan<capnp_wire::primitive_list::Owned<u32>>)
             ensures words { self.new.draft.words ≡ self.old.draft.words }
             ensures pointers { self.new.draft.pointers
@@ -1544,7 +1544,7 @@ pub mod sample {
 
         /// Sets the field `origin`.
         ///
-        /// An object that it led to before stays in the bytes of the message.
+        /// An object that it pointed to before stays in the bytes of the message.
         pub fn set_origin(&mut self, value: Orphan<super::point::Owned>)
             ensures words { self.new.draft.words ≡ self.old.draft.words }
             ensures pointers { self.new.draft.pointers
@@ -1617,7 +1617,7 @@ pub mod sample {
 
         /// Sets the field `label`.
         ///
-        /// An object that it led to before stays in the bytes of the message.
+        /// An object that it pointed to before stays in the bytes of the message.
         pub fn set_label(&mut self, value: Orphan<text::Owned>)
             ensures words { self.new.draft.words
                 ≡ (with_field self.old.draft.words 16 7 2) }
@@ -1657,7 +1657,7 @@ pub mod sample {
 
         /// Sets the field `note`.
         ///
-        /// An object that it led to before stays in the bytes of the message.
+        /// An object that it pointed to before stays in the bytes of the message.
         pub fn set_note(&mut self, value: Orphan<text::Owned>)
             ensures words { self.new.draft.words ≡ self.old.draft.words }
             ensures pointers { self.new.draft.pointers
@@ -1675,7 +1675,7 @@ pub mod sample {
 
         /// Sets the field `target`.
         ///
-        /// An object that it led to before stays in the bytes of the message.
+        /// An object that it pointed to before stays in the bytes of the message.
         pub fn set_target(&mut self, value: Orphan<super::point::Owned>)
             ensures words { self.new.draft.words ≡ self.old.draft.words }
             ensures pointers { self.new.draft.pointers
@@ -1693,7 +1693,7 @@ pub mod sample {
 
         /// Sets the field `anything`.
         ///
-        /// An object that it led to before stays in the bytes of the message.
+        /// An object that it pointed to before stays in the bytes of the message.
         pub fn set_anything<T>(&mut self, value: Orphan<T>)
             ensures words { self.new.draft.words ≡ self.old.draft.words }
             ensures pointers { self.new.draft.pointers
@@ -1710,31 +1710,31 @@ pub mod sample {
         }
     }
 
-    /// Which pointer of the struct leads to `title`, for `fields.get_pointer`.
+    /// Which pointer of the struct points to `title`, for `fields.get_pointer`.
     pub const TITLE_POINTER: u16 = 0;
 
-    /// Which pointer of the struct leads to `payload`, for `fields.get_pointer`.
+    /// Which pointer of the struct points to `payload`, for `fields.get_pointer`.
     pub const PAYLOAD_POINTER: u16 = 1;
 
-    /// Which pointer of the struct leads to `points`, for `fields.get_pointer`.
+    /// Which pointer of the struct points to `points`, for `fields.get_pointer`.
     pub const POINTS_POINTER: u16 = 2;
 
-    /// Which pointer of the struct leads to `numbers`, for `fields.get_pointer`.
+    /// Which pointer of the struct points to `numbers`, for `fields.get_pointer`.
     pub const NUMBERS_POINTER: u16 = 3;
 
-    /// Which pointer of the struct leads to `origin`, for `fields.get_pointer`.
+    /// Which pointer of the struct points to `origin`, for `fields.get_pointer`.
     pub const ORIGIN_POINTER: u16 = 4;
 
-    /// Which pointer of the struct leads to `label`, for `fields.get_pointer`.
+    /// Which pointer of the struct points to `label`, for `fields.get_pointer`.
     pub const LABEL_POINTER: u16 = 5;
 
-    /// Which pointer of the struct leads to `note`, for `fields.get_pointer`.
+    /// Which pointer of the struct points to `note`, for `fields.get_pointer`.
     pub const NOTE_POINTER: u16 = 6;
 
-    /// Which pointer of the struct leads to `target`, for `fields.get_pointer`.
+    /// Which pointer of the struct points to `target`, for `fields.get_pointer`.
     pub const TARGET_POINTER: u16 = 7;
 
-    /// Which pointer of the struct leads to `anything`, for `fields.get_pointer`.
+    /// Which pointer of the struct points to `anything`, for `fields.get_pointer`.
     pub const ANYTHING_POINTER: u16 = 8;
 
     #[rattlefmt::skip]
@@ -1754,8 +1754,8 @@ pub mod sample {
         ensures { let pointer = root_of NOTE_DEFAULT in
             IsViewOf pointer
             (λ view. Reads pointer (λ form. IsText form view.bytes.now))
-            (Accepts pointer TakesText) (Refuses pointer DeclinesText)
-            (Declines pointer DeclinesText) result }
+            (Accepts pointer TakesText) (ViewError pointer TextFormError)
+            (FormError pointer TextFormError) result }
     {
         capnp_wire::constant::view_of(&NOTE_DEFAULT)
     }
@@ -1777,8 +1777,8 @@ pub mod sample {
         ensures { let pointer = root_of TARGET_DEFAULT in
             IsViewOf pointer
             (λ view. IsStruct pointer (struct_of segments_of view.fields))
-            (Accepts pointer TakesStruct) (Refuses pointer DeclinesStruct)
-            (Declines pointer DeclinesStruct) result }
+            (Accepts pointer TakesStruct) (ViewError pointer StructFormError)
+            (FormError pointer StructFormError) result }
     {
         capnp_wire::constant::view_of(&TARGET_DEFAULT)
     }
@@ -1927,16 +1927,16 @@ pub mod shape {
 
         ghost accepts = { λ pointer. Accepts pointer TakesStruct };
 
-        ghost refuses = { λ pointer kind. Refuses pointer DeclinesStruct kind };
+        ghost fails = { λ pointer kind. ViewError pointer StructFormError kind };
 
-        ghost declines = { λ pointer kind. Declines pointer DeclinesStruct kind };
+        ghost form_error = { λ pointer kind. FormError pointer StructFormError kind };
 
         #[inline(always)]
         fn get_from_pointer(reader: any_pointer::Reader<'a, S>) -> Result<Self>
             ensures { let pointer = pointer_of S.segments reader.entry in IsViewOf pointer
                 (λ view. IsStruct pointer (struct_of S.segments view.fields))
-                (Accepts pointer TakesStruct) (Refuses pointer DeclinesStruct)
-                (Declines pointer DeclinesStruct) result }
+                (Accepts pointer TakesStruct) (ViewError pointer StructFormError)
+                (FormError pointer StructFormError) result }
         {
             match StructReader::get_from_pointer(reader) {
                 Ok(fields) => Ok(Reader { fields }),
@@ -1955,14 +1955,14 @@ pub mod shape {
     impl<'a, S: ReaderSegments> ListReader<'a, S> {
         /// The number of elements.
         pub fn len(&self) -> u32
-            ensures { result ≡ length (upgraded_structs_of S.segments self.now.elements).rows }
+            ensures { result ≡ length (upgraded_structs_of S.segments self.now.elements).elements }
         {
             self.elements.len()
         }
 
         /// The element of this index.
         pub fn get(&self, index: u32) -> Reader<'a, S>
-            requires { index < length (upgraded_structs_of S.segments self.now.elements).rows }
+            requires { index < length (upgraded_structs_of S.segments self.now.elements).elements }
             ensures { struct_of S.segments result.fields
                 ≡ element_of (upgraded_structs_of S.segments self.now.elements) index }
         {
@@ -1974,7 +1974,7 @@ pub mod shape {
         /// The element of this index, or `None` where there are no more elements than it.
         pub fn try_get(&self, index: u32) -> Option<Reader<'a, S>>
             ensures { let list = upgraded_structs_of S.segments self.now.elements in
-                FindsElement (length list.rows) index
+                FindsElement (length list.elements) index
                 (λ item. struct_of S.segments item.fields ≡ element_of list index) result }
         {
             self.try_index_move(index)
@@ -1995,7 +1995,7 @@ pub mod shape {
 
         ghost seen = { λ item. struct_of S.segments item.fields };
 
-        ghost size = { λ list. length (upgraded_structs_of S.segments list.elements).rows };
+        ghost size = { λ list. length (upgraded_structs_of S.segments list.elements).elements };
 
         ghost element = { λ list index.
             element_of (upgraded_structs_of S.segments list.elements) index };
@@ -2025,17 +2025,17 @@ pub mod shape {
         ghost shows = { λ pointer view.
             IsUpgradedStructs pointer (upgraded_structs_of S.segments view.elements) };
 
-        ghost accepts = { λ pointer. Accepts pointer TakesRows };
+        ghost accepts = { λ pointer. Accepts pointer TakesAsStructs };
 
-        ghost refuses = { λ pointer kind. Refuses pointer DeclinesRows kind };
+        ghost fails = { λ pointer kind. ViewError pointer ElementsFormError kind };
 
-        ghost declines = { λ pointer kind. Declines pointer DeclinesRows kind };
+        ghost form_error = { λ pointer kind. FormError pointer ElementsFormError kind };
 
         fn get_from_pointer(reader: any_pointer::Reader<'a, S>) -> Result<Self>
             ensures { let pointer = pointer_of S.segments reader.entry in IsViewOf pointer
                 (λ view. IsUpgradedStructs pointer (upgraded_structs_of S.segments view.elements))
-                (Accepts pointer TakesRows) (Refuses pointer DeclinesRows)
-                (Declines pointer DeclinesRows) result }
+                (Accepts pointer TakesAsStructs) (ViewError pointer ElementsFormError)
+                (FormError pointer ElementsFormError) result }
         {
             match upgraded::StructList::get_from_pointer(reader) {
                 Ok(elements) => Ok(ListReader { elements }),
@@ -2055,7 +2055,7 @@ pub mod shape {
     impl<'a, S: ReaderSegments> traits::SetterInput<OwnedList> for ListReader<'a, S> {
         ghost has_tree = { λ list trees. IsStructListValue S.segments list.elements trees };
 
-        ghost refuses = { λ list kind. RefusesStructList S.segments list.elements kind };
+        ghost fails = { λ list kind. StructListValueError S.segments list.elements kind };
 
         ghost one = { λ list trees is. one_struct_list S.segments list.elements trees is };
 
@@ -2081,7 +2081,7 @@ pub mod shape {
     /// A struct of this type before it is written. What is not set has its default.
     #[derive(Clone, Copy)]
     pub struct Builder {
-        /// Its data words, and what its pointers lead to.
+        /// Its data words, and what its pointers point to.
         pub draft: StructDraft<Owned, 2, 1>,
     }
 
@@ -2096,12 +2096,12 @@ pub mod shape {
             }
         }
 
-        /// One of what a reader shows, to be changed and written again. What its pointers lead to is
+        /// One of what a reader shows, to be changed and written again. What its pointers point to is
         /// copied, each object as an orphan, and null stays null. What a writer of another version of
         /// the type left out is zero and null, and what it had beyond this one is left out.
         ///
         /// What a setter replaces after that was copied, and stays in the bytes of the message, where no
-        /// pointer leads to it. Canonical words of the message are without it.
+        /// pointer points to it. Canonical words of the message are without it.
         ///
         /// It fails as `Orphanage::set` of the first pointer does that can't be copied.
         pub fn from_reader<R: ReaderSegments, S: GrowingSegment>(
@@ -2109,8 +2109,8 @@ pub mod shape {
             objects: &mut Orphanage<S>,
         ) -> Result<Builder>
             ensures words { IfOk result (λ made. made.draft.words
-                ≡ words_in (struct_of R.segments read.now.fields) 2) }
-            ensures copies { Copies (struct_of R.segments read.now.fields) 1
+                ≡ data_up_to (struct_of R.segments read.now.fields) 2) }
+            ensures copies { CopiesPointers (struct_of R.segments read.now.fields) 1
                 objects.old objects.new (λ made. made.draft.pointers) result }
         {
             match StructDraft::from_reader(&read.fields, objects) {
@@ -2123,7 +2123,7 @@ pub mod shape {
         /// pointers are null.
         pub fn from_data_section<R: ReaderSegments>(read: &Reader<'_, R>) -> Builder
             ensures words { result.draft.words
-                ≡ words_in (struct_of R.segments read.now.fields) 2 }
+                ≡ data_up_to (struct_of R.segments read.now.fields) 2 }
             ensures pointers { result.draft.pointers ≡ replicate 1 0 }
         {
             Builder {
@@ -2131,11 +2131,11 @@ pub mod shape {
             }
         }
 
-        /// Writes it, as an object that a pointer can lead to.
+        /// Writes it, as an object that a pointer can point to.
         pub fn add<S: GrowingSegment>(&self, objects: &mut Orphanage<S>) -> Result<Orphan<Owned>>
-            ensures adds { Adds (HoldsStruct (body_of objects.old) self.now.draft.words
+            ensures adds { AddsOrphan (HoldsStruct (body_of objects.old) self.now.draft.words
                 self.now.draft.pointers) objects.old objects.new word_of result }
-            ensures writes { Writes (StructWords 2 1) (ExceedsPointer 2 1)
+            ensures writes { Writes (StructWords 2 1) (StructSizeError 2 1)
                 objects.old objects.new result }
         {
             objects.add(&self.draft)
@@ -2145,7 +2145,7 @@ pub mod shape {
         pub fn add_root<S: GrowingSegment>(&self, objects: &mut Orphanage<S>) -> Result<()>
             ensures adds { AddsRoot (StructWords 2 1) (HoldsStruct (body_of objects.old)
                 self.now.draft.words self.now.draft.pointers) objects.old objects.new result }
-            ensures fails { Fails (StructWords 2 1) (ExceedsPointer 2 1)
+            ensures fails { FailsToAdd (StructWords 2 1) (StructSizeError 2 1)
                 objects.old result }
         {
             objects.add_root(&self.draft)
@@ -2156,10 +2156,10 @@ pub mod shape {
             elements: &[Builder],
             objects: &mut Orphanage<S>,
         ) -> Result<Orphan<OwnedList>>
-            ensures adds { Adds (HoldsStructs (body_of objects.old)
+            ensures adds { AddsOrphan (HoldsStructs (body_of objects.old)
                 (map (λ element. element.draft) elements.now)) objects.old objects.new word_of result }
             ensures writes { let count = length elements.now in
-                Writes (TakesStructs 2 1 count) (ManyStructs 2 1 count)
+                Writes (TakesStructsWords 2 1 count) (ManyStructs 2 1 count)
                 objects.old objects.new result }
         {
             objects.draft_list(elements)
@@ -2240,8 +2240,8 @@ pub mod shape {
                     let pointer = pointer_in fields 0 in
                     IsViewOf pointer
                     (λ view. Reads pointer (λ form. IsText form view.bytes.now))
-                    (Accepts pointer TakesText) (Refuses pointer DeclinesText)
-                    (Declines pointer DeclinesText) result }
+                    (Accepts pointer TakesText) (ViewError pointer TextFormError)
+                    (FormError pointer TextFormError) result }
             {
                 self.fields.get_pointer_as(0)
             }
@@ -2330,7 +2330,7 @@ pub mod shape {
 
             /// Sets the field `label`.
             ///
-            /// An object that it led to before stays in the bytes of the message.
+            /// An object that it pointed to before stays in the bytes of the message.
             pub fn set_rectangle_label(&mut self, value: Orphan<text::Owned>)
                 ensures words { self.new.draft.words
                     ≡ (with_field self.old.draft.words 16 4 1) }
@@ -2349,7 +2349,7 @@ pub mod shape {
             }
         }
 
-        /// Which pointer of the struct leads to `label`, for `fields.get_pointer`.
+        /// Which pointer of the struct points to `label`, for `fields.get_pointer`.
         pub const LABEL_POINTER: u16 = 0;
     }
 }
@@ -2386,8 +2386,8 @@ pub mod palette {
                 IsViewOf pointer
                 (λ view. Reads pointer (λ form.
                 ReadsAsNumbers 3 form (upgraded_numbers_of 3 view.numbers)))
-                (Accepts pointer (TakesFields 3)) (Refuses pointer (DeclinesFields 3))
-                (Declines pointer (DeclinesFields 3)) result }
+                (Accepts pointer (TakesFields 3)) (ViewError pointer (FieldsFormError 3))
+                (FormError pointer (FieldsFormError 3)) result }
         {
             self.fields.get_pointer_as(0)
         }
@@ -2413,14 +2413,14 @@ pub mod palette {
                   | OrDefault.Stored view ↦ (Denotes pointer nothing → ⊥) ×
                       (IsViewOf pointer
                       (λ view. IsUpgradedPointers pointer (upgraded_pointers_of S.segments view.pointers))
-                      (Accepts pointer TakesFirstPointers) (Refuses pointer DeclinesFirstPointers)
-                      (Declines pointer DeclinesFirstPointers) view)
+                      (Accepts pointer TakesFirstPointers) (ViewError pointer FirstPointersFormError)
+                      (FormError pointer FirstPointersFormError) view)
                   | OrDefault.Default view ↦ Denotes pointer nothing ×
                       (let pointer = root_of NAMES_DEFAULT in
                       IsViewOf pointer
                       (λ view. IsUpgradedPointers pointer (upgraded_pointers_of segments_of view.pointers))
-                      (Accepts pointer TakesFirstPointers) (Refuses pointer DeclinesFirstPointers)
-                      (Declines pointer DeclinesFirstPointers) view)
+                      (Accepts pointer TakesFirstPointers) (ViewError pointer FirstPointersFormError)
+                      (FormError pointer FirstPointersFormError) view)
                 ] }
         {
             let pointer = self.fields.get_pointer(1);
@@ -2445,16 +2445,16 @@ pub mod palette {
 
         ghost accepts = { λ pointer. Accepts pointer TakesStruct };
 
-        ghost refuses = { λ pointer kind. Refuses pointer DeclinesStruct kind };
+        ghost fails = { λ pointer kind. ViewError pointer StructFormError kind };
 
-        ghost declines = { λ pointer kind. Declines pointer DeclinesStruct kind };
+        ghost form_error = { λ pointer kind. FormError pointer StructFormError kind };
 
         #[inline(always)]
         fn get_from_pointer(reader: any_pointer::Reader<'a, S>) -> Result<Self>
             ensures { let pointer = pointer_of S.segments reader.entry in IsViewOf pointer
                 (λ view. IsStruct pointer (struct_of S.segments view.fields))
-                (Accepts pointer TakesStruct) (Refuses pointer DeclinesStruct)
-                (Declines pointer DeclinesStruct) result }
+                (Accepts pointer TakesStruct) (ViewError pointer StructFormError)
+                (FormError pointer StructFormError) result }
         {
             match StructReader::get_from_pointer(reader) {
                 Ok(fields) => Ok(Reader { fields }),
@@ -2473,14 +2473,14 @@ pub mod palette {
     impl<'a, S: ReaderSegments> ListReader<'a, S> {
         /// The number of elements.
         pub fn len(&self) -> u32
-            ensures { result ≡ length (upgraded_structs_of S.segments self.now.elements).rows }
+            ensures { result ≡ length (upgraded_structs_of S.segments self.now.elements).elements }
         {
             self.elements.len()
         }
 
         /// The element of this index.
         pub fn get(&self, index: u32) -> Reader<'a, S>
-            requires { index < length (upgraded_structs_of S.segments self.now.elements).rows }
+            requires { index < length (upgraded_structs_of S.segments self.now.elements).elements }
             ensures { struct_of S.segments result.fields
                 ≡ element_of (upgraded_structs_of S.segments self.now.elements) index }
         {
@@ -2492,7 +2492,7 @@ pub mod palette {
         /// The element of this index, or `None` where there are no more elements than it.
         pub fn try_get(&self, index: u32) -> Option<Reader<'a, S>>
             ensures { let list = upgraded_structs_of S.segments self.now.elements in
-                FindsElement (length list.rows) index
+                FindsElement (length list.elements) index
                 (λ item. struct_of S.segments item.fields ≡ element_of list index) result }
         {
             self.try_index_move(index)
@@ -2513,7 +2513,7 @@ pub mod palette {
 
         ghost seen = { λ item. struct_of S.segments item.fields };
 
-        ghost size = { λ list. length (upgraded_structs_of S.segments list.elements).rows };
+        ghost size = { λ list. length (upgraded_structs_of S.segments list.elements).elements };
 
         ghost element = { λ list index.
             element_of (upgraded_structs_of S.segments list.elements) index };
@@ -2543,17 +2543,17 @@ pub mod palette {
         ghost shows = { λ pointer view.
             IsUpgradedStructs pointer (upgraded_structs_of S.segments view.elements) };
 
-        ghost accepts = { λ pointer. Accepts pointer TakesRows };
+        ghost accepts = { λ pointer. Accepts pointer TakesAsStructs };
 
-        ghost refuses = { λ pointer kind. Refuses pointer DeclinesRows kind };
+        ghost fails = { λ pointer kind. ViewError pointer ElementsFormError kind };
 
-        ghost declines = { λ pointer kind. Declines pointer DeclinesRows kind };
+        ghost form_error = { λ pointer kind. FormError pointer ElementsFormError kind };
 
         fn get_from_pointer(reader: any_pointer::Reader<'a, S>) -> Result<Self>
             ensures { let pointer = pointer_of S.segments reader.entry in IsViewOf pointer
                 (λ view. IsUpgradedStructs pointer (upgraded_structs_of S.segments view.elements))
-                (Accepts pointer TakesRows) (Refuses pointer DeclinesRows)
-                (Declines pointer DeclinesRows) result }
+                (Accepts pointer TakesAsStructs) (ViewError pointer ElementsFormError)
+                (FormError pointer ElementsFormError) result }
         {
             match upgraded::StructList::get_from_pointer(reader) {
                 Ok(elements) => Ok(ListReader { elements }),
@@ -2573,7 +2573,7 @@ pub mod palette {
     impl<'a, S: ReaderSegments> traits::SetterInput<OwnedList> for ListReader<'a, S> {
         ghost has_tree = { λ list trees. IsStructListValue S.segments list.elements trees };
 
-        ghost refuses = { λ list kind. RefusesStructList S.segments list.elements kind };
+        ghost fails = { λ list kind. StructListValueError S.segments list.elements kind };
 
         ghost one = { λ list trees is. one_struct_list S.segments list.elements trees is };
 
@@ -2599,7 +2599,7 @@ pub mod palette {
     /// A struct of this type before it is written. What is not set has its default.
     #[derive(Clone, Copy)]
     pub struct Builder {
-        /// Its data words, and what its pointers lead to.
+        /// Its data words, and what its pointers point to.
         pub draft: StructDraft<Owned, 0, 2>,
     }
 
@@ -2614,12 +2614,12 @@ pub mod palette {
             }
         }
 
-        /// One of what a reader shows, to be changed and written again. What its pointers lead to is
+        /// One of what a reader shows, to be changed and written again. What its pointers point to is
         /// copied, each object as an orphan, and null stays null. What a writer of another version of
         /// the type left out is zero and null, and what it had beyond this one is left out.
         ///
         /// What a setter replaces after that was copied, and stays in the bytes of the message, where no
-        /// pointer leads to it. Canonical words of the message are without it.
+        /// pointer points to it. Canonical words of the message are without it.
         ///
         /// It fails as `Orphanage::set` of the first pointer does that can't be copied.
         pub fn from_reader<R: ReaderSegments, S: GrowingSegment>(
@@ -2627,8 +2627,8 @@ pub mod palette {
             objects: &mut Orphanage<S>,
         ) -> Result<Builder>
             ensures words { IfOk result (λ made. made.draft.words
-                ≡ words_in (struct_of R.segments read.now.fields) 0) }
-            ensures copies { Copies (struct_of R.segments read.now.fields) 2
+                ≡ data_up_to (struct_of R.segments read.now.fields) 0) }
+            ensures copies { CopiesPointers (struct_of R.segments read.now.fields) 2
                 objects.old objects.new (λ made. made.draft.pointers) result }
         {
             match StructDraft::from_reader(&read.fields, objects) {
@@ -2641,7 +2641,7 @@ pub mod palette {
         /// pointers are null.
         pub fn from_data_section<R: ReaderSegments>(read: &Reader<'_, R>) -> Builder
             ensures words { result.draft.words
-                ≡ words_in (struct_of R.segments read.now.fields) 0 }
+                ≡ data_up_to (struct_of R.segments read.now.fields) 0 }
             ensures pointers { result.draft.pointers ≡ replicate 2 0 }
         {
             Builder {
@@ -2649,11 +2649,11 @@ pub mod palette {
             }
         }
 
-        /// Writes it, as an object that a pointer can lead to.
+        /// Writes it, as an object that a pointer can point to.
         pub fn add<S: GrowingSegment>(&self, objects: &mut Orphanage<S>) -> Result<Orphan<Owned>>
-            ensures adds { Adds (HoldsStruct (body_of objects.old) self.now.draft.words
+            ensures adds { AddsOrphan (HoldsStruct (body_of objects.old) self.now.draft.words
                 self.now.draft.pointers) objects.old objects.new word_of result }
-            ensures writes { Writes (StructWords 0 2) (ExceedsPointer 0 2)
+            ensures writes { Writes (StructWords 0 2) (StructSizeError 0 2)
                 objects.old objects.new result }
         {
             objects.add(&self.draft)
@@ -2663,7 +2663,7 @@ pub mod palette {
         pub fn add_root<S: GrowingSegment>(&self, objects: &mut Orphanage<S>) -> Result<()>
             ensures adds { AddsRoot (StructWords 0 2) (HoldsStruct (body_of objects.old)
                 self.now.draft.words self.now.draft.pointers) objects.old objects.new result }
-            ensures fails { Fails (StructWords 0 2) (ExceedsPointer 0 2)
+            ensures fails { FailsToAdd (StructWords 0 2) (StructSizeError 0 2)
                 objects.old result }
         {
             objects.add_root(&self.draft)
@@ -2674,10 +2674,10 @@ pub mod palette {
             elements: &[Builder],
             objects: &mut Orphanage<S>,
         ) -> Result<Orphan<OwnedList>>
-            ensures adds { Adds (HoldsStructs (body_of objects.old)
+            ensures adds { AddsOrphan (HoldsStructs (body_of objects.old)
                 (map (λ element. element.draft) elements.now)) objects.old objects.new word_of result }
             ensures writes { let count = length elements.now in
-                Writes (TakesStructs 0 2 count) (ManyStructs 0 2 count)
+                Writes (TakesStructsWords 0 2 count) (ManyStructs 0 2 count)
                 objects.old objects.new result }
         {
             objects.draft_list(elements)
@@ -2695,7 +2695,7 @@ pub mod palette {
     impl Builder {
         /// Sets the field `colors`.
         ///
-        /// An object that it led to before stays in the bytes of the message.
+        /// An object that it pointed to before stays in the bytes of the message.
         pub fn set_colors(&mut self, value: Orphan<capnp_wire::primitive_list::Owned<u16>>)
             ensures words { self.new.draft.words ≡ self.old.draft.words }
             ensures pointers { self.new.draft.pointers
@@ -2713,7 +2713,7 @@ pub mod palette {
 
         /// Sets the field `names`.
         ///
-        /// An object that it led to before stays in the bytes of the message.
+        /// An object that it pointed to before stays in the bytes of the message.
         pub fn set_names(&mut self, value: Orphan<capnp_wire::list_list::Owned<text::Owned>>)
             ensures words { self.new.draft.words ≡ self.old.draft.words }
             ensures pointers { self.new.draft.pointers
@@ -2730,10 +2730,10 @@ pub mod palette {
         }
     }
 
-    /// Which pointer of the struct leads to `colors`, for `fields.get_pointer`.
+    /// Which pointer of the struct points to `colors`, for `fields.get_pointer`.
     pub const COLORS_POINTER: u16 = 0;
 
-    /// Which pointer of the struct leads to `names`, for `fields.get_pointer`.
+    /// Which pointer of the struct points to `names`, for `fields.get_pointer`.
     pub const NAMES_POINTER: u16 = 1;
 
     #[rattlefmt::skip]
@@ -2757,8 +2757,8 @@ pub mod palette {
         ensures { let pointer = root_of NAMES_DEFAULT in
             IsViewOf pointer
             (λ view. IsUpgradedPointers pointer (upgraded_pointers_of segments_of view.pointers))
-            (Accepts pointer TakesFirstPointers) (Refuses pointer DeclinesFirstPointers)
-            (Declines pointer DeclinesFirstPointers) result }
+            (Accepts pointer TakesFirstPointers) (ViewError pointer FirstPointersFormError)
+            (FormError pointer FirstPointersFormError) result }
     {
         capnp_wire::constant::view_of(&NAMES_DEFAULT)
     }
