@@ -1,4 +1,4 @@
--- The definitions at worked examples.
+-- The definitions at hand-computed examples.
 use Rattle.std.proofs.Common.{Some, None, inl, inr, ◌≡◌, ℕ, List, [], ◌∷◌, ◌++◌, length, refl, replicate, lit<, lit≤}
 use Rattle.std.specs.List.{concat}
 use Rattle.capnp_frame.specs.Prelude.{lengths, zero_padded_table, IsFrame, frame_bytes, Splits, RunsShort, StreamError}

@@ -1,4 +1,4 @@
--- What each call that asks a source keeps of it, beside what it returns (the private functions of a
+-- What each call that asks a source keeps of it, in addition to what it returns (the private functions of a
 -- reader).
 use Rattle.std.specs.Prelude.{◌≡◌, ◌⊎◌, ℕ, List, Option, Result, IfErr}
 use Rattle.capnp_frame.specs.declared.error.Error.{Error}
@@ -6,7 +6,7 @@ use Rattle.capnp_frame.specs.declared.error.ErrorKind.{ErrorKind}
 use Rattle.capnp_frame.specs.declared.error.ErrorKind.TheVariants.{DeviceFailed}
 use Rattle.capnp_frame.specs.Source.{Fails, Advances}
 
--- an error is the device's, or of a kind of which P holds
+-- an error is the device's, or of a kind for which P holds
 abbrev pub FailsOr : {X : Type 0} → Result X Error → (ErrorKind → Type 0) → Type 0
 FailsOr result P = IfErr result (λ error. (error.kind ≡ DeviceFailed) ⊎ P error.kind)
 

@@ -47,7 +47,7 @@ abbrev pub OrOutOfMemory : FlatForm → Type 0 → Type 0 → Type 0
 OrOutOfMemory (by_words empty) memory other = memory ⊎ other
 OrOutOfMemory by_fields memory other = other
 
--- where a message is, only a reader that takes memory may fail, and only for want of it, for more than one segment
+-- where a message is, only a reader that takes memory may fail: with `OutOfMemory`, for more than one segment
 abbrev pub AcceptsFlat : {X : Type 0} → FlatForm → List (List ℕ) → Result X Error → Type 0
 AcceptsFlat (by_words empty) message result = IfErr result (λ error. (error.kind ≡ OutOfMemory) × (1 < length message))
 AcceptsFlat by_fields message result = IsOk result
@@ -58,15 +58,14 @@ pub record ReadsFlat {X : Type 0} (rules : FlatRules) (bytes : List ℕ) (left :
     (segments : X → List (List ℕ)) (result : Result X Error) : Type 0 where
   -- the message that is returned is at the front, within the limit, and a slice moves just past it
   pub found : IfOk result (λ found. Leaves left (FoundBy rules (segments found) bytes))
-  -- a message that is there is returned, unless it has more than one segment and memory is lacking
+  -- a message that is there is returned, unless it has more than one segment and an allocation fails
   pub accepted : (message : List (List ℕ)) (rest : List ℕ) → FoundBy rules message bytes rest → AcceptsFlat rules.form message result
   -- a failure leaves a slice as it was
   pub unchanged : OnErr result (IfSome left (λ left. left ≡ bytes))
-  -- a reader fails for want of memory once a number of more than one segment is accepted, or with a line of the table
+  -- a reader fails with `OutOfMemory` once a number of more than one segment is accepted, or with a line of the table
   pub errors : IfErr result (λ error. OrOutOfMemory rules.form
       ((error.kind ≡ OutOfMemory) × AcceptsSeveral rules.form bytes) (RulesError rules error.kind bytes))
-  -- where a line is the first to hold, the call fails with that line's kind, unless memory is
-  -- lacking
+  -- where a line is the first to hold, the call fails with that line's kind, unless an allocation fails
   pub exact : (kind : ErrorKind) → RulesError rules kind bytes
       → IsErrAnd result (λ error. OrOutOfMemory rules.form (error.kind ≡ OutOfMemory) (error.kind ≡ kind))
 

@@ -1,4 +1,4 @@
--- What is kept of a table beside its buffer (src/serialize/no_alloc_buffer_segments.rt).
+-- What is kept of a table next to its buffer (src/serialize/no_alloc_buffer_segments.rt).
 use Rattle.std.specs.Prelude.{◌≡◌, ℕ, ◌+◌, ◌<◌, List, sum, slice_index}
 use Rattle.capnp_frame.specs.Front.{declared_lengths}
 

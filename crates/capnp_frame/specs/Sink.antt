@@ -11,7 +11,7 @@ Appending = List ℕ → List ℕ → Type 0
 abbrev pub Leaving : Type 1
 Leaving = List ℕ → List ℕ → Type 0
 
--- With which kinds a chunk may fail beside the device's, as a relation: `refuses chunk kind`.
+-- With which kinds a chunk may fail in addition to the device's, as a relation: `refuses chunk kind`.
 abbrev pub Declining : Type 1
 Declining = List ℕ → ErrorKind → Type 0
 
@@ -40,7 +40,7 @@ abbrev pub ChunksError : Declining → List (List ℕ) → ErrorKind → Type 0
 ChunksError refuses [] kind = ⊥
 ChunksError refuses (chunk ∷ chunks) kind = refuses chunk kind ⊎ ChunksError refuses chunks kind
 
--- `after` is `before` followed by bytes of which P holds
+-- `after` is `before` followed by bytes for which P holds
 abbrev pub Adds : (List ℕ → Type 0) → List ℕ → List ℕ → Type 0
 Adds P before after = (added : List ℕ) × P added × (after ≡ before ++ added)
 

@@ -9,8 +9,8 @@ use Rattle.capnp_frame.specs.Message.{lengths}
 use Rattle.capnp_frame.specs.Requests.{MessageFound}
 use Rattle.capnp_frame.specs.Source.{Giving, IfKnown, RequestError}
 
--- The result is that of a reader, of which `Reads` holds, with the lengths of a message in the
--- message's place.
+-- The result is a reader's, for which `Reads` holds, but with the lengths of a message in the message's
+-- place.
 abbrev pub SkipsMessage : (Result (Option (List (List ℕ))) Error → Type 0) → Result (Option (List ℕ)) Error → Type 0
 SkipsMessage Reads (Ok (Some ns)) = (message : List (List ℕ)) × (lengths message ≡ ns) × Reads (Ok (Some message))
 SkipsMessage Reads (Ok None) = Reads (Ok None)
@@ -27,6 +27,6 @@ Drops n raw rest = (n ≤ length raw) × (rest ≡ drop n raw)
 -- What is kept by a step that skips n bytes of a source.
 pub record SkipsBytes {S X : Type 0} (source : Ghosts S) (old new : S) (n : ℕ) (result : Result X Error) : Type 0 where
   pub dropped : OnOk result (IfKnown (source.unread old) (source.unread new) (Drops n))
-  -- a failure is the device's, or that of a request of as many bytes
+  -- a failure is the device's, or the source's for a request of as many bytes
   pub errors : FailsOr result (RequestError source.refuses n (source.unread old))
   pub asked : Asked source.unread source.failures source.same old new result

@@ -29,7 +29,7 @@ CompleteTableError rule limit kind table = (following : List ℕ) → LimitError
 -- padding, and fills in where each segment begins and ends.
 pub record ReadsLengths {S : Type 0} (source : Ghosts S) (old new : S) (rule : Padding) (limit : Option ℕ) (first : List ℕ)
     (indices : List (ℕ × ℕ)) (result : Result ℕ Error) : Type 0 where
-  -- the lengths between the indices are those of the table that is there
+  -- the lengths between the indices are the lengths in the table that is there
   pub table : OnOk result (IfKnown (source.unread old) (source.unread new) (RestFound rule source.gives first (map range_len indices)))
   pub ranges : IfOk result (AreRanges indices)
   pub bound : IfOk result (λ total. total < 2 ^ 42)
@@ -57,8 +57,8 @@ pub record FindsMessageSize (rule : Padding) (gives : Giving) (limit : Option �
   pub total_is : bytes ≡ 8 * sum (declared_lengths count buffer)
   pub within : KeepsLimit (declared_lengths count buffer) limit
 
--- What is kept, beside what is found, by a step that reads what comes next in a stream, or none at
--- its end. It takes memory where `takes` holds, and `lines` are those of the table of errors.
+-- What is kept, in addition to what is found, by a step that reads what comes next in a stream, or none at
+-- its end. It takes memory where `takes` holds, and `lines` are lines of the table of errors.
 pub record AsksNext {S X : Type 0} (source : Ghosts S) (old new : S) (rule : Padding) (takes : List ℕ → List ℕ → Type 0)
     (lines : ErrorKind → List ℕ → List ℕ → Type 0) (result : Result (Option X) Error) : Type 0 where
   pub none : IfOk result (λ found. IfNone found (IfSome (source.unread old) (λ raw. raw ≡ [])))
@@ -68,8 +68,8 @@ pub record AsksNext {S X : Type 0} (source : Ghosts S) (old new : S) (rule : Pad
   pub end : IfErr result (λ error. source.unread old ≡ Some [] → error.kind ≡ DeviceFailed)
   pub asked : Asked source.unread source.failures source.same old new result
 
--- What is kept by a step that reads the table of the next message, and returns the lengths that it declares, or none at the source's
--- end. No memory is taken for `kept` lengths.
+-- What is kept by a step that reads the table of the next message. It returns the lengths that the table
+-- declares, or none at the source's end. No memory is taken for `kept` lengths.
 pub record ReadsTable {S : Type 0} (source : Ghosts S) (old new : S) (rule : Padding) (limit : Option ℕ) (kept : ℕ)
     (result : Result (Option (List ℕ)) Error) : Type 0 where
   -- the table is there, and just its bytes are consumed

@@ -100,14 +100,15 @@ pub record CountFound (gives : Giving) (raw rest : List ℕ) : Type 0 where
 abbrev pub TakesForLengths : ℕ → Giving → List ℕ → List ℕ → Type 0
 TakesForLengths kept gives raw left = (is_found : CountFound gives raw left) × (kept < is_found.count)
 
--- Where a reader that allocates takes memory, and has some for this number of lengths and of bytes: for the lengths of more segments
--- than these, and than one, once their number is accepted, and for segments of more bytes once their table is, with the limit and the
--- padding. Only what it has asked for until then is consumed.
+-- Where a reader that allocates takes memory, though it has some for this number of lengths and of bytes. For
+-- the lengths of more segments than these, and than one, it does once their number is accepted; for segments
+-- of more bytes, once their table is, with the limit and the padding. Only what it has asked for until then
+-- is consumed.
 abbrev pub Outgrows : ℕ → ℕ → Padding → Giving → Option ℕ → List ℕ → List ℕ → Type 0
 Outgrows segments bytes rule gives limit raw left = TakesForLengths (max 1 segments) gives raw left
     ⊎ ((lengths : List ℕ) × TableFound rule gives lengths raw left × AreWithin lengths limit × (bytes < 8 * sum lengths))
 
--- where it takes memory and has none
+-- the same, of a reader that has no memory yet
 abbrev pub TakesMemory : Padding → Giving → Option ℕ → List ℕ → List ℕ → Type 0
 TakesMemory = Outgrows 0 0
 
@@ -131,7 +132,7 @@ IsProvidedReaderKind rule refuses kind = (kind ≡ DeviceFailed) ⊎ (kind ≡ B
     ⊎ ((raw : List ℕ) × (n : ℕ) × refuses raw n kind)
 
 -- the kinds of a reader that allocates, also where the unread bytes aren't known: the device's,
--- want of memory, its own, or one of the source
+-- `OutOfMemory`, its own, or one of the source
 abbrev pub IsReaderKind : Padding → Refusing → ErrorKind → Type 0
 IsReaderKind rule refuses kind = (kind ≡ DeviceFailed) ⊎ (kind ≡ OutOfMemory)
     ⊎ ((count : ℕ) × IsOutOfRange count × (kind ≡ InvalidNumberOfSegments count))

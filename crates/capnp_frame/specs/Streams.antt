@@ -32,9 +32,9 @@ pub record StreamRules : Type 1 where
   -- where a reader that allocates takes memory, within a limit of words: `takes_memory limit raw
   -- left`
   pub takes_memory : Option ℕ → List ℕ → List ℕ → Type 0
-  -- the table of errors: `refuses limit room kind raw left` says that within a limit of words, and
-  -- the bytes of a caller-provided buffer, reading fails with `kind` and leaves `left` unread, by the
-  -- first line that holds
+  -- the table of errors: `fails limit room kind raw left` says that within a limit of words, and the bytes of
+  -- a caller-provided buffer, reading fails with `kind` and leaves `left` unread, by the first line that
+  -- holds
   pub fails : Option ℕ → Option ℕ → ErrorKind → List ℕ → List ℕ → Type 0
   -- the kinds with which a reader that allocates may fail, also where the unread bytes aren't known
   pub kinds : ErrorKind → Type 0
@@ -73,17 +73,17 @@ pub record ReadsStream {S : Type 0} (source : Ghosts S) (old new : S) (rules : S
   pub whole : IfOk result (λ found. IfSome found (AllByRecursion IsWholeWords))
   -- None is returned only where nothing is unread
   pub none : IfOk result (λ found. IfNone found (IfSome (source.unread old) (λ raw. raw ≡ [])))
-  -- where a message is, the call fails only with the device's failure or for want of memory
+  -- where a message is, the call fails only with the device's failure or with `OutOfMemory`
   pub accepted : IfSome (source.unread old) (λ raw. (segments : List (List ℕ)) (rest : List ℕ) → rules.finds segments raw rest
       → IsWithin segments limit → IfErr result (λ error. (error.kind ≡ DeviceFailed) ⊎ (error.kind ≡ OutOfMemory)))
-  -- where nothing is unread, only with the device's failure
+  -- where nothing is unread, it fails only with the device's failure
   pub end : IfErr result (λ error. source.unread old ≡ Some [] → error.kind ≡ DeviceFailed)
-  -- it fails with the device's failure, for want of memory where memory is taken, or with a line of the table of errors
+  -- it fails with the device's failure, with `OutOfMemory` where memory is taken, or with a line of the table of errors
   pub errors : IfErr result (λ error. (error.kind ≡ DeviceFailed)
       ⊎ ((error.kind ≡ OutOfMemory) × IfKnown (source.unread old) (source.unread new) (rules.takes_memory limit))
       ⊎ IfKnown (source.unread old) (source.unread new) (rules.fails limit None error.kind))
-  -- where a line is the first to hold, the call fails with that line's kind, unless the device
-  -- fails or memory is lacking
+  -- where a line is the first to hold, the call fails with that line's kind, unless the device or an
+  -- allocation fails
   pub exact : IfSome (source.unread old) (λ raw. (kind : ErrorKind) (left : List ℕ) → rules.fails limit None kind raw left
       → IsErrAnd result (λ error. (error.kind ≡ DeviceFailed) ⊎ (error.kind ≡ OutOfMemory) ⊎ (error.kind ≡ kind)))
   pub kinds : IfErr result (λ error. rules.kinds error.kind)
@@ -107,7 +107,7 @@ pub record ReadsStreamInto {S : Type 0} (source : Ghosts S) (old new : S) (rules
   pub accepted : IfSome (source.unread old) (λ raw. (segments : List (List ℕ)) (rest : List ℕ) → rules.finds segments raw rest
       → IsWithin segments limit → table_size (length segments) + 8 * size_in_words segments ≤ room
       → IfErr result (λ error. error.kind ≡ DeviceFailed))
-  -- where nothing is unread and the buffer has a word, only with the device's failure
+  -- where nothing is unread and the buffer has a word, it fails only with the device's failure
   pub end : IfErr result (λ error. source.unread old ≡ Some [] → 8 ≤ room → error.kind ≡ DeviceFailed)
   -- a buffer under 8 bytes asks the source for nothing
   pub short : room < 8 → (new ≡ old) × FailsWith result BufferNotLargeEnough

@@ -57,8 +57,8 @@ pub enum ErrorKind {
     /// The length of a chunk to be packed or unpacked is not a multiple of eight bytes.
     #[error("NotWholeWords")]
     NotWholeWords,
-    /// An object or a segment of this many words is too large, or has no room. 4294967295 is said
-    /// of more words, too, and 65536 of a struct with more data words or pointers than fit.
+    /// An object or a segment of this many words is too large, or has no room. More words are
+    /// reported as 4294967295, and a struct with more data words or pointers than fit as 65536.
     #[error("AllocationTooLarge({0})")]
     AllocationTooLarge(u32),
     /// The allocator's one segment is handed out already.

@@ -94,7 +94,7 @@ pub trait Read {
     ghost keeps: { IsPreorder same };
 }
 
-/// A plain source (its bytes are taken as they are) that shows the bytes that it gives next.
+/// A plain source (it gives its bytes unchanged) that shows the bytes that it gives next.
 pub trait BufRead: Read {
     /// The bytes that `fill_buf` showed and `consume` may take.
     ghost shown: { Self → List ℕ };
@@ -140,7 +140,7 @@ pub trait Write {
     /// Which part of a chunk a call that fails may leave, after the bytes taken so far.
     ghost leaves: { Leaving };
 
-    /// With which kinds a chunk may fail, beside the device's.
+    /// With which kinds a chunk may fail, in addition to the device's.
     ghost refuses: { Declining };
 
     /// The sink is sure to take this many further bytes, however they are cut into chunks.

@@ -58,8 +58,8 @@ pub fn plain_requests_take_a_frame()
         ↔ ((encoding : List ℕ) × IsFrame rule encoding segments × (raw ≡ encoding ++ rest)) }
 {}
 
-/// Reading a message of more words than the limit fails with `MessageTooLarge`, of how many words
-/// it has.
+/// Reading a message of more words than the limit fails with `MessageTooLarge`, with the number of
+/// its words.
 pub fn message_past_the_limit_fails<R: Read>()
     ensures { (rule : Padding) (limit : Option ℕ) (m : List (List ℕ)) (raw rest : List ℕ) →
         MessageFound rule R.gives m raw rest → length m < SEGMENTS_COUNT_LIMIT → IsTooLarge (lengths m) limit →
@@ -118,14 +118,14 @@ pub fn indexes_are_below_the_length()
         IsSome (slice_get segments index) ↔ (index < length segments) }
 {}
 
-/// A source or sink that never counts a failure is never blamed for one: no call over a slice as a
-/// source, or over a vector or a caller-provided buffer as a sink, fails with `DeviceFailed`.
+/// A source or sink that never counts a failure is never blamed for one. So no call over a slice as
+/// a source, or over a vector or a caller-provided buffer as a sink, fails with `DeviceFailed`.
 pub fn slices_never_fail()
     ensures { (kind : ErrorKind) → (kind ≡ ErrorKind.DeviceFailed → Fails 0 0) →
         kind ≢ ErrorKind.DeviceFailed }
 {}
 
-/// Writing a message to a vector fails only for want of memory or for too many segments.
+/// Writing a message to a vector fails only with `OutOfMemory`, or for too many segments.
 pub fn vectors_only_run_out_of_memory()
     ensures { (kind : ErrorKind) (segments : List (List ℕ)) →
         (kind ≡ ErrorKind.DeviceFailed → Fails 0 0) →

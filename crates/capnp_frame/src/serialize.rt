@@ -8,9 +8,9 @@
 //! The first of these that holds decides with which error a reader fails:
 //!
 //! - the first word of the table is cut;
-//! - the number of segments isn't from 1 to 511: `InvalidNumberOfSegments`, of how many;
+//! - the number of segments isn't from 1 to 511: `InvalidNumberOfSegments`, with this number;
 //! - the rest of the table is cut;
-//! - the segments have more words than the limit: `MessageTooLarge`, of how many;
+//! - the segments have more words than the limit: `MessageTooLarge`, with the number of words;
 //! - the padding isn't zero: `NonZeroPadding`, which a `_lenient` form never returns, nor one that
 //!   is given rules with `Padding::Any`;
 //! - the segments are cut.
@@ -24,10 +24,10 @@
 //!
 //! `DeviceFailed` comes only where a source's device failed in the call. A reader that takes memory
 //! fails with `OutOfMemory` where there is none, after the number of segments is accepted; over a
-//! slice or a buffer it takes none for one segment. One into a caller-provided buffer fails with
-//! `BufferNotLargeEnough` instead: first of all where the buffer is shorter than 8 bytes; where it
-//! is shorter than the table, once the number of segments is accepted; and where it is shorter than
-//! table and segments, once the padding is accepted.
+//! slice or a buffer it takes none for one segment. A reader into a caller-provided buffer fails
+//! with `BufferNotLargeEnough` instead. It tests first of all that the buffer has 8 bytes. Once the
+//! number of segments is accepted, it tests that the table fits, and once the padding is accepted,
+//! that table and segments do.
 //!
 //! [standard stream framing]: https://capnproto.org/encoding.html#serialization-over-a-stream
 mod buffer_segments;

@@ -55,7 +55,7 @@ memory_chunk_error [] kind p = absurd p
 memory_chunk_error (x ∷ xs) kind (inl p) = p
 memory_chunk_error (x ∷ xs) kind (inr p) = memory_chunk_error xs kind p
 
--- writing a message to a vector fails only for too many segments, or for want of memory
+-- writing a message to a vector fails only for too many segments, or when out of memory
 pub vector_memory_alone : (segments : List (List ℕ)) (kind : ErrorKind) → (kind ≡ DeviceFailed → Fails 0 0)
     → (kind ≡ DeviceFailed) ⊎ ChunksError (ByKind OutOfMemory) (chunks segments) kind ⊎ UnwrittenError segments kind
     → SegmentCountError segments kind ⊎ (kind ≡ OutOfMemory)

@@ -93,7 +93,7 @@ overwritten_parts ns items segments len w long same parts =
     let lens : lengths segments ≡ ns = ap lengths (sym parts) ∙ (lengths-cut ns items long).0 in
     ap (λ k. cut ns (take k (w ++ drop (length w) items))) same ∙ ap (λ l. cut ns (overwritten l w)) (sym bytes) ∙ ap (λ l. cut l (overwritten (concat segments) w)) (sym lens)
 
--- the requests of one source give a message where those of another do
+-- the requests of one source give a message where the requests of another do
 pub MessageFound-map : {rule : Padding} {gives others : Giving}
     (given : (raw : List ℕ) (n : ℕ) (bytes rest : List ℕ) → gives raw n bytes rest → others raw n bytes rest)
     (segments : List (List ℕ)) (raw rest : List ℕ) → MessageFound rule gives segments raw rest

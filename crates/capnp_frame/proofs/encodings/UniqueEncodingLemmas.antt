@@ -91,7 +91,7 @@ pub frames_part : {rule also : Padding} (encoding other rest left : List ℕ) (s
     → IsFrame also other others → encoding ++ rest ≡ other ++ left → (encoding ≡ other) × (segments ≡ others) × (rest ≡ left)
 frames_part encoding other rest left segments others is so = encodings_part Any splitting (plain_requests Any) encoding other rest left segments others (any_frame encoding segments is) (any_frame other others so)
 
--- chunks one after another that are added as they are
+-- chunks one after another that are added unchanged
 pub chunks_joined : (chunks : List (List ℕ)) (encoding : List ℕ) → AppendsAll AppendsSame chunks encoding ↔ (encoding ≡ concat chunks)
 chunks_joined [] encoding = (λ all. all, λ all. all)
 chunks_joined (p ∷ ps) encoding = (

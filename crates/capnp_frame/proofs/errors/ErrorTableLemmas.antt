@@ -167,7 +167,7 @@ Asks-map : {gives others : Giving} {refuses also : Refusing}
 Asks-map given errors kind raw n F G f (inl p) = inl (errors raw n kind p)
 Asks-map given errors kind raw n F G f (inr p) = inr (p.0, p.1, given raw n p.0 p.1 p.2, f p.0 p.1 p.3)
 
--- the lines of one source are those of another that gives the same and fails in the same way
+-- a line of one source is a line of another that gives the same and fails in the same way
 pub StartError-map : (rule : Padding) {gives others : Giving} {refuses also : Refusing}
     (given : (raw : List ℕ) (n : ℕ) (bytes rest : List ℕ) → gives raw n bytes rest → others raw n bytes rest)
     (errors : (raw : List ℕ) (n : ℕ) (kind : ErrorKind) → refuses raw n kind → also raw n kind)

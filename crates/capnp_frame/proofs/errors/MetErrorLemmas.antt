@@ -106,7 +106,7 @@ rest_met rule {gives} {refuses} laws F limit room kind old mid new word count ta
       ),
     )) given fails)
 
--- the kinds met there are those of a reader
+-- the kinds met there are a reader's
 
 pub reader_kind : (rule : Padding) (refuses : Refusing) (kind : ErrorKind) → IsTableKind rule refuses kind → IsReaderKind rule refuses kind
 reader_kind rule refuses kind (inl failed) = inl failed
@@ -158,7 +158,7 @@ pub or_memory : {F G R : Type 0} → F ⊎ R → F ⊎ G ⊎ R
 or_memory (inl p) = inl p
 or_memory (inr p) = inr (inr p)
 
--- want of memory for the lengths, once their number is accepted
+-- memory is taken for the lengths once their number is accepted
 pub lengths_taken : (gives : Giving) (kept count : ℕ) (word : List ℕ) (old new : Option (List ℕ)) → DeclaresAccepted word count → kept < count
     → IfKnown old new (λ raw rest. gives raw 8 word rest) → IfKnown old new (TakesForLengths kept gives)
 lengths_taken gives kept count word old new accepted more given = IfKnown-weaker old new (λ raw rest here. (
@@ -166,7 +166,7 @@ lengths_taken gives kept count word old new accepted more given = IfKnown-weaker
   more,
 )) given
 
--- want of memory stays what it is
+-- out of memory stays out of memory
 pub table_met_skipping : (rule : Padding) (F M : Type 0) (gives : Giving) (refuses : Refusing) (limit : Option ℕ) (kind : ErrorKind)
     (old new : Option (List ℕ)) → F ⊎ M ⊎ IfKnown old new (TableError rule gives refuses limit None kind) → F
     ⊎ M ⊎ IfKnown old new (StreamError rule gives refuses limit None kind)

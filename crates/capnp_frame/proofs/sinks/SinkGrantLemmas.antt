@@ -27,7 +27,7 @@ stays_granted grants a more given = let same : 0 + more ≡ more = omega arith i
 pub stays_as : {S : Type 0} (grants : S → ℕ → Type 0) (a b : S) (n m : ℕ) → n ≡ m → StaysGranted grants a b n → StaysGranted grants a b m
 stays_as grants a b n m same stays more given = stays more (subst (λ k. grants a (k + more)) (sym same) given)
 
--- and where nothing is lacked the call succeeds, whatever another might lack
+-- and a call that never fails where these bytes are granted succeeds, whatever kinds `other` allows
 pub granted_as : {S X : Type 0} (grants : S → ℕ → Type 0) (a b : S) (n m : ℕ) (other : ErrorKind → Type 0) (r : Result X Error) → n ≡ m
     → TakesGranted grants a b n NoError r → TakesGranted grants a b m other r
 granted_as grants a b n m other (Ok x) same takes = stays_as grants a b n m same takes
@@ -47,7 +47,7 @@ granted_after grants a b c n m k other (Err e) all first second = λ more given.
     let parts : k + more ≡ n + (m + more) = omega (arith, all) in
     absurd (second more (first (m + more) (subst (grants a) parts given))).0
 
--- a call that fails is lacked something, also where more is granted
+-- what a failure shows where n bytes are granted it shows where m are, which are no fewer
 pub granted_first : {S : Type 0} (grants : S → ℕ → Type 0) (a b : S) (n m : ℕ) (early other : Type 0) → n ≤ m → (early → other)
     → ((more : ℕ) → grants a (n + more) → early × (b ≡ a)) → (more : ℕ) → grants a (m + more) → other × (b ≡ a)
 granted_first grants a b n m early other part wider takes more given =

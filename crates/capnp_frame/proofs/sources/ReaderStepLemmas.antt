@@ -149,7 +149,7 @@ first_failed source rule limit kept a b error (Err own) is errors end asked =
       asked = record { failed = asked.failed; advances = asked.advances };
     }))
 
--- memory is lacking for the lengths, more than are kept,
+-- an allocation fails for the lengths, which are more than are kept,
 pub memory_failed : {S : Type 0} (source : Ghosts S) (rule : Padding) (limit : Option ℕ) (kept : ℕ)
     (laws : IsSource source.gives source.refuses) (a b : S) (word : List ℕ) (count : ℕ) (result : Result (Option (List ℕ)) Error)
     → IsErrAnd result (λ own. own.kind ≡ OutOfMemory) → IfKnown (source.unread a) (source.unread b) (λ raw rest. source.gives raw 8 word rest)

@@ -6,9 +6,9 @@ ghost use Rattle.capnp_frame.specs.declared.message.options.TheConstants.{DEFAUL
 /// Limits against messages that would cost a reader too much.
 #[derive(Clone, Copy, Debug)]
 pub struct ReaderOptions {
-    /// The most words that a message may have, and that readers of it may visit. Pointers may lead
-    /// to the same words again and again, so a limit on a message's size alone would not do. `None`
-    /// sets no limit.
+    /// The most words that a message may have, and that readers of it may visit. Many pointers may
+    /// point to the same words, so a limit on a message's size alone would not do. `None` sets no
+    /// limit.
     pub traversal_limit_in_words: Option<usize>,
 
     /// How deep objects may be nested. The limit keeps a message from using up the machine's stack.

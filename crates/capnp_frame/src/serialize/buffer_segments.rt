@@ -76,7 +76,7 @@ impl<T: AsBytes> BufferSegments<T> {
 impl<T: AsBytes + Drop> BufferSegments<T> {
     /// Finds the message at the front of a buffer. Any bytes may follow it.
     ///
-    /// Memory is taken for the lengths of more than one segment alone. Fails as the module
+    /// Memory is taken only for the lengths of more than one segment. Fails as the module
     /// `serialize` lists: with `EmptyBuffer` for no bytes, with `NonZeroPadding` where the padding
     /// isn't zero.
     pub fn new(alloc: Global, buffer: T, options: ReaderOptions) -> Result<BufferSegments<T>>
@@ -137,7 +137,7 @@ impl<T: AsBytes> ReaderSegments for BufferSegments<T> {
 
 /// Finds the message at the front of a slice, and moves the slice after it.
 ///
-/// No segment is copied, and memory is taken for the lengths of more than one segment alone. Fails
+/// No segment is copied, and memory is taken only for the lengths of more than one segment. Fails
 /// as the module `serialize` lists: with `EmptySlice` for no bytes, with `NonZeroPadding` where the
 /// padding isn't zero. The slice is then as it was.
 pub fn take_segments<'a>(

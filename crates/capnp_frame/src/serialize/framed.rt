@@ -8,12 +8,12 @@ use crate::serialize::provided_stream::read_into;
 use crate::serialize::segment_table::{TableRules, table_len};
 use crate::serialize::segment_table_info::NoAllocSegmentTableInfo;
 
-/// Reads the next message of a source into a caller-provided buffer, which then begins with the
-/// framed encoding that a writer writes, and returns what its table says, or `None` where nothing is
-/// unread.
+/// Reads the next message of a source into a caller-provided buffer, and returns what its table
+/// says, or `None` where nothing is unread. The buffer then begins with the framed encoding that a
+/// writer writes.
 ///
-/// It asks the source for the same chunks, tests the buffer in the same way, and fails as
-/// `try_read_segments_into_with_rules` does. No memory is taken.
+/// It asks the source for the same chunks as `try_read_segments_into_with_rules`, tests the buffer
+/// in the same way, and fails as that does. No memory is taken.
 pub fn try_read_framed_into<R: Read>(
     source: &mut R,
     rules: TableRules,

@@ -28,9 +28,9 @@ use crate::serialize::stream_table::{complete_table, read_chunk, read_first};
 /// The source is asked for three chunks, as by `try_read_segments`, and only these are consumed. No
 /// memory is taken.
 ///
-/// Fails as the module `serialize` lists: with `BufferNotLargeEnough` where the buffer is shorter
-/// than 8 bytes, than the table, or than table and segments, which is tested before each chunk;
-/// with `NonZeroPadding`, the table consumed, where the padding isn't zero.
+/// Fails as the module `serialize` lists. `BufferNotLargeEnough` comes where the buffer is shorter
+/// than 8 bytes, than the table, or than table and segments, which is tested before each chunk.
+/// `NonZeroPadding` comes, with the table consumed, where the padding isn't zero.
 pub fn try_read_segments_into<'b, R: Read>(
     source: &mut R,
     buffer: &'b mut [u8],

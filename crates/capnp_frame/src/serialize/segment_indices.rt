@@ -8,8 +8,9 @@ use std::slice;
 
 /// Where each segment begins and ends, in words from the start of the first.
 ///
-/// Speed: most messages have one segment, whose range is kept here, so a message that is read takes
-/// memory for its bytes alone, and one in a buffer none (`log` asks once a message, not twice).
+/// Speed: most messages have one segment, whose range is kept here. So a message that is read takes
+/// memory for its bytes alone, and one in a buffer none (`log` allocates once a message, not
+/// twice).
 #[derive(Drop)]
 pub(crate) struct SegmentIndices {
     // Where the first segment begins and the last ends: the range of one that is alone.

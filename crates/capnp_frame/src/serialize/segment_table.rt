@@ -14,7 +14,7 @@ use crate::message::ReaderOptions;
 /// The limit keeps a hostile table from asking for much memory before any segment is there.
 pub const SEGMENTS_COUNT_LIMIT: usize = 512;
 
-/// The length of the longest table that is read, in bytes: that of 511 segments.
+/// The length of the longest table that is read, of 511 segments, in bytes.
 pub(crate) const LONGEST_TABLE: usize = 4 * SEGMENTS_COUNT_LIMIT;
 
 /// What a reader accepts as the padding of a segment table: the four bytes after an even number of

@@ -1,4 +1,4 @@
-//! Skipping messages of a source, of which only the lengths of the segments are returned.
+//! Skipping messages of a source: only the lengths of their segments are returned.
 ghost use Rattle.std.specs.Prelude.{◌≡◌, ◌-◌, ◌*◌, ◌<◌, ◌≤◌, [], length, IfOk, IfErr, IfSome};
 ghost use Rattle.capnp_frame.specs.Source.{IfKnown};
 ghost use Rattle.capnp_frame.specs.Asking.{Asked};
@@ -21,7 +21,7 @@ const LONG: usize = 32768;
 ///
 /// It returns, consumes and fails as `try_read_segments_reusing` does by these rules, but takes no
 /// memory for the segments. The lengths are put into the memory of `lengths`, whatever these are,
-/// which grows where it is too small: so it fails with `OutOfMemory` only for more segments than
+/// which grows where it is too small. So it fails with `OutOfMemory` only for more segments than
 /// these are, and then the table's first word alone is consumed.
 pub fn try_skip_segments<R: BufRead>(
     source: &mut R,

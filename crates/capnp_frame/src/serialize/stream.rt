@@ -57,9 +57,9 @@ pub fn try_read_segments_lenient<R: Read>(
 /// earlier message, which grows where it is too small.
 ///
 /// Fails as the module `serialize` lists: with `MessageTooLarge` where the segments have more words
-/// than the limit; with `NonZeroPadding`, the table consumed, where `Padding::Zero` alone is
-/// accepted and the padding isn't zero; with `OutOfMemory` only for more bytes than the segments of
-/// `spare` have, or for more segments than one and than `spare` has.
+/// than the limit, and with `NonZeroPadding`, the table consumed, where `Padding::Zero` alone is
+/// accepted and the padding isn't zero. It fails with `OutOfMemory` only for more bytes than the
+/// segments of `spare` have, or for more segments than one and than `spare` has.
 pub fn try_read_segments_reusing<R: Read>(
     source: &mut R,
     rules: TableRules,

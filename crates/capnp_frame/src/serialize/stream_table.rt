@@ -47,17 +47,17 @@ pub(crate) fn read_indices<R: Read>(
 }
 
 /// Reads the next segment table of a source, and returns the lengths of the segments, in words, or
-/// `None` where nothing is unread: the first step of a reader that takes the segments in a way of
-/// its own.
+/// `None` where nothing is unread. It is the first step of a reader that takes the segments in a
+/// way of its own.
 ///
 /// The source is asked for the first word of the table, and for its other words where it has any,
 /// and nothing else is consumed. The lengths are put into the memory of `lengths`, whatever these
 /// are, which grows where they are fewer than there are segments.
 ///
-/// Fails as the module `serialize` lists, but for segments that are cut: with `MessageTooLarge`
-/// where they have more words than the limit, with `NonZeroPadding` where `Padding::Zero` alone is
-/// accepted and the padding isn't zero, and, the table's first word alone consumed, with
-/// `OutOfMemory` where the memory can't grow.
+/// Fails as the module `serialize` lists, but for segments that are cut. It fails with
+/// `MessageTooLarge` where they have more words than the limit, and with `NonZeroPadding` where
+/// `Padding::Zero` alone is accepted and the padding isn't zero. Where the memory can't grow, it
+/// fails with `OutOfMemory`, the table's first word alone consumed.
 pub fn read_table<R: Read>(
     source: &mut R,
     rules: TableRules,

@@ -16,9 +16,10 @@ use std::alloc::Global;
 /// Writes a message: the first word of its table, with two segments or more the table's other words
 /// as one chunk, and then each segment as a chunk ("Serialization Over a Stream").
 ///
-/// Fails with `InvalidNumberOfSegments`, of how many there are, for more than 511 segments, before
-/// all else; with `OutOfMemory`, from four segments on and before anything is written, where there
-/// is no memory for the table; and else as the sink does, which never rejects what it `grants`.
+/// Fails with `InvalidNumberOfSegments`, with their number, for more than 511 segments, before all
+/// else. From four segments on it fails with `OutOfMemory` where there is no memory for the table,
+/// before anything is written. Else it fails as the sink does, which never rejects what it
+/// `grants`.
 pub fn write_segments<W: Write, S: ReaderSegments>(
     alloc: Global,
     sink: &mut W,
@@ -34,7 +35,7 @@ pub fn write_segments<W: Write, S: ReaderSegments>(
 
 /// Returns the framed encoding of a message, in bytes.
 ///
-/// Fails with `InvalidNumberOfSegments`, of how many there are, for more than 511 segments, before
+/// Fails with `InvalidNumberOfSegments`, with their number, for more than 511 segments, before
 /// memory is taken, and else with `OutOfMemory` alone.
 pub fn segments_to_words<S: ReaderSegments>(alloc: Global, segments: &S) -> Result<Vec<u8>>
     requires { IsWritable (S.segments segments.now) }
@@ -101,7 +102,7 @@ fn write_table<W: Write, S: ReaderSegments>(alloc: Global, sink: &mut W, segment
     write_in_parts(sink, &table)
 }
 
-// Writes the first word of a table, and where it has more the others.
+// Writes the first word of a table, and then its other words where it has any.
 fn write_in_parts<W: Write>(sink: &mut W, table: &[u8]) -> Result<()>
     requires { 8 ≤ length table.now }
     ensures writes { WritesTo W.Write sink.old sink.new

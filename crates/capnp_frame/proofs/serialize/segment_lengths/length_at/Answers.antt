@@ -1,4 +1,4 @@
--- The length is that of its range.
+-- The length is the length of its range.
 use Rattle.std.proofs.Common.{rules, arith, refl, sym, ap, ℕ, ◌∙◌, ◌*◌, ◌<◌, ◌≤◌, length, map, replicate}
 use Rattle.std.proofs.lemmas.List.{length-map, length-replicate}
 use Rattle.std.proofs.lemmas.Option.{slice_get-map, slice_get_past, slice_get_read}

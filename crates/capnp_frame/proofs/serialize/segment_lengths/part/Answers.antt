@@ -1,4 +1,4 @@
--- The range of this number is that of its part.
+-- The range of this number is the range of its part.
 use Rattle.std.proofs.Common.{rules, arith, refl, sym, map}
 use Rattle.capnp_frame.specs.Prelude.{range_len, cut}
 use Rattle.capnp_frame.proofs.tables.RunningSumLemmas.{ShowsPart, shows, shows_none}

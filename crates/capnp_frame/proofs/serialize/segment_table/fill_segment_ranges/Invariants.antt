@@ -1,4 +1,4 @@
--- The indices so far are those of the lengths before the index, and end at their sum.
+-- The indices so far are the ranges of the lengths before the index, and end at their sum.
 use Rattle.std.proofs.Common.{◌≡◌, ◌*◌, ◌≤◌, ◌^◌, map, take}
 use Rattle.capnp_frame.specs.Prelude.{declared_lengths, SpellsLengths, range_len, AreRanges}
 use Rattle.capnp_frame.proofs.serialize.segment_table.fill_segment_ranges.Given as goal

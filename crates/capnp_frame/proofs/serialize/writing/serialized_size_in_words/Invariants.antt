@@ -1,4 +1,4 @@
--- The words so far are those of the table and of the segments before the index.
+-- The words so far are the words of the table and of the segments before the index.
 use Rattle.std.proofs.Common.{◌≡◌, length, ◌+◌, ◌-◌, ◌/◌, ◌≤◌, ◌<◌, ◌^◌, take}
 use Rattle.capnp_frame.specs.Prelude.{size_in_words}
 use Rattle.capnp_frame.proofs.serialize.writing.serialized_size_in_words.Given as goal
