@@ -1,4 +1,4 @@
--- The definitions at worked examples.
+-- The definitions at hand-computed examples.
 use Rattle.std.proofs.Common.{inl, inr, subst, ◌-◌, ◌%◌, ◌≡◌, ℕ, ◌<◌, List, [], ◌∷◌, ◌++◌, refl, replicate, lit<, lit≤, arith}
 use Rattle.capnp_frame.specs.declared.error.ErrorKind.{ErrorKind}
 use Rattle.capnp_frame.specs.declared.error.ErrorKind.TheVariants.{FailedToFillTheWholeBuffer, PrematureEndOfPackedInput, PackedInputDidNotEndCleanlyOnASegmentBoundary, NotWholeWords}

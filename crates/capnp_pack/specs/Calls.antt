@@ -1,5 +1,5 @@
--- What the private functions of a packer keep of their sink, and those of an unpacker of their
--- source.
+-- What the private functions of a packer keep of their sink, and the private functions of an unpacker of
+-- their source.
 use Rattle.std.specs.Prelude.{◌≡◌, ℕ, List, [], Option, Some, Result, IfOk, OnErr, IfErr, IfSome, IfNone}
 use Rattle.capnp_frame.specs.declared.error.Error.{Error}
 use Rattle.capnp_frame.specs.declared.error.ErrorKind.{ErrorKind}
@@ -9,15 +9,15 @@ use Rattle.capnp_frame.specs.declared.io.Write.{Ghosts as Sink}
 use Rattle.capnp_frame.specs.Prelude.{Asked, FailsOr, Adds, AnyChunkError, Grows, IfKnown, Fails}
 use Rattle.capnp_pack.specs.Steps.{LeavesParts}
 
--- of some bytes of which `remains` holds, the first parts are handed on, and of the next part what
--- the sink leaves of it
+-- of some bytes for which `remains` holds, the first parts are handed on, and of the next part what the sink
+-- leaves of it
 abbrev pub LeavesOf : {S : Type 0} → Sink S → S → S → (List ℕ → Type 0) → Type 0
 LeavesOf sink old new remains = (encoding : List ℕ) × remains encoding
     × IfKnown (sink.written old) (sink.written new) (Adds (LeavesParts sink.appends sink.leaves encoding))
 
--- A call that hands bytes on to a sink. `sink` is what is seen of the sink (the members of the
--- trait Write), `old` and `new` are the sink before the call and after it. `remains` holds of the
--- bytes that are to be handed on, and `hands` of what is returned.
+-- A call that hands bytes on to a sink. `sink` is what is seen of the sink (the members of the trait Write),
+-- `old` and `new` are the sink before the call and after it. `remains` holds of the bytes that are to be
+-- handed on, and `hands` of what is returned.
 pub record HandsOn {S X : Type 0} (sink : Sink S) (old new : S) (remains : List ℕ → Type 0) (hands : X → Type 0) (result : Result X Error) : Type 0 where
   pub handed : IfOk result hands
   -- where the call fails, only the start of these bytes is handed on, without a gap
@@ -29,9 +29,9 @@ pub record HandsOn {S X : Type 0} (sink : Sink S) (old new : S) (remains : List 
   -- what was written before stays at the front
   pub grows : Grows sink.written sink.failures sink.same old new
 
--- A call that takes bytes from a source. `source` is what is seen of the source (the members of the
--- trait Read), `finds` holds of what is returned, and `refuses` of the kinds that the call may fail
--- with beside the device's.
+-- A call that takes bytes from a source. `source` is what is seen of the source (the members of the trait
+-- Read), and `finds` holds of what is returned. `refuses` holds of the kinds that the call may fail with in
+-- addition to the device's.
 pub record TakesFrom {S X : Type 0} (source : Source S) (old new : S) (finds : X → Type 0) (refuses : ErrorKind → Type 0)
     (result : Result X Error) : Type 0 where
   pub found : IfOk result finds

@@ -14,7 +14,7 @@ zero_bytes word = count_by (λ byte. byte == 0) word
 
 -- One step of a packed encoding.
 pub data Group : Type 0 where
-  -- a tag, and a word of which it marks some bytes
+  -- a tag that marks some bytes of a word, and the word
   tagged : (tag : ℕ) (word : List ℕ) → Group
   -- tag 0: a zero word, and a given number of further ones
   zeros : (further : ℕ) → Group

@@ -1,7 +1,7 @@
 //! Packed bytes on their way to a sink.
 //!
-//! They are collected in a buffer, of which the first bytes are used. A group adds at most 10 bytes:
-//! a tag, a word and a count.
+//! They are collected in a buffer, whose first bytes are used. A group adds at most 10 bytes: a
+//! tag, a word and a count.
 ghost use Rattle.std.specs.Prelude.{◌≡◌, ℕ, ◌+◌, ◌<◌, ◌≤◌, [], ◌∷◌, ◌++◌, IsOk, length, take, count_ones};
 ghost use Rattle.capnp_frame.specs.Prelude.{IfKnown};
 ghost use Rattle.capnp_pack.specs.Calls.{HandsOn};

@@ -77,7 +77,7 @@ pub fn packed_encoding_is_short()
         length encoding ≤ 8 * n + (n + 3) / 2 }
 {}
 
-/// What a plain sink gets of a chunk that is written packed is exactly the packed encoding.
+/// Where a chunk is written packed, a plain sink gets exactly its packed encoding.
 pub fn plain_sink_gets_the_packed_encoding()
     ensures { (chunk encoding : List ℕ) → AppendsPacked AppendsSame chunk encoding ↔ Packs chunk encoding }
 {}

@@ -17,10 +17,12 @@ use capnp_frame::{Error, ErrorKind, Result};
 /// consumes just these.
 ///
 /// Fails with `NotWholeWords` for a request that isn't whole words, with nothing read. Else the
-/// first of these errors decides, however the source cuts its bytes: `PrematureEndOfPackedInput`
-/// where a byte of a group, or a later group of the chunk, is missing; `FailedToFillTheWholeBuffer`
-/// where the words of a literal run are cut; and `PackedInputDidNotEndCleanlyOnASegmentBoundary`
-/// where a run goes past the end of the chunk.
+/// first of these errors decides, however the source cuts its bytes:
+///
+/// - `PrematureEndOfPackedInput`, where a byte of a group, or a later group of the chunk, is
+///   missing;
+/// - `FailedToFillTheWholeBuffer`, where the words of a literal run are cut;
+/// - `PackedInputDidNotEndCleanlyOnASegmentBoundary`, where a run goes past the end of the chunk.
 ///
 /// ```
 /// let mut source = [0x51, 8, 3, 2].as_slice();

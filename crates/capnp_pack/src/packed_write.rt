@@ -252,8 +252,8 @@ fn pack_literal<W: Write>(
     })
 }
 
-// Adds the count of the words after one, which are stored as they are, and these words, or hands
-// them on where they don't fit. It returns how many bytes are then used.
+// Adds the count of the further words that are stored as they are, and these words, or hands the
+// words on where they don't fit. Returns how many bytes are then used.
 #[inline(always)]
 fn pack_run<W: Write>(
     sink: &mut W,

@@ -1,7 +1,7 @@
 //! Unpacking groups of one word, one after another.
 //!
 //! Where as many bytes are shown as such a group can have, and a word of the buffer is left, no
-//! other test of room is needed, and one look-up by the tag says where the next group begins.
+//! other test of room is needed. One look-up by the tag then says where the next group begins.
 //! Speed: words of every kind may alternate, as in small records (`capnp_ls unpack`).
 ghost use Rattle.std.specs.Prelude.{◌≡◌, ◌<◌, ◌≤◌, length, IfSome};
 ghost use Rattle.capnp_pack.specs.Steps.{Unpacked};

@@ -1,7 +1,7 @@
-//! Skipping a chunk group by group, of which no word is kept.
+//! Skipping a chunk group by group, without keeping a word.
 //!
-//! Groups that the source shows whole are passed over: of each the tag is looked at, and the count
-//! after tags 0 and 255. A group that the source cuts is read as `group.rt` reads it.
+//! Groups that the source shows whole are passed over: only the tag of each is looked at, and the
+//! count after tags 0 and 255. A group that the source cuts is read as `group.rt` reads it.
 ghost use Rattle.std.specs.Prelude.{◌≡◌, ℕ, List, ◌-◌, ◌%◌, ◌<◌, ◌≤◌, IfSome, OnOk};
 ghost use Rattle.capnp_frame.specs.Prelude.{IfKnown, RequestError, Asked, FailsOr};
 ghost use Rattle.capnp_pack.specs.Calls.{TakesNext};

@@ -17,8 +17,8 @@ pub use skipping::try_skip_packed_segments;
 /// Reads the next packed message of a source, or returns `None` where nothing is unread.
 ///
 /// Only the message's packed bytes are consumed, however the source cuts them. The segments are put
-/// into the memory of an earlier message, which grows as by `try_read_segments_reusing`, and it
-/// fails as that does over the packed source, whose errors are those of `PackedRead`.
+/// into the memory of an earlier message, which grows as by `try_read_segments_reusing`. The call
+/// fails as that does over a packed source, with the errors of `PackedRead`.
 pub fn try_read_packed_segments<R: BufRead>(
     source: &mut R,
     rules: TableRules,
@@ -34,9 +34,9 @@ pub fn try_read_packed_segments<R: BufRead>(
 /// Reads the next packed message of a source into a caller-provided buffer, or returns `None` where
 /// nothing is unread.
 ///
-/// No memory is taken. Fails as `try_read_segments_into_with_rules` does over the packed source,
-/// whose errors are those of `PackedRead`: with `BufferNotLargeEnough` where table and segments
-/// don't fit the buffer.
+/// No memory is taken. Fails as `try_read_segments_into_with_rules` does over a packed source, with
+/// the errors of `PackedRead`, and with `BufferNotLargeEnough` where table and segments don't fit
+/// the buffer.
 pub fn try_read_packed_segments_into<'b, R: BufRead>(
     source: &mut R,
     rules: TableRules,
@@ -49,9 +49,9 @@ pub fn try_read_packed_segments_into<'b, R: BufRead>(
     try_read_segments_into_with_rules(&mut packed, rules, buffer)
 }
 
-/// Reads the next packed message of a source into a caller-provided buffer, which then begins with
-/// the framed encoding that a writer writes, and returns what its table says, or `None` where
-/// nothing is unread.
+/// Reads the next packed message of a source into a caller-provided buffer, and returns what its
+/// table says, or `None` where nothing is unread. The buffer then begins with the framed encoding
+/// that a writer writes.
 ///
 /// No memory is taken. It fails as `try_read_packed_segments_into` does.
 pub fn try_read_packed_framed_into<R: BufRead>(

@@ -67,7 +67,7 @@ first_over n tag a b c some = IfKnown-join a b c (λ x y z at (group, is, long, 
   spelled = at ∙ head;
 })
 
--- those that are taken
+-- groups that are taken
 pub over_after : (n k m : ℕ) (a b c : Option (List ℕ)) → n ≡ k + m → IfKnown a b (HasProgress k) → IfKnown b c (LeavesOverrun m) → IfKnown a c (LeavesOverrun n)
 over_after n k m a b c both = IfKnown-join a b c (λ x y z (groups, each, spelled, counted) over.
     let words : length (concat (words_of_groups (groups ++ over.groups))) ≡ k + length (concat (words_of_groups over.groups)) =

@@ -1,4 +1,4 @@
--- The errors of a literal group's run, and those of its word.
+-- The errors of a literal group's run, and the errors of its word.
 use Rattle.std.proofs.Common.{◌≡◌, ℕ, ◌+◌, ◌*◌, ◌<◌, ◌≤◌, ◌⊎◌, inl, inr, lit<, lit≤, Option, Some, None, List, [], ◌∷◌, ◌++◌, length, refl, sym, ap, ◌∙◌, subst, arith, length-append}
 use Rattle.std.proofs.lemmas.List.{nil_from_length}
 use Rattle.capnp_frame.specs.declared.error.ErrorKind.{ErrorKind}

@@ -8,7 +8,7 @@ use Rattle.capnp_pack.specs.Prelude.{Group, IsWord, group_encoding, IfFirst, Pac
 use Rattle.capnp_pack.proofs.packing.WholeChunkLemmas.{other_words, words_after, packed_more, PacksTo-more, ends_zeros, ends_tagged, filled_by, run_of_none}
 use Rattle.capnp_pack.proofs.packing.HandedOnLemmas.{Hands-join, Hands-none}
 
--- the group of one word, of which the table gives the size
+-- the group of one word, whose size the table gives
 pub tagged_group : (word : List ℕ) (os : List (List ℕ)) (tag used end size : ℕ) (old new : List ℕ) → IsWord word → tag ≡ tag_of word → tag < 255
     → (tag ≡ 0 → IfFirst os (λ w. IsZero w → ⊥)) → take end new ≡ old ++ tag ∷ nonzero word → (tag ≡ 0 → take (end + 1) new ≡ take end new ++ 0 ∷ [])
     → end ≡ used + 1 + ones tag → (tag ≡ 0 → size ≡ 2) → (0 < tag → size ≡ 1 + ones tag)

@@ -101,7 +101,7 @@ pub PacksWords-once : (words : List (List ℕ)) (encoding other : List ℕ) → 
 PacksWords-once words encoding other p q =
     p.spelled ∙ ap encoding_of (groups_once p.groups q.groups p.each q.each p.longest q.longest (p.unpacked ∙ sym q.unpacked)) ∙ sym q.spelled
 
--- a chunk's encoding is that of its words
+-- a chunk's encoding is the encoding of its words
 pub Packs-of-words : (chunk encoding : List ℕ) (words : List (List ℕ)) → concat words ≡ chunk → AllByRecursion IsWord words → Packs chunk encoding → PacksWords words encoding
 Packs-of-words chunk encoding words whole all packs =
     let (own, made) = PacksWords-some words all in

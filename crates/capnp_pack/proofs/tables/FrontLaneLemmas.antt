@@ -26,11 +26,11 @@ front_lanes tag word places entry is tagged_by =
     let long : length lanes ≡ 16 = length-swz_l w8 16 (padded word) 0 places ∙ ap length entry ∙ mark_entry_len tag in
     ap (take (ones tag)) (eight_first lanes long) ∙ ap (λ js. take (ones tag) (take 8 (swz_l w8 16 (padded word) 0 js))) entry ∙ nonzero_lanes tag word is tagged_by
 
--- those of a zero word are zero
+-- the first lane of a zero word is zero
 pub front_zero : (tag : ℕ) (word places : List ℕ) → places ≡ mark_entry tag → tag ≡ 0 → take 1 (eight_lanes (swz_l w8 16 (padded word) 0 places)) ≡ 0 ∷ []
 front_zero tag word places entry none = ap (λ js. take 1 (eight_lanes (swz_l w8 16 (padded word) 0 js))) (entry ∙ ap mark_entry none)
 
--- all eight are stored, of which only some are used
+-- all eight are stored, and only some of them are used
 pub stored : (at count : ℕ) (bytes front : List ℕ) → length bytes ≡ 64 → length front ≡ 8 → at ≤ 56 → count ≤ 8
     → take (at + count) (put_mid at (at + 8 - at) bytes (put_chunk 0 (mid_of at (at + 8 - at) bytes) front)) ≡ take at bytes ++ take count front
 stored at count bytes front long eight room few =

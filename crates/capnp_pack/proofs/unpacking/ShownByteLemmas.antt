@@ -95,7 +95,7 @@ zeros_are : (w : List ℕ) → AreZero w → w ≡ replicate (length w) 0
 zeros_are [] all = refl
 zeros_are (b ∷ w) all = ap (λ k. k ∷ w) all.0 ∙ ap (λ l. 0 ∷ l) (zeros_are w all.1)
 
--- a zero word alone, filled as a word of which nothing is marked
+-- a zero word alone, filled as a word without marked bytes
 pub zero_after_single_word : (tag used : ℕ) (following word buffer : List ℕ) → tag ≡ 0 → get_or following 0 0 ≡ 0 → IsWord word → 9 ≤ length following →
     8 ≤ length buffer → take 8 buffer ≡ word → used ≤ 8 → MarkedAt tag word following (drop used following) → GroupFollowing tag following buffer (used + 1) 8
 zero_after_single_word tag used following word buffer none count is long room same few at =

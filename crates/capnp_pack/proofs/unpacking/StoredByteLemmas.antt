@@ -1,4 +1,4 @@
--- Bytes that are taken as they are: those that are shown, and after them those of one request.
+-- Bytes that are taken as they are: the bytes that are shown, and after them the bytes of one request.
 use Rattle.std.proofs.Common.{◌≡◌, ℕ, ◌+◌, ◌-◌, ◌≤◌, ◌⊎◌, inl, inr, ◌↔◌, Option, Some, None, IfSome, List, ◌++◌, length, take, drop, refl, sym, ap, ◌∙◌, subst, arith, append_assoc, length-append}
 use Rattle.std.proofs.lemmas.List.{take-append-drop, take-append-le, take_all, length-take-le}
 use Rattle.std.proofs.lemmas.Slice.{take-put_mid}

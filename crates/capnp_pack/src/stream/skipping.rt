@@ -1,4 +1,4 @@
-//! Skipping packed messages of a source, of which only the lengths of the segments are returned.
+//! Skipping packed messages of a source: only the lengths of their segments are returned.
 ghost use Rattle.std.specs.Prelude.{length};
 ghost use Rattle.capnp_frame.specs.Prelude.{SkipsMessage, ReadsTable, ReadsStream};
 ghost use Rattle.capnp_pack.specs.PackedStreams.{packed_skipping_rules, packed_source};
@@ -14,7 +14,7 @@ use capnp_frame::serialize::{SegmentLengthsBuilder, TableRules, read_table};
 ///
 /// It returns, consumes and fails as `try_read_packed_segments` does, but takes no memory for the
 /// segments, whose groups are passed over. The lengths are put into the memory of `lengths`,
-/// whatever these are, which grows where it is too small: so it fails with `OutOfMemory` only for
+/// whatever these are, which grows where it is too small. So it fails with `OutOfMemory` only for
 /// more segments than these are, and then the group of the table's first word alone is consumed.
 pub fn try_skip_packed_segments<R: BufRead>(
     source: &mut R,

@@ -1,4 +1,4 @@
--- The bytes so far are those of the tag, and the others those of the bits that are left.
+-- The bytes so far belong to the tag, and the bits that are left give the others.
 use Rattle.std.proofs.Common.{take}
 use Rattle.capnp_frame.specs.Prelude.{IfKnown, Advances}
 use Rattle.capnp_pack.proofs.words.TaggedWordLemmas.{MarksTo}

@@ -1,4 +1,4 @@
--- A word of which some bytes are marked.
+-- A word with some marked bytes.
 use Rattle.std.proofs.Common.{rules, arith, length, ◌≡◌, ◌<◌}
 use Rattle.std.proofs.lemmas.List.{take_at}
 use Rattle.capnp_pack.proofs.unpacking.ShownByteLemmas.{tagged_after}
