@@ -71,10 +71,14 @@ pub record ReadsFlat {X : Type 0} (rules : FlatRules) (bytes : List ℕ) (left :
 
 -- What a reader keeps that finds a message in a buffer: what is returned has the buffer.
 pub record ReadsBuffer {B : Type 0} (rules : FlatRules) (kept : B) (bytes : List ℕ) (result : Result (SeenBuffer B) Error) : Type 0 where
+  -- what the segments borrow is what was given
   pub buffer : IfOk result (λ found. found.buffer ≡ kept)
+  -- the message that begins the bytes, or why none does
   pub reads : ReadsFlat rules bytes None (λ found. found.segments) result
 
 -- And one that finds it at the front of a slice, and moves the slice after it.
 pub record TakesSegments (rules : FlatRules) (old new : List ℕ) (result : Result (SeenBuffer (Bor (List ℕ))) Error) : Type 0 where
+  -- the segments borrow the slice that was given
   pub buffer : IfOk result (λ found. found.buffer.now ≡ old)
+  -- the message that begins the slice, or why none does, and what the slice has left
   pub reads : ReadsFlat rules old (Some new) (λ found. found.segments) result

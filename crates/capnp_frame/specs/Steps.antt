@@ -74,8 +74,11 @@ pub record ReadsTable {S : Type 0} (source : Ghosts S) (old new : S) (rule : Pad
     (result : Result (Option (List ℕ)) Error) : Type 0 where
   -- the table is there, and just its bytes are consumed
   pub found : IfOk result (λ found. IfSome found (λ ns. IfKnown (source.unread old) (source.unread new) (TableFound rule source.gives ns)))
+  -- its lengths are within the limit, in words
   pub within : IfOk result (λ found. IfSome found (λ ns. AreWithin ns limit))
+  -- so their sum fits a number of 64 bits
   pub bound : IfOk result (λ found. IfSome found (λ ns. sum ns < 2 ^ 42))
+  -- what else is returned: the end of the stream, or an error, and with which kind
   pub asks : AsksNext source old new rule (TakesForLengths kept source.gives) (TableError rule source.gives source.refuses limit None) result
 
 -- A step that reads into a caller-provided buffer of `room` bytes, which takes no memory.

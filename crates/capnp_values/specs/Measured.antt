@@ -16,6 +16,9 @@ both_words a b = record { untrimmed = a.untrimmed + b.untrimmed; output = a.outp
 
 -- what is measured of trees that have room, however many words they have, or why there are none
 pub record MeasuresValue (has_trees : Trees → Type 0) (fails : ErrorKind → Type 0) (canonical : Bool) (result : Result TreeWords Error) : Type 0 where
+  -- the words of the value's tree, or the error that it has
   pub returned : MatchResult result (λ words. (trees : Trees) × has_trees trees × AllHaveRoom trees × (words ≡ tree_words canonical trees)) (λ error. fails error.kind)
+  -- a value that has a tree is measured
   pub found : (trees : Trees) → has_trees trees → result ≡ Ok (tree_words canonical trees)
+  -- one that fails with a kind of error returns it
   pub exact : (kind : ErrorKind) → fails kind → IsErrAnd result (λ error. error.kind ≡ kind)
