@@ -11,7 +11,7 @@ use Rattle.capnp_layout.specs.Pointer.{number_of, words_from}
 abbrev pub word_numbers : List Word → List ℕ
 word_numbers words = map (λ word. number_of 256 (bytes_of word)) words
 
--- words of the block from this one on are replaced
+-- the words of the block from this one on are replaced
 abbrev pub put : ℕ → List ℕ → List ℕ → List ℕ
 put at words block = take at block ++ (words ++ drop (at + length words) block)
 
@@ -20,7 +20,7 @@ abbrev pub put_data_sections : ℕ → ℕ → List (List ℕ) → List ℕ → 
 put_data_sections at p [] block = block
 put_data_sections at p (element ∷ elements) block = put_data_sections (at + length element + p) p elements (put at element block)
 
--- pointers in their slots, and what they point to one after the other from a word on
+-- pointers in their slots, and what they point to, one after the other from a word on
 abbrev pub fill : List ℕ → ℕ → Trees → List ℕ → List ℕ
 fill slots next none block = block
 fill [] next (tree form children rest) block = block

@@ -1,4 +1,4 @@
--- The object to which a pointer leads, as it is read: its body, and the words of it (src/object.rt).
+-- The object that a pointer points to, as it is read: its body, and its words (src/object.rt).
 use Rattle.std.specs.Prelude.{◌≡◌, ℕ, ◌+◌, ◌*◌, ◌/◌, ◌≤◌, List, length, Some, slice_get, if◌then◌else◌, ◌==◌}
 use Rattle.capnp_layout.specs.Pointer.{words_of}
 use Rattle.capnp_layout.specs.Element.{code_of, width, words_for}
@@ -38,7 +38,7 @@ traversed_of (Pointers count) = count
 traversed_of (Structs elements following) =
     1 + following + (if elements.size.data_words + elements.size.pointers == 0 then elements.count else 0)
 
--- the object to which the pointer at a place leads
+-- the object that the pointer at a place points to
 pub record IsObject (m : List (List ℕ)) (place : Place) (read : ReadObject) : Type 0 where
   pub content : slice_get m read.start.segment ≡ Some (words_of read.segment.now)
   pub object : PointsTo m place (record (shape_of (words_of read.segment.now) read.start read.body) { traversed = read.traversed })

@@ -1,4 +1,4 @@
--- Where a pointer leads, through its landing pads (src/landing_pad.rt).
+-- What a pointer points to, through its landing pads (src/landing_pad.rt).
 use Rattle.std.specs.Prelude.{◌≡◌, ◌⊎◌, ℕ, ◌^◌, ◌<◌, ◌≤◌, List, Some, MatchOption, slice_get}
 use Rattle.capnp_frame.specs.declared.error.ErrorKind.{ErrorKind}
 use Rattle.capnp_frame.specs.declared.error.ErrorKind.TheVariants.{PointerOutOfBounds, CapabilityRefused}
@@ -14,7 +14,7 @@ pub record HasWideLandingPad (m : List (List ℕ)) (word first tag : ℕ) : Type
   pub first_there : word_at m (landing_pad word) ≡ Some first
   pub tag_there : word_at m (landing_pad_tag word) ≡ Some tag
 
--- a pointer leads there, through its landing pads
+-- the pointer at a place points there, through its landing pads
 pub record IsLanding (m : List (List ℕ)) (place : Place) (read : ReadLanding) : Type 0 where
   pub landing : Target
   pub lands : Lands m place landing

@@ -17,9 +17,9 @@ list_pointer offset code count = 1 + 4 * offset + 2 ^ 32 * code + 2 ^ 35 * count
 abbrev pub far_pointer : ℕ → ℕ → ℕ
 far_pointer segment position = 2 + 8 * position + 2 ^ 32 * segment
 
--- The pointer at a place of a segment to where a word leads that has, in place of the offset, the
--- index of the word at which the object begins. Null, and the pointer to a struct of no words,
--- stay as they are.
+-- The pointer at a word of a segment to an object. It is given as a word that has, in place of the offset,
+-- the index of the word at which the object begins. Null, and the pointer to a struct of no words, stay the
+-- same.
 abbrev pub link : ℕ → ℕ → ℕ
 link word place =
     if word % 4 + word / 2 ^ 32 == 0 then word
@@ -72,7 +72,7 @@ own (numbers code values) links = digits (2 ^ 64) (words_for (length values) (wi
 own pointers links = links
 own (structs d p elements) links = struct_pointer (length elements) d p ∷ woven p elements links
 
--- trees in preorder: the words of each, then those of the trees below it
+-- trees in preorder: the words of each, then the words of the trees below it
 abbrev pub body : Trees → List ℕ
 body none = []
 body (tree form children rest) =
@@ -91,7 +91,7 @@ layout trees = pointer_to trees 0 ∷ body trees
 abbrev pub canon : Trees → List ℕ
 canon trees = layout (trim trees)
 
--- a tree as it is, or in canonical form
+-- a tree untrimmed, or in canonical form
 abbrev pub output : Bool → Trees → Trees
 output true trees = trim trees
 output false trees = trees
@@ -116,7 +116,7 @@ Reaches null n offset = ⊤
 Reaches (struct words) n offset = 0 < length words + n → offset < 2 ^ 29
 Reaches form n offset = offset < 2 ^ 29
 
--- the offsets of all pointers have room, where the first ones are in these slots and the first
+-- the offsets of all pointers have room, where the first pointers are in these slots and the first
 -- object begins at `next`
 abbrev pub AllReach : List ℕ → ℕ → Trees → Type 0
 AllReach places next none = ⊤
@@ -139,7 +139,7 @@ pub record Laid (words : List ℕ) (start : ℕ) (trees : Trees) : Type 0 where
 abbrev pub AllWords : List (List ℕ) → Type 0
 AllWords m = All (λ words. All (λ w. w < 2 ^ 64) words) m
 
--- trees that trimming leaves as they are
+-- trees that trimming does not change
 abbrev pub Trimmed : Trees → Type 0
 Trimmed none = ⊤
 Trimmed (tree form children rest) = ((trim_form form children ≡ form) × (trim_children form children ≡ children) × Trimmed children) × Trimmed rest

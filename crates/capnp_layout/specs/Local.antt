@@ -51,7 +51,7 @@ structs_of list = record {
 abbrev pub empty_struct : ℕ
 empty_struct = struct_pointer minus_one 0 0
 
--- a pointer that is null, or points to such a struct, which may be entered at this nesting depth
+-- a pointer that is null, or points to such a struct that may be entered with this nesting depth
 -- left
 abbrev pub IsNullOrEmptyStruct : ℕ → ℕ → Type 0
 IsNullOrEmptyStruct pointer nesting = (pointer ≡ 0) ⊎ ((pointer ≡ empty_struct) × (0 < nesting))

@@ -1,11 +1,11 @@
--- What a pointer word stands for. A message is a list of segments, each of them a list of words.
+-- What a pointer points to. A message is a list of segments, each of them a list of words.
 use Rattle.std.specs.Prelude.{◌≡◌, ℕ, zero, suc, ◌+◌, ◌*◌, ◌/◌, ◌^◌, ◌<◌, ◌≤◌, ◌==◌, if◌then◌else◌, List, [], ◌∷◌, ◌++◌, length, map, Option, Some, slice_get, option_and_then}
 use Rattle.capnp_layout.specs.Pointer.{digits, number_of, words_of, words_from, pointer_kind, offset, data_words, pointer_words, code, list_count, has_wide_landing_pad, landing_pad_position, landing_pad_segment}
 use Rattle.capnp_layout.specs.Element.{width, words_for}
 use Rattle.capnp_layout.specs.Tree.{Form, null, struct, numbers, pointers, structs}
 use Rattle.capnp_layout.specs.declared.place.Place.{Place}
 
--- the message in segments of bytes: their whole words
+-- the message in these segments of bytes: their whole words
 abbrev pub message_of : List (List ℕ) → List (List ℕ)
 message_of segments = map words_of segments
 
@@ -17,7 +17,7 @@ abbrev pub places : ℕ → ℕ → ℕ → List Place
 places segment start zero = []
 places segment start (suc n) = record { segment = segment; word = start } ∷ places segment (start + 1) n
 
--- the landing pad of a far pointer, and the second word of a wide one
+-- the landing pad of a far pointer, and its second word where it has two
 abbrev pub landing_pad : ℕ → Place
 landing_pad word = record { segment = landing_pad_segment word; word = landing_pad_position word }
 
@@ -36,15 +36,15 @@ pub data Origin : Type 0 where
   -- at this word, whatever its tag says
   exactly : ℕ → Origin
 
--- Where a pointer leads: an object's segment, where it begins there, its tag, which is the struct
--- or list pointer that gives its shape, and how many words of landing pads are on the way.
+-- What a pointer points to: an object's segment, where the object begins there, its tag, and how many
+-- words of landing pads are on the way. The tag is the struct or list pointer that gives its shape.
 pub record Target : Type 0 where
   pub segment : ℕ
   pub origin : Origin
   pub tag : ℕ
   pub landing_pads : ℕ
 
--- the pointer at a place leads there
+-- the pointer at a place points there
 pub data Lands (m : List (List ℕ)) (place : Place) : Target → Type 0 where
   local : {word : ℕ} → word_at m place ≡ Some word → 0 < word → pointer_kind word < 2
       → Lands m place (record { segment = place.segment; origin = following place.word; tag = word; landing_pads = 0 })
@@ -94,7 +94,7 @@ numbers_shape words start code n = record {
 abbrev pub pointers_shape : Place → ℕ → Shape
 pointers_shape start n = record { form = pointers; children = places start.segment start.word n; traversed = n }
 
--- n structs of d and p words each after their tag, in some words
+-- n structs of d and p words each, after their tag among these words
 abbrev pub structs_shape : List ℕ → Place → ℕ → ℕ → ℕ → ℕ → Shape
 structs_shape words start d p n size = record {
   form = structs d p (elements_from words (start.word + 1) d p n);
@@ -119,7 +119,7 @@ pub data ShapeIsAt (words : List ℕ) (start : Place) (pointer : ℕ) : Shape �
 abbrev pub nothing : Shape
 nothing = record { form = null; children = []; traversed = 0 }
 
--- the pointer at a place stands for null or for an object
+-- the pointer at a place is null, or points to an object
 pub data PointsTo (m : List (List ℕ)) (place : Place) : Shape → Type 0 where
   is_null : word_at m place ≡ Some 0 → PointsTo m place nothing
   is_object : {landing : Target} {words : List ℕ} {start : ℕ} {shape : Shape} → Lands m place landing

@@ -1,4 +1,4 @@
--- What objects are once they are copied, as they are or in canonical form (src/output_size.rt), and the pointer words
+-- The bodies of copies of objects, untrimmed or in canonical form (src/output_size.rt), and the pointer words
 -- to the copies (src/body_word.rt).
 use Rattle.std.specs.Prelude.{◌≡◌, ℕ, ◌+◌, ◌*◌, ◌≤◌, ◌==◌, if◌then◌else◌, Bool, true, List}
 use Rattle.capnp_layout.specs.Element.{code_of}
@@ -8,7 +8,7 @@ use Rattle.capnp_layout.specs.declared.pointer.StructSize.{StructSize}
 use Rattle.capnp_layout.specs.declared.object.Body.{Body}
 use Rattle.capnp_layout.specs.declared.object.Body.TheVariants.{Struct, Numbers, Pointers, Structs}
 
--- the size that n consecutive structs of this size need, the first of them at a word
+-- the least size that holds n consecutive structs of this size, the first of them at a word
 abbrev pub least_size : List ℕ → ℕ → StructSize → ℕ → StructSize
 least_size words start size n = record {
   data_words = most_used words start size.data_words (size.data_words + size.pointers) n;
@@ -38,7 +38,7 @@ list_length (Numbers size n) = n
 list_length (Pointers n) = n
 list_length (Structs elements following) = elements.count * (elements.size.data_words + elements.size.pointers)
 
--- the same kind of object, whose sections have no more words
+-- the same kind of object, with no more words in a section
 abbrev pub IsNarrower : Body → Body → Type 0
 IsNarrower (Struct from) (Struct size) = (size.data_words ≤ from.data_words) × (size.pointers ≤ from.pointers)
 IsNarrower (Structs from following) (Structs elements words) =

@@ -1,5 +1,5 @@
 -- Words, and the fields of a pointer word (src/pointer.rt). A word is a number below 2 ^ 64.
--- Fields are given from the lowest bits on, as in the encoding document's drawings.
+-- Fields are listed from the lowest bits on, as in the drawings of the encoding document.
 use Rattle.std.specs.Prelude.{ℕ, zero, suc, ◌+◌, ◌*◌, ◌/◌, ◌%◌, ◌^◌, List, [], ◌∷◌, length, map, take, drop}
 use Rattle.std.specs.Simd.{first_chunks}
 
@@ -8,7 +8,7 @@ abbrev pub digits : ℕ → ℕ → ℕ → List ℕ
 digits base zero number = []
 digits base (suc n) number = number % base ∷ digits base n (number / base)
 
--- the number of some digits, lowest first
+-- the number that some digits make, lowest first
 abbrev pub number_of : ℕ → List ℕ → ℕ
 number_of base [] = 0
 number_of base (digit ∷ rest) = digit + base * number_of base rest
@@ -21,7 +21,7 @@ words_of bytes = map (number_of 256) (first_chunks 8 (length bytes / 8) bytes)
 abbrev pub words_from : List ℕ → ℕ → ℕ → List ℕ
 words_from words start n = take n (drop start words)
 
--- 0 struct, 1 list, 2 far, 3 capability and others
+-- 0 for a struct, 1 for a list, 2 for a far pointer, 3 for a capability and others
 abbrev pub pointer_kind : ℕ → ℕ
 pointer_kind word = word % 4
 

@@ -16,7 +16,7 @@ pub data NoWord (m : List (List ℕ)) (place : Place) : ErrorKind → Type 0 whe
   past_segment : {words : List ℕ} → slice_get m place.segment ≡ Some words → slice_get words place.word ≡ None
       → NoWord m place PointerOutOfBounds
 
--- the landing pad of a far pointer leads nowhere
+-- the landing pad of a far pointer points nowhere
 pub data BadLandingPad (m : List (List ℕ)) (word : ℕ) : ErrorKind → Type 0 where
   no_landing_pad : {kind : ErrorKind} → NoWord m (landing_pad word) kind → BadLandingPad m word kind
   -- a landing pad of one word
@@ -39,8 +39,8 @@ pub data BadLandingPad (m : List (List ℕ)) (word : ℕ) : ErrorKind → Type 0
       → word_at m (landing_pad_tag word) ≡ Some tag → IsFar inner 0 → slice_get m (landing_pad_segment inner) ≡ Some words → pointer_kind tag ≡ 3
       → BadLandingPad m word CapabilityRefused
 
--- no object is at a word of its segment, by its pointer: it lies outside, or its list's tag is
--- wrong
+-- no object that a pointer describes is at this word of its segment: it would lie outside, or its list's
+-- tag is wrong
 pub data SizeError (words : List ℕ) (start pointer : ℕ) : ErrorKind → Type 0 where
   struct_outside : pointer_kind pointer ≡ 0 → length words < start + data_words pointer + pointer_words pointer
       → SizeError words start pointer PointerOutOfBounds
@@ -56,7 +56,7 @@ pub data SizeError (words : List ℕ) (start pointer : ℕ) : ErrorKind → Type
       → list_count pointer < offset tag * (data_words tag + pointer_words tag)
       → SizeError words start pointer PointerOutOfBounds
 
--- the pointer at a place is invalid, at this nesting depth left
+-- the pointer at a place is invalid, with this nesting depth left
 pub data PointerError (m : List (List ℕ)) (place : Place) (nesting : ℕ) : ErrorKind → Type 0 where
   no_word : {kind : ErrorKind} → NoWord m place kind → PointerError m place nesting kind
   capability : {word : ℕ} → word_at m place ≡ Some word → pointer_kind word ≡ 3 → PointerError m place nesting CapabilityRefused

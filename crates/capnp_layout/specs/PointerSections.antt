@@ -9,7 +9,8 @@ use Rattle.capnp_layout.specs.declared.pointer_slots.SectionSizes.{SectionSizes}
 use Rattle.capnp_layout.specs.declared.object.Body.{Body}
 use Rattle.capnp_layout.specs.declared.object.Body.TheVariants.{Struct, Numbers, Pointers, Structs}
 
--- the words of each data section and pointer section of an object, how many pointer sections it has, and the word of its first section
+-- the words of each data section and pointer section of an object, how many pointer sections it has, and
+-- the word of its first section
 abbrev pub section_sizes : Body → SectionSizes
 section_sizes (Struct size) = record { data_words = size.data_words; pointers = size.pointers }
 section_sizes (Numbers size n) = record { data_words = 0; pointers = 0 }

@@ -1,4 +1,4 @@
--- What is read of a pointer word (src/pointer.rt).
+-- What is read from a pointer word (src/pointer.rt).
 use Rattle.std.specs.Prelude.{◌≡◌, ℕ, ◌<◌, ◌^◌, if◌then◌else◌}
 use Rattle.capnp_layout.specs.Pointer.{pointer_kind, offset, data_words, pointer_words, code, list_count, has_wide_landing_pad}
 use Rattle.capnp_layout.specs.Element.{code_of}

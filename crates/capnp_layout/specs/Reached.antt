@@ -24,7 +24,7 @@ pub data IsIn (place : Place) : List Place → Type 0 where
   here : {others : List Place} → IsIn place (place ∷ others)
   there : {other : Place} {others : List Place} → IsIn place others → IsIn place (other ∷ others)
 
--- the object at a place has a pointer to the other, or one that leads on to it
+-- the object at a place has a pointer to the other place, or a chain of pointers goes there
 pub data Below (m : List (List ℕ)) : Place → Place → Type 0 where
   directly : {place inner : Place} {shape : Shape} → PointsTo m place shape → IsIn inner shape.children → Below m place inner
   further : {place middle inner : Place} → Below m place middle → Below m middle inner → Below m place inner

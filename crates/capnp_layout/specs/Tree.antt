@@ -2,7 +2,7 @@
 use Rattle.std.specs.Prelude.{ℕ, ◌+◌, ◌*◌, max, Bool, true, false, if◌then◌else◌, List, length}
 use Rattle.capnp_layout.specs.Element.{width, words_for}
 
--- what an object has beside the trees of its pointers; null has nothing
+-- what an object has in addition to the trees of its pointers; null has nothing
 pub data Form : Type 0 where
   null : Form
   -- its data words
@@ -28,7 +28,7 @@ abbrev pub is_null : Form → Bool
 is_null null = true
 is_null _ = false
 
--- the longest chain of objects, each of which points to the next
+-- the longest chain of objects, each with a pointer to the next
 abbrev pub depth : Trees → ℕ
 depth none = 0
 depth (tree form children rest) = max (if is_null form then 0 else depth children + 1) (depth rest)

@@ -36,7 +36,7 @@ abbrev pub cut_nulls : Trees → Trees
 cut_nulls none = none
 cut_nulls (tree form children rest) = keep_tree (cut_nulls rest) form children
 
--- the most words of data, and the most pointers, that an element of a list of structs needs
+-- the most data words, and the most pointers, that an element of a list of structs needs
 abbrev pub least_data : List (List ℕ) → ℕ
 least_data [] = 0
 least_data (element ∷ elements) = max (length (cut_zeros element)) (least_data elements)
@@ -50,7 +50,7 @@ abbrev pub narrowed : ℕ → ℕ → List (List ℕ) → Trees → Trees
 narrowed n p [] children = none
 narrowed n p (element ∷ elements) children = before (first n (first p children)) (narrowed n p elements (following p children))
 
--- what is left of a form, and of the trees below it, where the latter are trimmed already
+-- what trimming leaves of a form, and of the trees below it, where these are trimmed already
 abbrev pub trim_form : Form → Trees → Form
 trim_form (struct words) children = struct (cut_zeros words)
 trim_form (structs d p elements) children = let n = least_data elements in structs n (least_pointers p elements children) (map (take n) elements)

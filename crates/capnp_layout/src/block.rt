@@ -1,4 +1,4 @@
-//! Blocks of words, and what is written into them.
+//! Blocks of words, and what is put into them.
 ghost use Rattle.std.specs.Prelude.{◌≡◌, ℕ, List, ◌+◌, ◌-◌, ◌*◌, ◌^◌, ◌/◌, ◌%◌, ◌<◌, ◌≤◌, ◌∷◌, [], length, max, slice_get, Some};
 ghost use Rattle.capnp_frame.specs.Prelude.{bytes_of};
 ghost use Rattle.capnp_layout.specs.Pointer.{words_of, words_from};
@@ -23,12 +23,12 @@ pub fn word_at(segment: &[u8], index: usize) -> u64
     u64::from_le_bytes(words[index])
 }
 
-/// What a block of words is made of: bytes, eight of them a word, or words.
+/// An item of a block of words: a byte, eight to a word, or a whole word.
 pub trait BlockItem: Sized {
     /// The words of a block.
     ghost as_words: { List Self → List ℕ };
 
-    /// Puts the bytes of whole words into a block, from a word of the block on.
+    /// Puts the bytes of whole words into a block, from its word `at` on.
     fn put_bytes(block: &mut [Self], at: usize, bytes: &[u8])
         requires whole { length bytes.now % 8 ≡ 0 }
         requires room { at + length bytes.now / 8 ≤ length (as_words block.old) }
@@ -47,7 +47,8 @@ impl BlockItem for u8 {
 }
 
 // Copies bytes.
-// Speed: up to three words, whose number is known here, need no call (`tools/time-building`).
+// Speed: up to three words, whose number is known here, are copied without a call
+// (`tools/time-building`).
 #[inline(always)]
 fn copy_bytes(to: &mut [u8], bytes: &[u8])
     requires { length to.old ≡ length bytes.now }
@@ -68,7 +69,7 @@ fn copy_bytes(to: &mut [u8], bytes: &[u8])
 }
 
 // Copies more bytes.
-// Speed: it is a call, which leaves the registers to the loops that copy (`tools/time-building`).
+// Speed: a call of its own leaves the registers to the loops that copy (`tools/time-building`).
 #[inline(never)]
 fn copy_long(to: &mut [u8], bytes: &[u8])
     requires { length to.old ≡ length bytes.now }
@@ -154,7 +155,7 @@ pub fn put_elements<T: BlockItem>(block: &mut [T], at: usize, list: &NumberList<
     }
 }
 
-/// How many of these words are left without the zeros at their end.
+/// The number of these words without the zero words at their end.
 #[inline(always)]
 pub fn used(segment: &[u8], start: usize, count: usize) -> usize
     requires { start + count ≤ length segment.now / 8 }

@@ -1,4 +1,4 @@
-//! Pointer words to the copies of objects.
+//! The pointer words to copies of objects.
 ghost use Rattle.std.specs.Prelude.{◌≡◌, ◌^◌, ◌<◌};
 ghost use Rattle.capnp_layout.specs.Output.{pointer_of_body, list_length};
 ghost use Rattle.capnp_layout.specs.declared.object.Body.{Body};
@@ -22,7 +22,7 @@ pub fn pointer_word(copied: Body, offset: u64) -> u64
     }
 }
 
-/// The pointer word to a struct. A struct of no words has the offset -1: it begins at its own
+/// The pointer word to a struct. For a struct of no words the offset is -1: it begins at its own
 /// pointer.
 #[inline(always)]
 pub fn struct_pointer_word(size: StructSize, offset: u64) -> u64

@@ -14,7 +14,7 @@ pub enum ElementSize {
 }
 
 impl ElementSize {
-    /// How many bits each element has.
+    /// The bits of one element.
     pub fn bits(self) -> u64
         ensures bits { result ≡ width (code_of self) }
         ensures few { result < 65 }
@@ -29,7 +29,7 @@ impl ElementSize {
         }
     }
 
-    /// The code of such elements in list pointers.
+    /// The code that list pointers have for this size.
     pub fn code(self) -> u64
         ensures code { result ≡ code_of self }
         ensures few { result < 6 }
@@ -66,7 +66,7 @@ impl ElementSize {
         self.bits() * index as u64 / 64
     }
 
-    /// The bits of an element, taken from the word that holds it.
+    /// The bits of an element, given the word that holds it.
     pub fn in_word(self, word: u64, index: u32) -> u64
         ensures { result ≡ word / 2 ^ (width (code_of self) * index % 64) % 2 ^ width (code_of self) }
     {

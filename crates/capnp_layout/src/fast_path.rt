@@ -18,17 +18,17 @@ use crate::pointer_run::PointerRun;
 use crate::struct_list::StructList;
 
 // Speed: most pointers of most messages are null, or point to structs, to lists of numbers, or to
-// lists of pointers. Code that goes over many pointers asks here first, for the segment in hand:
-// then a pointer needs no call, and what it points to has at most one run of pointers (workload
-// `canon`, `tools/time-building`). Copies always ask for lists of pointers, and walks only at the
-// root, since one more fast path in their loops costs more than the calls that it saves; tests for
-// canonical form never ask for them.
+// lists of pointers. Code that goes over many pointers of a segment tries these paths first: such a
+// pointer needs no call, and its object has at most one run of pointers (workload `canon`,
+// `tools/time-building`). Copies always try the path for lists of pointers, and walks try it at the
+// root alone: in their loops one more fast path costs more than the calls that it saves. Tests for
+// canonical form never try it.
 
 // The pointer to a struct of no words, with the offset -1: the struct begins at its pointer.
 const EMPTY_STRUCT: u64 = 0xffff_fffc;
 
-/// The pointer at a word of a segment, if it is null, or if it is `EMPTY_STRUCT` and that struct
-/// may be entered at this nesting depth. Other pointer words may point to structs of no words, too:
+/// The pointer at a word of a segment, if it is null, or if it is `EMPTY_STRUCT` and its struct
+/// may be entered at this nesting depth. Other pointer words may also point to structs of no words:
 /// `local_struct` finds these.
 #[inline(always)]
 pub fn null_or_empty_struct(segment: &[u8], index: usize, nesting: u32) -> Option<u64>
@@ -52,8 +52,8 @@ pub fn has_fast_path(pointer: u64) -> bool
 }
 
 /// The list of numbers that the pointer at a place of this segment points to without a landing pad,
-/// where it may be entered at this nesting depth. `None` says nothing about what is there; then
-/// `object_in` finds it.
+/// where it may be entered at this nesting depth. `None` says nothing about what is there: the
+/// caller then asks `object_in`.
 #[inline(always)]
 pub fn local_list(segment: &[u8], place: Place, nesting: u32) -> Option<NumberList<'_>>
     ensures { (m : List (List ℕ)) → slice_get m place.segment ≡ Some (words_of segment.now) →
@@ -187,8 +187,8 @@ pub fn local_structs(segment: &[u8], place: Place, nesting: u32) -> Option<Struc
 
 /// A struct in the segment of its pointer, which has no landing pad.
 ///
-/// Speed: a type of its own, since an object whose kind the compiler doesn't know is kept in memory
-/// (`tools/time-building`).
+/// Speed: it has a type of its own, since an object whose kind the compiler doesn't know is kept in
+/// memory (`tools/time-building`).
 #[derive(Drop)]
 pub struct LocalStruct<'a> {
     pub segment: &'a [u8],

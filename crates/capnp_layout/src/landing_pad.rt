@@ -1,4 +1,4 @@
-//! Where pointers lead, through landing pads.
+//! What pointers point to, through landing pads.
 ghost use Rattle.std.specs.Prelude.{◌≡◌, ◌+◌, ◌*◌, ◌/◌, ◌^◌, ◌<◌, ℕ, slice_get, Some, None, IfOk, IfErr, MatchOption, MatchResult, false};
 ghost use Rattle.capnp_frame.specs.declared.error.ErrorKind.{ErrorKind};
 ghost use Rattle.capnp_layout.specs.Pointer.{words_of};
@@ -14,8 +14,8 @@ use crate::pointer::{FarPointer, LocalPointer, LocalShape, PointerWord};
 use capnp_frame::message::ReaderSegments;
 use capnp_frame::{Error, ErrorKind, Result};
 
-/// Where an object begins, unless its pointer points to a word before the segment, and the shape
-/// that the struct or list pointer to it gives it: its own, or one in a landing pad.
+/// Where an object begins, and its shape. The shape is the one in the struct or list pointer to it,
+/// which is the pointer itself or is in a landing pad.
 #[derive(Drop)]
 pub struct Landing<'a> {
     /// The segment that the object is in.
@@ -24,12 +24,12 @@ pub struct Landing<'a> {
     pub number: u32,
     pub start: Option<usize>,
     pub shape: LocalShape,
-    /// The words of the landing pad: 0 without one, 2 for a double-far pointer.
+    /// How many words the landing pad has: 0 without one, 2 for a double-far pointer.
     pub landing_pads: u64,
 }
 
-/// Where the pointer at a place of this segment leads; `None` for null. Fails where it has no word,
-/// is a capability, or its landing pad leads nowhere.
+/// What the pointer at a place of this segment points to; `None` for null. Fails where there is no
+/// word, with a capability, and with a landing pad that points nowhere.
 #[inline(always)]
 pub fn resolve<'a, S: ReaderSegments>(
     segments: &'a S,
@@ -55,7 +55,7 @@ pub fn resolve<'a, S: ReaderSegments>(
     }
 }
 
-/// Where a struct or list pointer at a place of this segment leads.
+/// What a struct or list pointer at a place of this segment points to.
 #[inline(always)]
 pub fn resolve_local(
     segment: &[u8],
@@ -82,7 +82,7 @@ pub fn resolve_local(
     }
 }
 
-// Where a far pointer leads.
+// What a far pointer points to.
 fn resolve_far<S: ReaderSegments>(segments: &S, far: FarPointer) -> Result<Landing<'_>>
     ensures found { let m = message_of (S.segments segments.now) in
         IfOk result (λ landing. (place : Place) (word : ℕ) → word_at m place ≡ Some word →
@@ -100,8 +100,8 @@ fn resolve_far<S: ReaderSegments>(segments: &S, far: FarPointer) -> Result<Landi
     resolve_double_far(segments, first, tag)
 }
 
-// Where a double-far pointer leads, through a landing pad of these two words: a far pointer to the
-// object, and its tag word.
+// What a double-far pointer points to, through a landing pad of these two words: a far pointer to
+// the object, and its tag word.
 fn resolve_double_far<S: ReaderSegments>(segments: &S, first: u64, tag: u64) -> Result<Landing<'_>>
     ensures found { let m = message_of (S.segments segments.now) in
         IfOk result (λ landing. (place : Place) (word : ℕ) → word_at m place ≡ Some word →
@@ -122,7 +122,7 @@ fn resolve_double_far<S: ReaderSegments>(segments: &S, first: u64, tag: u64) -> 
     })
 }
 
-// Where the content is, by the first word of a landing pad of two words.
+// The place of the object, by the first word of a landing pad of two words.
 fn content_pointer(first: u64) -> Result<Place>
     ensures { let is_far = λ (far : FarPointer).
         IsFarPointer first far × (far.is_double_far ≡ false) in
@@ -136,7 +136,7 @@ fn content_pointer(first: u64) -> Result<Place>
     }
 }
 
-// A word that is a struct or list pointer.
+// Reads a word as a struct or list pointer. Fails where it is neither.
 fn local_pointer(word: u64) -> Result<LocalPointer>
     ensures found { IfOk result (λ local. IsLocal word local) }
     ensures errors { IfErr result (λ error. NotLocal word error.kind) }

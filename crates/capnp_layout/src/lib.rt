@@ -1,12 +1,12 @@
 //! The layout of Cap'n Proto messages, for authors of views and programs: places, pointer words,
 //! landing pads, and the objects that pointers point to.
 //!
-//! A [`Place`](place::Place) is that of a pointer in a message, whose segments are any
+//! A [`Place`](place::Place) is where a pointer is in a message, whose segments are any
 //! [`ReaderSegments`](capnp_frame::message::ReaderSegments). [`object::object_at`] returns the
-//! [`Object`](object::Object) that it points to, by way of landing pads and within bounds, or the
-//! error that says what is wrong; [`Object::pointers`](object::Object::pointers) goes on to what
-//! that object holds. Pointer words are read and made here alone ([`pointer`], [`pointer_word`],
-//! [`body_word`]); views of objects are those of `capnp_wire`. The words are those of the
+//! [`Object`](object::Object) that the pointer points to, through landing pads and within bounds,
+//! or the error that says what is wrong. [`Object::pointers`](object::Object::pointers) goes on to
+//! the object's own pointers. Pointer words are read and made here alone ([`pointer`],
+//! [`pointer_word`], [`body_word`]); `capnp_wire` has the views of objects. Names follow the
 //! [encoding document].
 //!
 //! [encoding document]: https://capnproto.org/encoding.html

@@ -5,16 +5,17 @@ ghost use Rattle.capnp_layout.specs.Limits.{too_large};
 
 use capnp_frame::{Error, ErrorKind, Result};
 
-/// The most words that an object may have, and a value that is laid out as one block.
+/// The most words that an object may have, and also a value that is laid out as one block.
 pub const MAX_WORDS: u32 = (1 << 29) - 1;
 
-/// The most elements that a list may have: a list pointer has their number in 29 bits.
+/// The most elements that a list may have: a list pointer holds their number in 29 bits.
 pub const MAX_ELEMENTS: u32 = (1 << 29) - 1;
 
-/// The most words that a segment may have: a far pointer has the word of its landing pad in 29 bits.
+/// The most words that a segment may have: a far pointer holds the position of its landing pad in
+/// 29 bits.
 pub const MAX_SEGMENT_WORDS: u32 = 1 << 29;
 
-/// Returns a number of words that a block may have. Fails for more than `MAX_WORDS` with
+/// Returns a number of words that a block may have. Fails above `MAX_WORDS` with
 /// `AllocationTooLarge`, in canonical form with `CanonicalTooLarge`.
 pub fn checked_word_count(words: u64, canonical: bool) -> Result<u32>
     ensures { MatchResult result (λ number. (number ≡ words) × (number < 2 ^ 29))
@@ -29,8 +30,8 @@ pub fn checked_word_count(words: u64, canonical: bool) -> Result<u32>
     Err(allocation_too_large(words))
 }
 
-/// The error for too many words or elements, `AllocationTooLarge`, with their number as far as it
-/// fits 32 bits.
+/// The error for too many words or elements: `AllocationTooLarge` with their number, or with
+/// 2^32 - 1 where that number does not fit 32 bits.
 pub fn allocation_too_large(number: u64) -> Error
     ensures { result.kind ≡ AllocationTooLarge (min number (2 ^ 32 - 1)) }
 {

@@ -15,7 +15,7 @@ pub struct NumberList<'a> {
     pub start: Place,
     pub size: ElementSize,
     pub count: u32,
-    /// The bits of all elements, kept so that their size need not be looked at again.
+    /// The bits of all elements. It is kept so that their size need not be looked at again.
     pub bits: u64,
     ghost bits_are: { bits ≡ count * width (code_of size) },
 }
@@ -23,7 +23,7 @@ pub struct NumberList<'a> {
 impl<'a> NumberList<'a> {
     ghost use Rattle.capnp_layout.specs.Local.{object_of};
 
-    /// The number of its words.
+    /// How many words it has.
     #[inline(always)]
     pub fn words(&self) -> u64
         ensures { result ≡ words_for self.now.count (width (code_of self.now.size)) }

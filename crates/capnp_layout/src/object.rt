@@ -27,24 +27,24 @@ pub struct Object<'a> {
     pub segment: &'a [u8],
     pub start: Place,
     pub body: Body,
-    /// The number of words that a reader counts against the traversal limit for it, with those of
+    /// The number of words that a reader counts against the traversal limit for it, including its
     /// landing pads.
     pub traversed: u64,
 }
 
-/// What an object is.
+/// What kind of object it is, and its size.
 #[derive(Clone, Copy)]
 pub enum Body {
     Struct(StructSize),
     Numbers(ElementSize, u32),
     Pointers(u32),
-    /// The elements, and how many words follow their tag.
+    /// A list of structs: its elements, and how many words follow its tag.
     Structs(Elements, u32),
 }
 
 /// The object that the pointer at a place points to, where it may be entered at this nesting depth;
-/// `None` for null. Where there is none the error says what is there: `specs/PointerErrors.antt` has the
-/// cases in their order.
+/// `None` for null. Where there is no object the error says why: `specs/PointerErrors.antt` has the
+/// cases, in their order.
 #[inline(always)]
 pub fn object_at<S: ReaderSegments>(
     segments: &S,
@@ -61,7 +61,7 @@ pub fn object_at<S: ReaderSegments>(
     object_in(segments, segment, place, nesting)
 }
 
-/// Does the same where the segment of the pointer is known. Fails as `object_at` does.
+/// Does what `object_at` does, where the segment of the pointer is known. Fails as it does.
 #[inline(always)]
 pub fn object_in<'a, S: ReaderSegments>(
     segments: &'a S,
@@ -100,8 +100,8 @@ pub fn object_in<'a, S: ReaderSegments>(
     }))
 }
 
-/// The object that the pointer at a place of this segment points to, where there is a tree; `None`
-/// for null.
+/// The object that the pointer at a place of this segment points to, where it is known that a tree
+/// is there; `None` for null.
 #[inline(always)]
 pub fn object_there<'a, S: ReaderSegments>(
     segments: &'a S,
@@ -130,8 +130,8 @@ pub fn words_fit(segment: &[u8])
     ensures length { length segment.now < 2 ^ 64 }
 {}
 
-/// What begins at a word of a segment, by what the pointer to it says. Fails with
-/// `PointerOutOfBounds` where it doesn't lie within the segment, or with `WrongPointerKind`.
+/// What begins at a word of a segment, as the pointer to it says. Fails with `PointerOutOfBounds`
+/// where that doesn't lie within the segment, or with `WrongPointerKind`.
 #[inline(always)]
 pub fn body_at(segment: &[u8], start: usize, shape: LocalShape) -> Result<Body>
     ensures found { let words = words_of segment.now in
@@ -160,7 +160,7 @@ pub fn body_at(segment: &[u8], start: usize, shape: LocalShape) -> Result<Body>
     }
 }
 
-// A list of structs at a word of a segment, with this many words after its tag.
+// A list of structs whose tag is at a word of a segment, and which has this many words after it.
 fn structs(segment: &[u8], start: usize, words: u32) -> Result<Body>
     ensures found { let words_there = words_of segment.now in
         IfOk result (λ body. (tag number : ℕ) → IsLocalShape tag (LocalShape.Structs words) →
@@ -182,7 +182,8 @@ fn structs(segment: &[u8], start: usize, words: u32) -> Result<Body>
     Ok(Body::Structs(elements, words))
 }
 
-// Fails with `PointerOutOfBounds` where words from this start on don't lie within a segment.
+// Fails with `PointerOutOfBounds` where a number of words from this one on don't lie within a
+// segment.
 #[inline(always)]
 fn expect_room(segment: &[u8], start: usize, words: u64) -> Result<()>
     ensures { let there = length segment.now / 8 in
@@ -195,7 +196,7 @@ fn expect_room(segment: &[u8], start: usize, words: u64) -> Result<()>
     Ok(())
 }
 
-/// Whether words from this start on lie within a segment.
+/// Whether a number of words from this one on lie within a segment.
 #[inline(always)]
 pub fn fits(segment: &[u8], start: usize, words: u64) -> bool
     ensures { IsTrue result ↔ (start + words ≤ length segment.now / 8) }
@@ -243,7 +244,7 @@ impl Body {
         }
     }
 
-    /// The number of its words; for a list of structs, of the tag and the elements.
+    /// How many words it has; for a list of structs, with its tag.
     #[inline(always)]
     pub fn words(self) -> u64
         ensures { result ≡ words_in self }

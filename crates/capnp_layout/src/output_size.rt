@@ -1,4 +1,4 @@
-//! Sizes of objects as they are, or in canonical form, without trailing zero words.
+//! Sizes of objects, untrimmed or in canonical form, without trailing zero words.
 ghost use Rattle.std.specs.Prelude.{◌≡◌, if◌then◌else◌, ◌+◌, ◌*◌, ◌/◌, ◌≤◌, length};
 ghost use Rattle.capnp_layout.specs.Pointer.{words_of};
 ghost use Rattle.capnp_layout.specs.Body.{room_of, words_in};
@@ -38,8 +38,8 @@ pub fn output_body(object: &Object<'_>, canonical: bool) -> Body
     }
 }
 
-/// The size of some consecutive structs from a word on: the size that they need in canonical form,
-/// or all of it.
+/// The size of each of some consecutive structs from a word on: in canonical form the least that
+/// holds them all, else the size that they have.
 #[inline(always)]
 pub fn output_size(
     segment: &[u8],

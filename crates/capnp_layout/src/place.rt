@@ -1,4 +1,4 @@
-//! Places of words in a message, and what is there.
+//! Places of words in a message, and the words that are there.
 ghost use Rattle.std.specs.Prelude.{◌≡◌, ◌/◌, ◌^◌, ◌<◌, length, slice_get, Some, None, OnSome, MatchResult};
 ghost use Rattle.capnp_frame.specs.declared.error.ErrorKind.{ErrorKind};
 ghost use Rattle.capnp_layout.specs.Pointer.{words_of};

@@ -35,8 +35,8 @@ pub enum LocalShape {
     Numbers(ElementSize, u32),
     /// A list of pointers: how many there are.
     Pointers(u32),
-    /// A composite list, of structs: how many words its elements have together, without the tag
-    /// word in front of them.
+    /// A list of structs, a composite list: how many words its elements have together, without the
+    /// tag word in front of them.
     Structs(u32),
 }
 
@@ -57,20 +57,20 @@ pub struct Elements {
     pub count: u32,
 }
 
-/// Where the landing pad of a far pointer is, and whether the pointer is a double-far one, whose
-/// landing pad has two words.
+/// A far pointer: where its landing pad is, and whether it is a double-far pointer, whose landing
+/// pad has two words.
 #[derive(Clone, Copy)]
 pub struct FarPointer {
     pub landing_pad: Place,
     pub is_double_far: bool,
 }
 
-// Speed: all of these are inlined. Most have few instructions; `PointerWord::read` and `list_shape`
-// would return their results in memory, stored in parts and loaded in others, for which a processor
-// waits (workloads `log`, `far`).
+// Speed: all of these are inlined. Most have few instructions. `PointerWord::read` and `list_shape`
+// would return their results through memory, stored in some parts and loaded in others, and the
+// processor would wait for that (workloads `log`, `far`).
 
 impl PointerWord {
-    /// What a word says; null reads as the pointer to a struct of no words.
+    /// Reads a pointer word; null reads as the pointer to a struct of no words.
     #[inline(always)]
     pub fn read(word: u64) -> PointerWord
         ensures { IsPointerWord word result }
@@ -155,7 +155,7 @@ impl StructSize {
 }
 
 impl Elements {
-    /// What the tag word in front of the elements says; `None` where it doesn't have the shape of a
+    /// Reads the tag word in front of the elements; `None` where it doesn't have the shape of a
     /// struct pointer.
     #[inline(always)]
     pub fn read(tag: u64) -> Option<Elements>
@@ -190,7 +190,7 @@ pub fn list_code(word: u64) -> u64
     word / (1 << 32) % 8
 }
 
-/// How many elements a list pointer says that there are; of structs, how many words these have
+/// How many elements a list pointer declares; for a list of structs, how many words they have
 /// together.
 #[inline(always)]
 pub fn list_count(word: u64) -> u64
@@ -199,7 +199,7 @@ pub fn list_count(word: u64) -> u64
     word / (1 << 35)
 }
 
-// What a word is as a list pointer.
+// What a list pointer points to.
 #[inline(always)]
 fn list_shape(word: u64) -> LocalShape
     requires { pointer_kind word ≡ 1 }

@@ -5,7 +5,7 @@ use crate::object::{Body, Object};
 use crate::place::Place;
 use crate::pointer_slots::PointerSlots;
 
-/// Some consecutive pointers of a segment: those of a struct, or a list of pointers.
+/// Consecutive pointers of a segment: the pointer section of a struct, or a list of pointers.
 #[derive(Drop)]
 pub struct PointerRun<'a> {
     pub segment: &'a [u8],

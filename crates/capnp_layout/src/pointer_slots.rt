@@ -1,12 +1,12 @@
-//! The pointers of an object, section by section. A struct, and each element of a list of structs, has
-//! a pointer section after its data section. A list of pointers is one pointer section.
+//! The pointers of an object, section by section. A struct, and each element of a list of structs,
+//! has a pointer section after its data section. A list of pointers is one pointer section.
 ghost use Rattle.std.specs.Prelude.{◌≡◌, ◌≢◌, ◌↔◌, ◌+◌, ◌*◌, ◌^◌, ◌<◌, ◌≤◌, [], IsTrue};
 
 use crate::object::Body;
 use crate::place::Place;
 use crate::pointer::StructSize;
 
-/// How many words the data section, and the pointer section, of a struct or of each element has.
+/// The sizes of the data section and the pointer section of a struct, or of each element, in words.
 #[derive(Clone, Copy)]
 pub struct SectionSizes {
     pub data_words: u16,
@@ -19,7 +19,7 @@ pub struct SectionSizes {
 pub struct PointerSlots {
     /// The place of the next pointer.
     next: Place,
-    /// How many pointers of this section are left.
+    /// How many pointers are left in this section.
     here: u32,
     /// How many words are between the last pointer of a section and the first one of the next.
     gap: usize,
@@ -50,7 +50,7 @@ impl StructSize {
 impl Body {
     ghost use Rattle.capnp_layout.specs.PointerSections.{section_sizes, section_count, first_section};
 
-    /// The sizes of its sections: of each element's, for a list of structs.
+    /// The sizes of its sections; for a list of structs, of each element's sections.
     #[inline(always)]
     pub fn section_sizes(self) -> SectionSizes
         ensures { result ≡ section_sizes self }
@@ -82,7 +82,7 @@ impl Body {
         }
     }
 
-    // The word at which its first section begins, where the object begins at a word.
+    // The word at which its first section begins, where the object begins at this word.
     #[inline(always)]
     fn first_section(self, start: usize) -> usize
         requires { start < 2 ^ 62 }
@@ -121,7 +121,7 @@ impl PointerSlots {
         PointerSlots::new(first, body.section_sizes(), kept, body.section_count())
     }
 
-    /// The first `kept` pointers of each of some consecutive structs, which begin at a place.
+    /// The first `kept` pointers of each of some consecutive structs, the first of them at a place.
     #[inline(always)]
     pub fn new(first: Place, size: SectionSizes, kept: u32, count: u32) -> PointerSlots
         requires kept { kept ≤ size.pointers }
@@ -155,7 +155,7 @@ impl PointerSlots {
         }
     }
 
-    /// Some consecutive pointers.
+    /// A number of consecutive pointers, the first of them at a place.
     #[inline(always)]
     pub fn run(first: Place, count: u32) -> PointerSlots
         requires bound { first.word + count < 2 ^ 61 }

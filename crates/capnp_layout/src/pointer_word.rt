@@ -64,8 +64,8 @@ pub fn local_shape(word: u64) -> Option<LocalShape>
     }
 }
 
-/// A pointer to an object this many words further, otherwise as the tag says. Null and the pointer
-/// to a struct of no words, whose offset is -1, stay as they are.
+/// The pointer of a tag word, to an object that is this many words further. Null and the pointer to
+/// a struct of no words, whose offset is -1, stay the same.
 pub fn moved(tag: u64, offset: u32) -> u64
     requires local { offset < 2 ^ 29 }
     requires pointer { (form : Form) × (n : ℕ) × HasRoom form n × (tag ≡ pointer form n 0) }
@@ -78,8 +78,8 @@ pub fn moved(tag: u64, offset: u32) -> u64
     tag + 4 * offset as u64
 }
 
-/// The pointer from the word at `place` of a segment to where a word leads that has, in place of the
-/// offset, the index of the word at which the object begins.
+/// The pointer at the word `place` of a segment to an object. `word` is that pointer too, but has
+/// the index of the word at which the object begins, in place of the offset.
 #[inline(always)]
 pub fn link(word: u64, place: u32) -> u64
     requires { place < 2 ^ 29 }

@@ -14,7 +14,7 @@ pub struct StructList<'a> {
     /// The place of its tag.
     pub start: Place,
     pub elements: Elements,
-    /// How many words follow its tag.
+    /// How many words follow the tag.
     pub words: u32,
 }
 

@@ -1,4 +1,4 @@
--- The tests of a walk hold exactly where the words are those of a layout.
+-- The tests of a walk hold exactly where the words are the words of a layout.
 use Rattle.std.proofs.Common.{◌≡◌, ℕ, ◌+◌, ◌*◌, ◌/◌, ◌^◌, ◌<◌, List, [], ◌∷◌, Some, slice_get, refl, subst, arith}
 use Rattle.capnp_layout.specs.Prelude.{pointer_kind, offset, Form, Shape, local, far, double_far, ShapeIsAt, PointsTo, is_null, is_object}
 use Rattle.capnp_layout.specs.declared.place.Place.{Place}

@@ -23,7 +23,7 @@ pub record Points (segment : List ℕ) (word tag start : ℕ) : Type 0 where
   pub is_local : pointer_kind tag < 2
   pub target : start + 2 ^ 30 * (offset tag / 2 ^ 29) ≡ word + 1 + offset tag
 
--- an object as it is, under other names for its parts
+-- the same object, with other names for its parts
 read_as : (m : List (List ℕ)) (k : ℕ) (segment : List ℕ) (there : slice_get m k ≡ Some segment) (word start tag : ℕ) (form : Form) (children : List Place) (shape : Shape)
     → Points segment word tag start → ShapeIsAt segment (record { segment = k; word = start }) tag shape → shape.form ≡ form → shape.children ≡ children
     → PointsTo m (record { segment = k; word = word }) (record { form = form; children = children; traversed = 0 + shape.traversed })

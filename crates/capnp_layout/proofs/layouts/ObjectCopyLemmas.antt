@@ -1,4 +1,4 @@
--- Each object opens to what is copied of it.
+-- What is copied of each object.
 use Rattle.std.proofs.Common.{ℕ, zero, suc, ◌+◌, ◌≤◌, List, arith}
 use Rattle.capnp_layout.specs.Prelude.{most_used}
 use Rattle.capnp_layout.proofs.words.TrailingZeroLemmas.{most_within}

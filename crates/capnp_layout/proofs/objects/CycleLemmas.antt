@@ -1,4 +1,4 @@
--- Where an object leads back to itself, there is no tree.
+-- Where a chain of pointers goes from an object back to it, there is no tree.
 use Rattle.std.proofs.Common.{◌≡◌, ℕ, ◌+◌, ◌<◌, ◌≤◌, List, [], ◌∷◌, subst, arith}
 use Rattle.capnp_layout.specs.Prelude.{Form, Trees, none, tree, At, nowhere, at, IsIn, here, there, Below, directly, further}
 use Rattle.capnp_layout.specs.declared.place.Place.{Place}

@@ -30,7 +30,7 @@ elements_are_bytes bytes start n fits room =
     let front : take n part ≡ take n (drop (8 * start) bytes) = take-take n (8 * k) (drop (8 * start) bytes) (omega arith) in
     sym (ap (digits 256 n) whole ∙ back ∙ front)
 
--- some digits, each below the base, are those of their number
+-- digits, each below the base, are the digits of the number that they make
 pub low_digit : (base d x : ℕ) → d < base → (d + base * x) % base ≡ d
 low_digit base d x small = add-mul-mod_self_left d base x ∙ mod-eq_of_lt small
 

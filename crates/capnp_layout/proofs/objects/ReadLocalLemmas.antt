@@ -6,7 +6,7 @@ use Rattle.capnp_layout.specs.declared.place.Place.{Place}
 use Rattle.capnp_layout.specs.declared.object.Object.{Object as ReadObject}
 use Rattle.capnp_layout.proofs.forms.PreorderLemmas.{local_object}
 
--- where a pointer leads that is no far pointer
+-- what a pointer points to that is no far pointer
 record LandsLocal (place : Place) (landing : Target) (word : ℕ) : Type 0 where
   is : landing ≡ record { segment = place.segment; origin = following place.word; tag = word; landing_pads = 0 }
   positive : 0 < word

@@ -1,4 +1,5 @@
--- Structs of no words that begin where their pointers do: a walk meets no words there, and their copies are such pointers.
+-- Structs of no words that begin where their pointers do: a walk meets no words there, and their copies are
+-- such pointers.
 use Rattle.std.proofs.Common.{◌≡◌, ℕ, Bool, true, false, List, [], Some, slice_get, refl, arith, lit<}
 use Rattle.std.proofs.lemmas.Option.{slice_get_within}
 use Rattle.capnp_layout.specs.Prelude.{struct, Trees, none, tree, Shape, PointsTo, local, a_struct, is_object, output, empty_struct}

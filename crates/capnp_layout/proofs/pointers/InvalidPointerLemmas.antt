@@ -21,7 +21,7 @@ capability_lands_nowhere m place word c e k (local {word = w} f _ t) = let same 
 capability_lands_nowhere m place word c e k (far {word = w} f t _ _) = let same : word ≡ w = cc in omega arith
 capability_lands_nowhere m place word c e k (double_far {word = w} f t _ _ _ _ _) = let same : word ≡ w = cc in omega arith
 
--- what the landing pad of a far pointer has where the pointer leads somewhere
+-- what the landing pad of a far pointer has where the pointer points to an object
 record Narrow (m : List (List ℕ)) (word : ℕ) : Type 0 where
   tag : ℕ
   there : word_at m (landing_pad word) ≡ Some tag
@@ -143,7 +143,7 @@ reached m place landing shape lands (null_there e) = absurd (null_lands_nowhere 
 reached m place landing shape lands (is_object {landing = c} {words = w} {start = i} {shape = s} lands' e b is_at) =
     record { landing = c; words = w; start = i; shape = s; lands = lands'; content = e; begins = b; is_at = is_at }
 
--- where a pointer leads somewhere, an object stands for it
+-- a pointer that points somewhere is not null
 pub deep_enough : (m : List (List ℕ)) (place : Place) (landing : Target) (nesting : ℕ) (shape : Shape) → Lands m place landing → PointsTo m place shape
     → (is_null shape.form ≡ false → 0 < nesting) → 0 < nesting
 deep_enough m place landing nesting shape lands (null_there e) deep = absurd (null_lands_nowhere m place landing e lands)

@@ -1,4 +1,4 @@
--- Where pointers lead through landing pads.
+-- What pointers point to, through landing pads.
 use Rattle.std.proofs.Common.{inl, inr, ◌≡◌, ℕ, ◌+◌, ◌*◌, ◌/◌, ◌^◌, ◌≤◌, Bool, true, false, not, if◌then◌else◌, List, Some, None, MatchOption, Option, slice_get, refl, sym, ◌∙◌, ap, subst, arith}
 use Rattle.std.proofs.Common.{Result, Ok, Err, IfOk, IfErr}
 use Rattle.std.specs.Result.{IsErrAnd}
@@ -25,7 +25,7 @@ abbrev pub OffsetPointsTo : Option ℕ → ℕ → ℕ → Type 0
 OffsetPointsTo found bits word =
     MatchOption found ((start : ℕ) → start + 2 ^ 30 * (bits / 2 ^ 29) ≡ word + 1 + bits → ⊥) (λ start. start + 2 ^ 30 * (bits / 2 ^ 29) ≡ word + 1 + bits)
 
--- what the caller has seen of a pointer within its segment, and what is read of where it leads
+-- what the caller has seen of a pointer within its segment, and what is read of its target
 pub record Seen (from : Place) (landing_pads : ℕ) (local : LocalPointer) (bytes : List ℕ) (read : ReadLanding) : Type 0 where
   pub segment : read.segment.now ≡ bytes
   pub number : read.number ≡ from.segment
@@ -124,7 +124,7 @@ is_far_word word far far_is narrow = record { far = far_is.far_kind; wide = is_n
 pub wide_far_word : (word : ℕ) (f : FarPointer) → IsFarPointer word f → f.is_double_far ≡ true → IsFar word 1
 wide_far_word word f f_is wide = record { far = f_is.far_kind; wide = is_double_far word f f_is wide }
 
--- where it leads through that landing pad
+-- what it points to, through that landing pad
 pub narrow_landing : (segments : List (List ℕ)) (place : Place) (word : ℕ) (far : FarPointer) (bytes : List ℕ) (first : ℕ) (local : LocalPointer) (read : ReadLanding)
     → word_at (message_of segments) place ≡ Some word → IsFarPointer word far → far.is_double_far ≡ false → slice_get segments far.landing_pad.segment ≡ Some bytes
     → slice_get (words_of bytes) far.landing_pad.word ≡ Some first → IsLocal first local → Seen far.landing_pad 1 local bytes read → IsLanding (message_of segments) place read
@@ -136,7 +136,7 @@ narrow_landing segments place word far bytes first local read there far_is narro
     subst (λ (x : Place). Lands m place (record { segment = x.segment; origin = following x.word; tag = first; landing_pads = 1 })) (sym far_is.landing_pad_is) lands in
     local_landing m place far.landing_pad first 1 local bytes read from_landing_pad (omega arith) (segment_is_there segments far.landing_pad.segment bytes segment) local_is seen
 
--- the two words of a wide landing pad
+-- the two words of a landing pad
 pub wide_landing_pad : {bytes : List ℕ} {first tag : ℕ} (segments : List (List ℕ)) (word : ℕ) (far : FarPointer) → IsFarPointer word far → far.is_double_far ≡ true
     → slice_get segments far.landing_pad.segment ≡ Some bytes → slice_get (words_of bytes) far.landing_pad.word ≡ Some first → slice_get (words_of bytes) (far.landing_pad.word + 1) ≡ Some tag
     → HasWideLandingPad (message_of segments) word first tag
@@ -146,7 +146,7 @@ wide_landing_pad segments word far far_is wide segment one two = record {
   tag_there = second_word segments word far _ _ far_is segment two;
 }
 
--- the content of a landing pad of two words
+-- the object of a landing pad of two words
 pub not_far_word : (inner : ℕ) → ((f : FarPointer) → IsFarPointer inner f × (f.is_double_far ≡ false) → ⊥) → IsFar inner 0 → ⊥
 not_far_word inner none is_far = none (record { landing_pad = landing_pad inner; is_double_far = false }) (record { far_kind = is_far.far; landing_pad_is = refl; width = is_far.wide }, refl)
 
@@ -173,7 +173,7 @@ wide_landing m place content word inner tag local bytes read e wide first inner_
       small = local_is.small;
     }
 
--- the object to which a landing leads
+-- the object at a landing
 traversed_of_shape : (words : List ℕ) (start : Place) (body : Body) → (shape_of words start body).traversed ≡ traversed_of body
 traversed_of_shape words start (Struct size) = refl
 traversed_of_shape words start (Numbers elements count) = refl

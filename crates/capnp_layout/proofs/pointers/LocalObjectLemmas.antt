@@ -1,4 +1,4 @@
--- Lists and structs in the segments of their pointers: they are where the pointers lead.
+-- Lists and structs in the segments of their pointers: they are where the pointers point to.
 use Rattle.std.proofs.Common.{◌≡◌, Bool, true, false, if◌then◌else◌, ℕ, ◌+◌, ◌*◌, ◌/◌, ◌^◌, ◌<◌, ◌≤◌, List, All, length, Some, slice_get, Bor, refl, ap, subst, arith}
 use Rattle.std.specs.Prelude.{⊤}
 use Rattle.capnp_layout.specs.Prelude.{words_of, offset, pointer_kind, IsLocalShape, IsElementsTag, code_of, width, words_for, word_at, local, Target, Lands, Shape, ShapeIsAt, PointsTo, is_object, IsObject, shape_of, room_of, words_in, traversed_of, local_struct_of, structs_of, least_size, output_body_of}
@@ -13,7 +13,7 @@ use Rattle.capnp_layout.specs.declared.object.Body.TheVariants.{Struct, Numbers,
 use Rattle.capnp_layout.proofs.pointers.ReadObjectLemmas.{struct_is_at, numbers_are_at, pointers_are_at, structs_are_at}
 use Rattle.capnp_layout.proofs.trees.FieldRoomLemmas.{room_of_shape}
 
--- an object is where a pointer within its segment leads, where there is room for it
+-- an object is where a pointer within its segment points to, if there is room for the object
 local_is_at : (m : List (List ℕ)) (place : Place) (pointer : ℕ) (segment : Bor (List ℕ)) (start : ℕ) (body : Body) (traversed : ℕ)
     → word_at m place ≡ Some pointer → 0 < pointer → pointer < 2 ^ 64 → pointer_kind pointer < 2 → slice_get m place.segment ≡ Some (words_of segment.now)
     → start + 2 ^ 30 * (offset pointer / 2 ^ 29) ≡ place.word + 1 + offset pointer
@@ -111,7 +111,7 @@ list_output false words start list plain = refl
 pub word_there : (m : List (List ℕ)) (place : Place) (words : List ℕ) (word : ℕ) → slice_get m place.segment ≡ Some words → slice_get words place.word ≡ Some word → word_at m place ≡ Some word
 word_there m place words word there is = rw there is
 
--- a struct as it is copied
+-- the copy of a struct
 pub local_struct_output : (c : Bool) (words : List ℕ) (start : ℕ) (size from : StructSize) → size ≡ (if c then least_size words start from 1 else from)
     → Struct size ≡ output_body_of c words start (Struct from)
 local_struct_output true words start size from is = ap (λ (s : StructSize). Struct s) is

@@ -1,4 +1,4 @@
--- A pointer points to the next free word exactly where its word is that of a layout.
+-- A pointer points to the next free word exactly where its word is the pointer word of a layout.
 use Rattle.std.proofs.Common.{◌≡◌, ℕ, ◌+◌, ◌-◌, ◌*◌, ◌/◌, ◌^◌, ◌<◌, arith}
 use Rattle.capnp_layout.specs.Prelude.{pointer_kind, offset, data_words, pointer_words, code, list_count, struct_pointer, list_pointer}
 

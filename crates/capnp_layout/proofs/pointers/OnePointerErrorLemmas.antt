@@ -113,7 +113,7 @@ one_misfit words start pointer a b p q =
       ]
     ]
 
--- a pointer that leads nowhere, and its error
+-- a pointer that points nowhere, and its error
 data PointsNowhere (m : List (List ℕ)) (place : Place) : ErrorKind → Type 0 where
   by_no_word : {kind : ErrorKind} → NoWord m place kind → PointsNowhere m place kind
   by_capability : {word : ℕ} → word_at m place ≡ Some word → pointer_kind word ≡ 3 → PointsNowhere m place CapabilityRefused

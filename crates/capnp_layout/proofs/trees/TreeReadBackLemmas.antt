@@ -80,7 +80,7 @@ far_fields k q low = (omega (arith, low), omega (arith, low), omega arith, omega
 far_landing_pad : (k q : ℕ) → q < 2 ^ 29 → (let place : Place = record { segment = k; word = q } in landing_pad (far_pointer k q) ≡ place)
 far_landing_pad k q low = let f = far_fields k q low in cc
 
--- the tree of a body that follows a landing pad, to which a far pointer leads
+-- the tree of a body that follows a landing pad, to which a far pointer points
 pub far_tree : (m : List (List ℕ)) (place : Place) (k q : ℕ) (words : List ℕ) (form : Form) (children : Trees) → slice_get m k ≡ Some words → AllHaveRoom (tree form children none)
     → total_words (tree form children none) < 2 ^ 29 → is_null_form form ≡ false → q < 2 ^ 29 → word_at m place ≡ Some (far_pointer k q)
     → slice_get words q ≡ Some (pointer form (count children) 0) → Laid words (q + 1) (tree form children none)

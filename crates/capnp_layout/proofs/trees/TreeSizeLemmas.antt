@@ -1,4 +1,4 @@
--- Trees at places with room for their fields, and the words that they have, as they are or in canonical form.
+-- Trees at places with room for their fields, and how many words they have, untrimmed or in canonical form.
 use Rattle.std.proofs.Common.{◌≡◌, ℕ, suc, ◌+◌, ◌*◌, ◌<◌, ◌≤◌, Bool, true, false, List, [], ◌∷◌, length, map, take, Some, slice_get, refl, sym, ◌∙◌, ap, subst, arith}
 use Rattle.std.proofs.lemmas.List.{length-map}
 use Rattle.capnp_layout.specs.Prelude.{words_of, words_from, Form, null, struct, numbers, pointers, structs, Trees, none, tree, count, object_size, total_words, first, following, before, keep_tree, cut_zeros, cut_nulls, least_data, least_pointers, narrowed, trim, Shape, places, pointer_places, elements_from, IsObject, shape_of, room_of, words_in, At, output, HasRoom, AllHaveRoom, most_used, output_body_of}
@@ -15,7 +15,7 @@ use Rattle.capnp_layout.proofs.trees.FieldRoomLemmas.{length-elements_from, leng
 use Rattle.capnp_layout.proofs.trees.TrimmedTreeLemmas.{count-trim, room_trim}
 use Rattle.capnp_layout.proofs.objects.ObjectWordLemmas.{own_words_are}
 
--- the words of an object alone: with those of the trees below it they are the words of the whole
+-- the words of an object alone: with the words of the trees below it they are the words of the whole
 pub record OwnOf (m : List (List ℕ)) (c : Bool) (shape : Shape) (own : ℕ) : Type 0 where
   pub counts : (children : Trees) (inside : ℕ) → At m shape.children children inside → AllHaveRoom children → own + total_words (output c children) ≡ total_words (output c (tree shape.form children none))
   pub room : HasRoom shape.form (length shape.children)

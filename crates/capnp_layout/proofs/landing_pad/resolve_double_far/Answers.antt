@@ -1,4 +1,4 @@
--- The first word of a landing pad of two words says where the content is, the second what it is.
+-- The first word of a landing pad of two words says where the object is, the second what it is.
 use Rattle.std.proofs.Common.{◌≡◌, ℕ, None, slice_get, sym, ap, ◌∙◌, subst, refl}
 use Rattle.capnp_layout.specs.Prelude.{landing_pad_segment, message_of, landing_pad, IsFar, BadLandingPad, not_far, no_content}
 use Rattle.capnp_layout.specs.declared.place.Place.{Place}
@@ -10,7 +10,7 @@ use Rattle.capnp_layout.proofs.landing_pad.resolve_double_far.Given as given
 use Rattle.capnp_layout.proofs.landing_pad.resolve_double_far.Goals as goal
 use Rattle.capnp_layout.proofs.landing_pad.resolve_double_far.Goals.{In_ok-content}
 
--- the first word says where the content is
+-- the first word says where the object is
 record Content (g : given.Over) (c : In_ok-content g) : Type 0 where
   is_far : IsFar c.args.first 0
   place : c.in_ok-content.content ≡ landing_pad c.args.first

@@ -1,4 +1,4 @@
--- A far pointer leads on through a landing pad of one word, or of two.
+-- A far pointer points to its object through a landing pad of one word, or of two.
 use Rattle.std.proofs.Common.{◌≡◌, ℕ, Some, sym, subst}
 use Rattle.capnp_layout.specs.Prelude.{IsFarPointer, HasWideLandingPad, message_of, word_at, landing_pad, BadLandingPad, no_tag}
 use Rattle.capnp_frame.proofs.sources.SourceCallLemmas.{passed_on}

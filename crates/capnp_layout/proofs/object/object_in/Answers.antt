@@ -1,4 +1,4 @@
--- The object that a landing points to, and each error on the way.
+-- The object at a landing, and each error on the way.
 use Rattle.std.proofs.Common.{◌<◌, sym, subst, arith}
 use Rattle.std.proofs.lemmas.Result.{err_from_is_err_and}
 use Rattle.capnp_layout.specs.Prelude.{message_of, IsStart, IsLanding, PointerError, too_deep, no_start, misfits, words_of}

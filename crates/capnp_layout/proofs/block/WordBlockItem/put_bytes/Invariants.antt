@@ -1,4 +1,4 @@
--- The words so far are those of the chunks so far.
+-- The words so far are the words of the chunks so far.
 use Rattle.std.proofs.Common.{◌≡◌, map, take}
 use Rattle.capnp_layout.specs.Prelude.{number_of, put, word_numbers}
 use Rattle.capnp_layout.proofs.block.WordBlockItem.put_bytes.Given as goal

@@ -1,4 +1,4 @@
--- The pointers of an object are all those of its shape.
+-- The pointers of an object are all the pointers of its shape.
 use Rattle.std.proofs.Common.{◌∙◌}
 use Rattle.capnp_layout.specs.Prelude.{words_of}
 use Rattle.capnp_layout.proofs.pointers.PointersInOrderLemmas.{kept_children}
