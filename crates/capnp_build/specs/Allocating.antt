@@ -1,7 +1,7 @@
--- What an allocator keeps that hands out a segment, or takes one back (src/allocator.rt). `out`
--- says which segments may be out, `keeps` what every call leaves the same, `grants` which requests
--- have to be granted, `fails` with which kinds a request may fail, and `returns` what taking a
--- segment back points to, as the members of the trait Allocator.
+-- What an allocator keeps that hands out a segment, or takes one back (src/allocator.rt). As the members of
+-- the trait Allocator, `out` says which segments may be out, `keeps` what every call leaves the same, and
+-- `grants` which requests have to be granted. `fails` says with which kinds a request may fail, and `returns`
+-- what taking a segment back does.
 use Rattle.std.specs.Prelude.{ℕ, ◌/◌, ◌^◌, ◌<◌, ◌≤◌, ◌≡◌, Bool, List, length, Result, IfOk, IfErr, IsOkAnd, OnErr}
 use Rattle.capnp_frame.specs.declared.error.Error.{Error}
 use Rattle.capnp_frame.specs.declared.error.ErrorKind.{ErrorKind}
@@ -27,7 +27,7 @@ pub record HandsOut {A S : Type 0} (out : A → List Out → Type 0) (keeps : A 
   pub errors : OnErr result ((list : List Out) → out old list → out new list)
   pub same : keeps old new
 
--- A segment of this length is taken back, of which this many words were used.
+-- A segment of this length is taken back, and this many of its words were used.
 pub record TakesBack {A : Type 0} (out : A → List Out → Type 0) (keeps : A → A → Type 0) (returns : A → Out → ℕ → A → Type 0)
     (segment : Out) (words : ℕ) (old new : A) : Type 0 where
   pub takes_off : TakesOff (out old) (out new) segment

@@ -37,7 +37,7 @@ state_of built = record { spaces = built.spaces; allocator = built.allocator }
 abbrev pub ForRoot : List Space → (Form → Type 0) → Type 0
 ForRoot spaces fact = (form : Form) (children : Trees) (traversed : ℕ) → Root (message spaces) form children traversed → fact form
 
--- the kind is that of the root's object, if that is null, a struct, or a list of bytes or of words
+-- this is the kind of the root's object, if that is null, a struct, or a list of bytes or of words
 abbrev pub IsRootKind : RootKind → List Space → Type 0
 IsRootKind Null spaces = ⊤
 IsRootKind (Bytes n) spaces = (values : List ℕ) × (traversed : ℕ) × Root (message spaces) (numbers 2 values) none traversed × (length values ≡ n)
@@ -99,7 +99,7 @@ abbrev pub KeepsOutside : Option RootLocation → List Space → List Space → 
 KeepsOutside location old new = (i from n : ℕ) → (i ≡ 0 → 8 ≤ from) → MatchOption location ⊤ (LiesOutside i from n) → from + n ≤ length (space_at old i).used
     → take n (drop from (space_at new i).used) ≡ take n (drop from (space_at old i).used)
 
--- the same segments, of which some used bytes may be different
+-- the same segments, though some used bytes may be different
 pub record IsRewritten {A : Type 0} (old new : BuilderState A) : Type 0 where
   pub count : length new.spaces ≡ length old.spaces
   pub size : size_in_words new.spaces ≡ size_in_words old.spaces
@@ -108,7 +108,7 @@ pub record IsRewritten {A : Type 0} (old new : BuilderState A) : Type 0 where
   pub allocator : new.allocator ≡ old.allocator
   pub pairs : (others : List Out) → pairs_of new.spaces others ≡ pairs_of old.spaces others
 
--- the same segments, one of which has this many more used words
+-- the same segments, but one of them has this many more used words
 pub record IsLonger {A : Type 0} (old new : BuilderState A) (segment words : ℕ) : Type 0 where
   pub count : length new.spaces ≡ length old.spaces
   pub size : size_in_words new.spaces ≡ size_in_words old.spaces + words

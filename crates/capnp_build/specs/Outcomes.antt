@@ -29,7 +29,7 @@ abbrev pub HasRoomFirst : {A S : Type 0} → allocator.Ghosts A S → Built A �
 HasRoomFirst alloc old words = ((0 < length old.spaces) × (words ≤ free_words_of (space_at old.spaces 0)))
     ⊎ ((old.spaces ≡ []) × ((most : ℕ) × alloc.grants old.allocator 1 most × (words < most)))
 
--- `fact` holds, where a block of such words, the largest one, has room there
+-- `fact` holds, where the largest block of words for which `measured` holds has room there
 abbrev pub FitsFirst : {A S : Type 0} → allocator.Ghosts A S → (ℕ → Type 0) → Built A → Type 0 → Type 0
 FitsFirst alloc measured old fact = (words : ℕ) → measured words → ((other : ℕ) → measured other → other ≤ words) → HasRoomFirst alloc old words → fact
 
@@ -185,7 +185,7 @@ pub record LooksAtRoot {A S K : Type 0} (alloc : allocator.Ghosts A S) (schema :
   -- what else the allocator has out stays out
   pub others : KeepsOthers alloc.out (state_of old) (state_of new)
 
--- A message of no segments, whose root is null, and of whose allocator `fact` holds.
+-- A message of no segments, whose root is null, and `fact` holds of its allocator.
 pub record IsNewMessage {A : Type 0} (fact : A → Type 0) (built : Built A) : Type 0 where
   pub spaces : built.spaces ≡ []
   pub location : built.location ≡ None
@@ -195,6 +195,6 @@ pub record IsNewMessage {A : Type 0} (fact : A → Type 0) (built : Built A) : T
 -- words.
 pub record GivesBack {A S : Type 0} (alloc : allocator.Ghosts A S) (state : BuilderState A) (last : A) : Type 0 where
   pub available : ReturnsRegion alloc.out state last
-  -- exactly these returns pointed to its present state
+  -- these returns, and no others, made its present state
   pub returned : ReturnsEach alloc.returns state.spaces state.allocator last
   pub same : alloc.same state.allocator last

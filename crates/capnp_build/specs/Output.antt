@@ -1,4 +1,4 @@
--- What of a message that is built is written (src/segments.rt).
+-- What is written of a message that is built (src/segments.rt).
 use Rattle.std.specs.Prelude.{◌≡◌, ℕ, ◌*◌, ◌%◌, ◌^◌, ◌<◌, ◌≤◌, List, length, map}
 use Rattle.capnp_frame.specs.Prelude.{IsWritable}
 use Rattle.capnp_build.specs.Bytes.{Space}

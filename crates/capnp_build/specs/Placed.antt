@@ -29,8 +29,8 @@ SegmentError alloc state asked kind =
     ((2 ^ 32 ≤ length state.spaces + 1) × (kind ≡ AllocationTooLarge asked))
     ⊎ ((length state.spaces + 1 < 2 ^ 32) × (((0 < length state.spaces) × (kind ≡ OutOfMemory)) ⊎ AllocatorError alloc state.allocator asked kind))
 
--- want of room in these segments once the old root is cleared: the value has this many words, no
--- segment has room for them, and a further segment can't be had
+-- there is no room in these segments once the old root is cleared: the value has this many words, no segment
+-- has room for them, and a further segment can't be had
 pub record FindsNoRoom {A S : Type 0} (alloc : Ghosts A S) (measured : ℕ → Type 0) (old : Built A) (spaces : List Space) (kind : ErrorKind) : Type 0 where
   pub words : ℕ
   pub words_are : measured words
@@ -48,7 +48,7 @@ NewWords form words = HasWords (λ trees. trees ≡ tree form none none) false w
 abbrev pub InitWords : (ℕ → Form → Type 0) → ℕ → ℕ → Type 0
 InitWords inits n words = (form : Form) × inits n form × NewWords form words
 
--- one segment more, of which nothing is used
+-- one segment more, with no used words
 abbrev pub IsAdded : List Space → List Space → Type 0
 IsAdded old new = (space : Space) × (new ≡ old ++ space ∷ []) × (space.used ≡ [])
 
@@ -61,8 +61,8 @@ pub record IsAtEnd (old : List Space) (location : Option RootLocation) (segment 
   pub words_are : place.words ≡ words
   pub start_is : 8 * place.start ≡ length (space_at old segment).used + 8 * landing_pad
 
--- a block of this many words is in the first segment where that has room, else after a landing pad
--- in the first one with room for both, else in a new one; no other words are taken
+-- a block of this many words is in the first segment where that has room. Else it is after a landing pad, in
+-- the first segment with room for both, or else in a new one. No other words are taken.
 pub record IsPlaced {A : Type 0} (old : List Space) (new : Built A) (words : ℕ) : Type 0 where
   pub local : words ≤ free_words_of (space_at old 0) → IsAtEnd old new.location 0 0 words × (length new.spaces ≡ length old)
       × (size_in_words new.spaces ≡ size_in_words old + words)
@@ -78,7 +78,7 @@ KeepsRooms old last = 0 < length old → (length last ≡ length old) × ((i : �
 abbrev pub IsZeroAt : List Space → RootLocation → Type 0
 IsZeroAt spaces location = take (8 * location.words) (drop (8 * location.start) (space_at spaces location.segment).used) ≡ replicate (8 * location.words) 0
 
--- one segment, of which only the root's word is used
+-- one segment, where only the root's word is used
 abbrev pub HasRootAlone : List Space → Type 0
 HasRootAlone spaces = (length spaces ≡ 1) × (length (space_at spaces 0).used ≡ 8) × (8 ≤ (space_at spaces 0).size)
 
@@ -91,7 +91,7 @@ pub record IsCleared {A S : Type 0} (alloc : Ghosts A S) (old last : Built A) : 
   pub rooms : KeepsRooms old.spaces last.spaces
   -- no other used word changes
   pub outside : KeepsOutside old.location old.spaces last.spaces
-  -- where there was no segment, there is none yet, or one of which only the root's word is used
+  -- where there was no segment, there is none yet, or one where only the root's word is used
   pub new_object : old.spaces ≡ [] → (last.spaces ≡ []) ⊎ HasRootAlone last.spaces
   pub same_allocator : alloc.same old.allocator last.allocator
   -- what else the allocator has out stays out
@@ -109,9 +109,8 @@ pub record BlockIsAt (location : Option RootLocation) (segment start words : ℕ
 abbrev pub most_words : Space → ℕ
 most_words space = min (space.size / 8) (2 ^ 29)
 
--- the first block of a message, of this many words: just after the root's word where the first
--- segment has room, else after its landing pad at the front of a second one; no other words are
--- used
+-- the first block of a message, of this many words: just after the root's word where the first segment has
+-- room, else after its landing pad at the front of a second one. No other words are used.
 pub record IsFirst {A : Type 0} (new : Built A) (words : ℕ) : Type 0 where
   pub local : words < most_words (space_at new.spaces 0) → BlockIsAt new.location 0 1 words × (length new.spaces ≡ 1) × (size_in_words new.spaces ≡ 1 + words)
   pub far : most_words (space_at new.spaces 0) ≤ words → BlockIsAt new.location 1 1 words × (length new.spaces ≡ 2) × (size_in_words new.spaces ≡ 2 + words)
@@ -120,7 +119,7 @@ pub record IsFirst {A : Type 0} (new : Built A) (words : ℕ) : Type 0 where
 abbrev pub IsGranted : {A S : Type 0} → Ghosts A S → Built A → List Space → Type 0
 IsGranted alloc old spaces = old.spaces ≡ [] → (most : ℕ) → alloc.grants old.allocator 1 most → (space_at spaces 0).size / 8 ≡ most
 
--- a block of such words is placed once the old root is cleared
+-- a block is placed once the old root is cleared, with a number of words for which `measured` holds
 pub record IsPut {A S : Type 0} (alloc : Ghosts A S) (measured : ℕ → Type 0) (old new : Built A) : Type 0 where
   pub cleared : Built A
   pub words : ℕ
@@ -133,7 +132,8 @@ pub record IsPut {A S : Type 0} (alloc : Ghosts A S) (measured : ℕ → Type 0)
   pub zero : MatchOption old.location ⊤ (IsZeroAt new.spaces)
   pub outside : KeepsOutside old.location old.spaces new.spaces
 
--- a new object of such words is placed once the old root is cleared, or the root is the null that this leaves
+-- a new object, with a number of words for which `measured` holds, is placed once the old root is cleared, or
+-- the root is the null that this leaves
 pub record IsInit {A S : Type 0} (alloc : Ghosts A S) (measured : ℕ → Type 0) (old new : Built A) : Type 0 where
   pub cleared : Built A
   pub is_cleared : IsCleared alloc old cleared
@@ -143,8 +143,8 @@ pub record IsInit {A S : Type 0} (alloc : Ghosts A S) (measured : ℕ → Type 0
   pub zero : MatchOption old.location ⊤ (IsZeroAt new.spaces)
   pub outside : KeepsOutside old.location old.spaces new.spaces
 
--- want of room: once the old root is cleared, no segment has room for a block of such words, and a
--- further one can't be had
+-- no room: once the old root is cleared, no segment has room for a block of words for which `measured` holds,
+-- and a further segment can't be had
 pub record FoundNoRoom {A S : Type 0} (alloc : Ghosts A S) (measured : ℕ → Type 0) (old : Built A) (kind : ErrorKind) : Type 0 where
   pub cleared : Built A
   pub is_cleared : IsCleared alloc old cleared
@@ -156,7 +156,7 @@ pub record IsLookedAt {A S : Type 0} (alloc : Ghosts A S) (old last : Built A) :
   pub stays : 0 < length old.spaces → last ≡ old
   pub null_word : old.spaces ≡ [] → HasNullRoot last.spaces
   pub size : size_in_words last.spaces ≤ max 1 (size_in_words old.spaces)
-  -- where there was no segment, there is none yet, or one of which only the root's word is used
+  -- where there was no segment, there is none yet, or one where only the root's word is used
   pub new_object : old.spaces ≡ [] → (last.spaces ≡ []) ⊎ HasRootAlone last.spaces
   pub granted : IsGranted alloc old last.spaces
   pub same_allocator : alloc.same old.allocator last.allocator

@@ -13,12 +13,12 @@ use capnp_frame::Result;
 ///
 /// For implementers: `out` says which segments may be out, each by its length in bytes and whether
 /// it is caller-provided. `same` is what no call changes, as the caller-provided region of an
-/// allocator. `grants` says which requests have to be granted, where an allocator can promise
-/// that: memory is never sure to be there. `fails` says with which kinds a request may fail, and
-/// `returns` what taking a segment back does, by the segment and its used words. An allocator for
-/// which nothing depends on the last two may leave them open: code over any allocator still shows
-/// that it asked for exactly these words where a request failed, and that it gives back exactly
-/// these words.
+/// allocator. `grants` says which requests have to be granted, where an allocator can promise that:
+/// memory is never sure to be there. `fails` says with which kinds a request may fail, and
+/// `returns` what taking a segment back does, by the segment and its used words. An allocator may
+/// leave the last two open where nothing depends on them. Code over any allocator still shows for
+/// how many words it asked where a request failed, and with how many used words it gave each
+/// segment back.
 pub trait Allocator: Drop {
     /// The bytes of a segment.
     type Segment: SegmentSpace;
@@ -35,19 +35,19 @@ pub trait Allocator: Drop {
     /// With which kinds a request of this many words may fail.
     ghost fails: { Self → ℕ → ErrorKind → Type 0 };
 
-    /// Taking back a segment, of which this many words were used, leads from the one allocator to
-    /// the other.
+    /// How taking back a segment, with this many used words, changes the allocator: from the one
+    /// state to the other.
     ghost returns: { Self → Out → ℕ → Self → Type 0 };
 
     /// Hands out a segment of at least this many words and fewer than 2^32, all zero.
     ///
     /// Fails only with `OutOfMemory`, with `AllocationTooLarge` of the words asked for, or with
-    /// `SegmentTaken`; with the last only while a segment is out that is large enough.
+    /// `SegmentTaken`, and with that only while a segment is out that is large enough.
     fn allocate_segment(&mut self, minimum_size: u32) -> Result<Self::Segment>
         ensures { HandsOut out same grants fails Self.Segment.content Self.Segment.is_provided
             minimum_size self.old self.new result };
 
-    /// Takes a segment back, of which the first words were used. The rest of it is zero.
+    /// Takes a segment back, whose first `words_used` words were used. The rest of it is zero.
     fn deallocate_segment(&mut self, segment: Self::Segment, words_used: u32)
         requires is_out { IsOut (out self.old) (record {
           length = length (Self.Segment.content segment);

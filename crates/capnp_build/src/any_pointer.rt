@@ -51,8 +51,8 @@ impl<'a, M: Building> View<'a, M, Owned> {
 
     /// The size of the root's object with all below it, without landing pads.
     ///
-    /// Fails as `any_pointer::Reader::target_size` of `capnp_wire` does of the root, read without a
-    /// traversal limit.
+    /// Fails as `any_pointer::Reader::target_size` of `capnp_wire` does for the root, read without
+    /// a traversal limit.
     pub fn target_size(&self) -> Result<MessageSize>
         ensures { SizesRoot (M.built self.now.message.now).spaces result }
     {

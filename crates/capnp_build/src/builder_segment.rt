@@ -1,4 +1,4 @@
-//! A segment of an arena, of which the first words are used.
+//! A segment of an arena, whose first words are used.
 ghost use Rattle.std.specs.Prelude.{◌≡◌, ℕ, ◌+◌, ◌-◌, ◌*◌, ◌/◌, ◌%◌, ◌^◌, ◌<◌, ◌≤◌, Bool, List, [], length, take, drop, replicate, min, max};
 ghost use Rattle.capnp_build.specs.Bytes.{written, ZeroFrom, Space, with_block, with_bytes};
 ghost use Rattle.capnp_build.specs.Filled.{IsAppended};
@@ -11,7 +11,7 @@ use capnp_layout::limits::MAX_SEGMENT_WORDS;
 use capnp_wire::traits::SetterInput;
 use std::marker::Model;
 
-/// A segment of which the first words are used; the rest is zero.
+/// A segment whose first words are used; the rest is zero.
 #[derive(Drop)]
 pub struct BuilderSegment<S: SegmentSpace> {
     segment: S,
@@ -35,7 +35,7 @@ impl<S: SegmentSpace> Model for BuilderSegment<S> {
 }
 
 impl<S: SegmentSpace> BuilderSegment<S> {
-    /// A segment of zeros, of which nothing is used.
+    /// A segment of zeros, with no used words.
     pub fn new(segment: S) -> BuilderSegment<S>
         requires { ZeroFrom 0 (S.content segment) }
         ensures used { result.used ≡ [] }
@@ -60,7 +60,7 @@ impl<S: SegmentSpace> BuilderSegment<S> {
         self.words
     }
 
-    /// The number of free words, up to a length of the segment of 2^29 words.
+    /// The number of free words, where at most 2^29 words of a segment are used.
     pub fn room(&self) -> u32
         ensures { result ≡ min (self.now.size / 8) (2 ^ 29) - length self.now.used / 8 }
     {
@@ -79,8 +79,8 @@ impl<S: SegmentSpace> BuilderSegment<S> {
         self.words = self.words + words;
     }
 
-    /// Writes a value after the used words, in this many words. Returns the pointer to it from the
-    /// word just before it.
+    /// Writes a value, in canonical form if `canonical`, into the `words` words after the used
+    /// ones. Returns the pointer to it, as the word that belongs just before these words.
     pub fn append<T, V: SetterInput<T>>(&mut self, canonical: bool, value: &V, words: u32) -> Word
         requires room { words ≤ min (self.old.size / 8) (2 ^ 29) - length self.old.used / 8 }
         requires words { HasWords (V.has_tree value.now) canonical words }
@@ -103,7 +103,7 @@ impl<S: SegmentSpace> BuilderSegment<S> {
         self.segment.write_at(at, bytes);
     }
 
-    /// Makes the used bytes from one index up to another zero.
+    /// Makes the used bytes at the indexes `from..to` zero.
     pub fn zero(&mut self, from: usize, to: usize)
         requires order { from ≤ to }
         requires within { to ≤ length self.old.used }

@@ -31,7 +31,8 @@ impl Model for NewObject {
 }
 
 impl NewObject {
-    /// The object of this kind and size, which a pointer can say.
+    /// A new object of this kind and size, all zero. The size has to fit a pointer: a list has
+    /// fewer than 2^29 elements, and a struct fewer than 2^16 data words.
     pub fn new(body: NewBody) -> NewObject
         requires { Fits body }
         ensures { result ≡ body }

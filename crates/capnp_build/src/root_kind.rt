@@ -6,7 +6,7 @@ ghost use Rattle.capnp_build.specs.RootKind.{ShowsRoot};
 use capnp_layout::place::word;
 use capnp_layout::pointer_word::{LocalShape, local_shape};
 
-/// What a pointer points to, for the objects of which builders have views.
+/// What a pointer points to, by the kinds for which builders have views.
 #[derive(Clone, Copy)]
 pub enum RootKind {
     Null,

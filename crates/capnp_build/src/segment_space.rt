@@ -25,14 +25,14 @@ pub trait SegmentSpace: Drop {
         requires { at + length bytes.now ≤ length (content self.old) }
         ensures { IsOverwritten content is_provided at bytes.now self.old self.new };
 
-    /// Makes the bytes between two indexes zero.
+    /// Makes the bytes at the indexes `from..to` zero.
     fn zero(&mut self, from: usize, to: usize)
         requires order { from ≤ to }
         requires within { to ≤ length (content self.old) }
         ensures { IsOverwritten content is_provided from (replicate (to - from) 0) self.old self.new };
 
-    /// Writes a value into the bytes between two indexes, which are zero and exactly its words, and
-    /// returns the pointer to it from just before them.
+    /// Writes a value into the bytes at the indexes `from..to`, which are zero and exactly its
+    /// words. Returns the pointer to it, as the word that belongs just before them.
     fn write_value<T, V: SetterInput<T>>(
         &mut self,
         from: usize,

@@ -188,7 +188,7 @@ impl<A: Allocator> Segments<A> {
         }
     }
 
-    /// Makes the used bytes of a segment from one index up to another zero.
+    /// Makes the used bytes of a segment at the indexes `from..to` zero.
     pub fn zero(&mut self, index: u32, from: usize, to: usize)
         requires within { index < length self.old.spaces }
         requires order { from ≤ to }
@@ -209,8 +209,9 @@ impl<A: Allocator> Segments<A> {
         }
     }
 
-    /// Writes a value after the used words of a segment, in this many words. Returns the pointer to
-    /// it from the word just before it.
+    /// Writes a value, in canonical form if `canonical`, into the `words` words after the used ones
+    /// of segment `index`. Returns the pointer to it, as the word that belongs just before these
+    /// words.
     pub fn append<T, V: SetterInput<T>>(
         &mut self,
         index: u32,

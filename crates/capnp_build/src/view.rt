@@ -54,7 +54,7 @@ pub trait Building: Drop {
         ensures { WritesRoot (λ old new. IsBytesSet old new index bytes.now)
             (built self.old) (built self.new) };
 
-    /// The size of the tree at the root. Fails as `any_pointer::Reader::target_size` does of a
+    /// The size of the tree at the root. Fails as `any_pointer::Reader::target_size` does for a
     /// reader of the root.
     fn target_size(&self) -> Result<MessageSize>
         ensures { SizesRoot (built self.now).spaces result };

@@ -171,9 +171,12 @@ pub fn used(segment: &[u8], start: usize, count: usize) -> usize
     0
 }
 
-/// The most words that one of some parts needs without the zeros at its end. The first part begins at
-/// the word `start`, each other one `step` words after the one before it, and `count` words of each
-/// are looked at.
+/// The most words that one of `parts` parts of `segment` needs without the zeros at its end, or 0
+/// where there are no parts.
+///
+/// The first part begins at the word `start` of the segment, and each later one `step` words after
+/// the one before it. Of each part the first `count` words are looked at, at most `step`: the data
+/// section or the pointer section of an element of a list of structs.
 pub fn most_used(segment: &[u8], start: usize, count: usize, step: usize, parts: u32) -> usize
     requires there { start + parts * step ≤ length segment.now / 8 + (step - count) }
     requires inside { count ≤ step }

@@ -109,7 +109,7 @@ far_word : (k start : ℕ) (form : Form) (children : Trees) → 0 < k → far_po
 far_word zero start form children other = absurd (omega (arith, other))
 far_word (suc k) start form children other = refl
 
--- the word before a body in another segment is its landing pad, and the root's word leads there
+-- the word before a body in another segment is its landing pad, and the root's word points there
 pub far_points : (spaces mid last : List Space) (location : RootLocation) (form : Form) (children : Trees) (word : ℕ) (w v : List ℕ) → 0 < location.segment → 0 < location.words → location.segment < 2 ^ 32
     → HasBody spaces location form children → 8 ≤ length (space_at spaces 0).used → w ≡ to_le_bytes w64 location.pointer_word → length w ≡ 8
     → mid ≡ slice_set spaces location.segment (with_bytes (space_at spaces location.segment) (8 * (location.start - 1)) w) → word ≡ far_pointer location.segment (location.start - 1)

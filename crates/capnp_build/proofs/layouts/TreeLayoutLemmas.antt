@@ -31,7 +31,7 @@ pointer_small (numbers c values) n offset room low = omega (arith, room.0, room.
 pointer_small pointers n offset room low = omega (arith, room, low)
 pointer_small (structs d p elements) n offset room low = omega (arith, room.3, low)
 
--- a block after other bytes, of which some are written over, is the body of trees
+-- a block after other bytes, some of them written over, is the body of trees
 pub laid_after : (at start n : ℕ) (u block w : List ℕ) (trees : Trees) → length u ≡ 8 * start → at + length w ≤ 8 * start → length block ≡ 8 * n → n ≡ total_words trees → words_of block ≡ body trees
     → Laid (words_of (written (u ++ block) at w)) start trees
 laid_after at start n u block w trees long front size words body_is =

@@ -101,7 +101,7 @@ is_put alloc root_is measured old cleared new words clear has told = record {
   outside = outside_stays old.location old.spaces cleared.spaces new.spaces clear.outside told.bytes;
 }
 
--- want of room once the root is cleared
+-- no room is found once the root is cleared
 pub finds_no_room : {A S : Type 0} (alloc : allocator.Ghosts A S) (measured : ℕ → Type 0) (old cleared new : Built A) (words : ℕ) {kind : ErrorKind} {done : Unit {0}}
     → ClearsRoot alloc old cleared (Ok done) → measured words → new.spaces ≡ cleared.spaces → HasNoRoom cleared.spaces words × SegmentError alloc (state_of cleared) (words + 1) kind
     → FindsNoRoom alloc measured old new.spaces kind

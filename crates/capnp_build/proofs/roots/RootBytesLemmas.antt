@@ -1,4 +1,4 @@
--- The bytes of a root's block are those of its tree.
+-- The bytes of a root's block are the bytes of its tree.
 use Rattle.std.proofs.Common.{◌≡◌, ℕ, ◌*◌, ◌<◌, List, [], length, take, drop, Some, slice_index_or, refl, ap, ◌∙◌, arith}
 use Rattle.capnp_layout.specs.Prelude.{Form, Trees, total_words, body, Root}
 use Rattle.capnp_build.specs.Prelude.{Space, space_at, message, HasNullRoot, IsBuilt, HoldsForm, HoldsTree}

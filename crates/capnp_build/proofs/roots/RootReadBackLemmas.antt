@@ -112,7 +112,7 @@ first_of_many (x ∷ xs) [] i within = absurd (omega (arith, within))
 first_of_many (x ∷ xs) (w ∷ words) zero within = refl
 first_of_many (x ∷ xs) (w ∷ words) (suc i) within = first_of_many xs words i (omega (arith, within))
 
--- a word of those that the bytes begin with
+-- one of the words that the bytes begin with
 word_read : (bytes words : List ℕ) (i : ℕ) → words_of (take (8 * length words) bytes) ≡ words → i < length words → slice_index_or (words_of bytes) i 0 ≡ slice_index_or words i 0
 word_read bytes words i are within =
     let long : length (take (8 * length words) bytes) / 8 ≡ length words = sym (length-words_of (take (8 * length words) bytes)) ∙ ap length are in
@@ -135,7 +135,7 @@ number_read (numbers c values) bytes words i holds has within =
 number_read pointers bytes words i holds has within = absurd has
 number_read (structs d p elements) bytes words i holds has within = absurd has
 
--- the kind that is shown is that of the object there
+-- the kind that is shown is the kind of the object there
 pub shown_there : (spaces : List Space) (location : RootLocation) (shown : RootKind) (form : Form) (children : Trees) → IsLaid spaces location form children → ShowsRoot shown form → IsRootKind shown spaces
 shown_there spaces location Null form children r shows = tt
 shown_there spaces location (Bytes n) form children r shows =

@@ -89,7 +89,7 @@ used_size_more [] i within = absurd (omega (arith, within))
 used_size_more (s ∷ spaces) zero within = omega arith
 used_size_more (s ∷ spaces) (suc i) within = ap (λ (n : ℕ). length s.used / 8 + n) (used_size_more spaces i (omega (arith, within))) ∙ omega arith
 
--- a segment of which a given number of words more are used
+-- a segment that uses a given number of words more
 pub size_longer : (spaces : List Space) (i n : ℕ) (s : Space) → i < length spaces → length s.used ≡ length (space_at spaces i).used + 8 * n
     → size_in_words (slice_set spaces i s) ≡ size_in_words spaces + n
 size_longer [] i n s within long = absurd (omega (arith, within))

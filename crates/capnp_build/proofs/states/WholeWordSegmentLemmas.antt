@@ -1,4 +1,4 @@
--- Segments of which whole words are used.
+-- Segments that use whole words.
 use Rattle.std.proofs.lemmas.List.{length-replicate, length-map}
 use Rattle.std.proofs.Common.{◌≡◌, ℕ, zero, suc, ◌+◌, ◌-◌, ◌*◌, ◌^◌, ◌<◌, ◌≤◌, List, [], ◌∷◌, ◌++◌, length, map, replicate, Option, Some, None, slice_set, slice_index_or}
 use Rattle.std.proofs.Common.{ap, sym, subst, ◌∙◌, arith, length-append}

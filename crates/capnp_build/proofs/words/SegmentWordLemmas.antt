@@ -38,7 +38,7 @@ part_as_words s d bytes room =
     later_words s d (length bytes / 8) bytes (omega (arith, room)) ∙ sym (whole_words d rest)
     ∙ ap (λ (n : ℕ). map (number_of 256) (first_chunks 8 n (take (8 * d) rest))) (sym long)
 
--- a word among those of some bytes
+-- a word among the words of some bytes
 set_chunk : (k i : ℕ) (bytes w : List ℕ) → 8 * k ≤ length bytes → i < k → length w ≡ 8
     → map (number_of 256) (first_chunks 8 k (written bytes (8 * i) w)) ≡ slice_set (map (number_of 256) (first_chunks 8 k bytes)) i (number_of 256 w)
 set_chunk zero i bytes w room within eight = absurd (omega (arith, within))

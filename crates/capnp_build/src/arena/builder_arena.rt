@@ -94,7 +94,7 @@ impl<A: Allocator> BuilderArena<A> {
 
     /// Makes a null root in a new segment, where there is no segment yet.
     ///
-    /// Fails as the allocator does to hand out the first segment: with `OutOfMemory`,
+    /// Fails as the allocator does for the first segment: with `OutOfMemory`,
     /// `AllocationTooLarge(1)` or `SegmentTaken`.
     pub fn ensure_root(&mut self) -> Result<()>
         ensures { EnsuresRoot A.Allocator self.old self.new result }

@@ -47,8 +47,8 @@ impl<A: Allocator> BuilderArena<A> {
 
     /// Tests that the object at the root can be viewed as this type. The root stays as it is.
     ///
-    /// Fails as the allocator does to hand out the first segment, where there is none, and with a
-    /// kind that `form_error` of the type names, where the type doesn't accept the object.
+    /// Fails as the allocator does for the first segment, where there is none, and with a kind that
+    /// `form_error` of the type names, where the type doesn't accept the object.
     pub fn accept_root<K: OwnedBuilder>(&mut self) -> Result<()>
         ensures { LooksAtRoot A.Allocator K.OwnedBuilder self.old self.new result }
     {

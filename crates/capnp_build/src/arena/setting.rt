@@ -18,9 +18,9 @@ use capnp_wire::traits::SetterInput;
 impl<A: Allocator> BuilderArena<A> {
     /// Sets the root to a value.
     ///
-    /// Fails as the allocator does to hand out the first segment, as `measure` of the value does,
-    /// and where no segment has room: with `AllocationTooLarge` at 2^32 - 1 segments, with
-    /// `OutOfMemory` where the list of segments can't grow, and as the allocator does to hand out a
+    /// Fails as the allocator does for the first segment, and as `measure` of the value does. Where
+    /// no segment has room, it fails with `AllocationTooLarge` at 2^32 - 1 segments, with
+    /// `OutOfMemory` where the list of segments can't grow, and else as the allocator does for a
     /// further one. The root is then null.
     pub fn set_root<T, V: SetterInput<T>>(&mut self, value: &V) -> Result<()>
         ensures { SetsRoot A.Allocator (V.has_tree value.now) (V.fails value.now)
@@ -33,8 +33,8 @@ impl<A: Allocator> BuilderArena<A> {
 
     /// Makes the root a new object of length `n`, or null where the type has none of this length.
     ///
-    /// Fails as the allocator does to hand out the first segment, with a kind that `fails` of the
-    /// type names for `n`, and where no segment has room as `set_root` does. The root is then null.
+    /// Fails as the allocator does for the first segment, with a kind that `fails` of the type
+    /// names for `n`, and where no segment has room as `set_root` does. The root is then null.
     pub fn init_object<K: OwnedBuilder>(&mut self, n: u32) -> Result<()>
         ensures { InitsRoot A.Allocator K.OwnedBuilder n self.old self.new result }
     {
@@ -60,9 +60,9 @@ impl<A: Allocator> BuilderArena<A> {
 
     /// Sets the root to a value in canonical form, in the first segment.
     ///
-    /// Fails with the first of these: as the allocator does to hand out the first segment, with
-    /// `NotOneSegment` where there are more segments, as `measure` of the value does, and with
-    /// `NotOneSegment` where the segment has no room. The root is then null.
+    /// Fails with the first of these errors: the allocator's for the first segment; `NotOneSegment`
+    /// where there are more segments; the error of `measure` of the value; `NotOneSegment` where
+    /// the segment has no room. The root is then null.
     pub fn set_root_canonical<T, V: SetterInput<T>>(&mut self, value: &V) -> Result<()>
         ensures { SetsRootCanonical A.Allocator (V.has_tree value.now) (V.fails value.now)
             self.old self.new result }

@@ -1,4 +1,4 @@
--- The bytes of the block are those of the root's tree.
+-- The bytes of the block are the bytes of the root's tree.
 use Rattle.std.proofs.Common.{◌≡◌, ℕ, ◌*◌, ◌<◌, List, [], take, drop, Option, Some, slice_index_or, ap, sym, subst, ◌∙◌}
 use Rattle.std.specs.Option.{option_copied}
 use Rattle.capnp_layout.specs.Prelude.{Form, null, Root}
