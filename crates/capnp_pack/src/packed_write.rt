@@ -276,7 +276,7 @@ fn pack_run<W: Write>(
 {
     let used = push(bytes, end, words as u8);
     let run = others[..words].as_flattened();
-    // Speed: a run that fits the buffer takes no call of the sink (`capnp_ls pack` of small records).
+    // Speed: a run that fits the buffer makes no call of the sink (`capnp_ls pack`, small records).
     if run.len() <= bytes.len() - used {
         return Ok(push_run(bytes, used, run));
     }

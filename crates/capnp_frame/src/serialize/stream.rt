@@ -22,8 +22,8 @@ use std::alloc::Global;
 ///
 /// The source is asked for three chunks: the first word of the table, the table's other words, and
 /// all segments together. A chunk of no bytes is not asked for, and nothing else is consumed.
-/// Memory is taken for the lengths of more than one segment, and for the segments once the limit and
-/// the padding are tested.
+/// Memory is taken for the lengths of more than one segment, and for the segments once the limit
+/// and the padding are tested.
 ///
 /// Fails as the module `serialize` lists: with `NonZeroPadding`, the table consumed, where the
 /// padding isn't zero.
