@@ -162,7 +162,7 @@ found_next rule format limit segments old new within is_found = IfKnown-weaker o
 -- and a reader's failure is a cause that the run knows
 pub reading_error : (rule : Padding) (format : Format) (limit : Option ℕ) (kind : ErrorKind) (old new : Option (List ℕ))
     → (kind ≡ DeviceFailed) ⊎ ((kind ≡ OutOfMemory) × IfKnown old new ((rules_of rule format).takes_memory limit))
-    ⊎ IfKnown old new ((rules_of rule format).refuses limit None kind) → ReadingError rule format limit kind old new
+    ⊎ IfKnown old new ((rules_of rule format).fails limit None kind) → ReadingError rule format limit kind old new
 reading_error rule format limit kind old new (inl device) = inl device
 reading_error rule format limit kind old new (inr (inl memory)) = inr (inl (memory.0, IfKnown-weaker old new (λ raw left takes. inr takes) memory.1))
 reading_error rule format limit kind old new (inr (inr line)) = inr (inr line)
@@ -170,7 +170,7 @@ reading_error rule format limit kind old new (inr (inr line)) = inr (inr line)
 -- as is a failure of a call that skips a message, which takes memory for the lengths alone
 pub skipping_error : (rule : Padding) (format : Format) (kept : ℕ) (limit : Option ℕ) (kind : ErrorKind) (old new : Option (List ℕ))
     → (kind ≡ DeviceFailed) ⊎ ((kind ≡ OutOfMemory) × IfKnown old new ((skipping_rules_of rule format kept).takes_memory limit))
-    ⊎ IfKnown old new ((skipping_rules_of rule format kept).refuses limit None kind) → ReadingError rule format limit kind old new
+    ⊎ IfKnown old new ((skipping_rules_of rule format kept).fails limit None kind) → ReadingError rule format limit kind old new
 skipping_error rule format kept limit kind old new (inl device) = inl device
 skipping_error rule format kept limit kind old new (inr (inl memory)) = inr (inl (memory.0, IfKnown-weaker old new (λ raw left takes. inl takes.0) memory.1))
 skipping_error rule format kept limit kind old new (inr (inr line)) = inr (inr line)
