@@ -1,4 +1,4 @@
--- The definitions at worked examples.
+-- The definitions at hand-computed examples.
 use Rattle.std.proofs.Common.{◌≡◌, ℕ, List, [], ◌∷◌, refl, lit<, lit≤}
 use Rattle.capnp_frame.specs.declared.error.ErrorKind.TheVariants.{PointerOutOfBounds, InvalidSegmentId, NestingLimitExceeded, CapabilityRefused, WrongPointerKind}
 use Rattle.capnp_layout.specs.Prelude.{words_of, null, struct, numbers, structs, Trees, none, tree, total_words, trim, local, far, double_far, a_struct, some_numbers, some_structs, is_null, is_object, At, nowhere, at, root, PointerError, no_word, no_segment, past_segment, capability, bad_landing_pad, no_landing_pad, not_far, too_deep, misfits, struct_outside, odd_tag}
@@ -28,7 +28,7 @@ pub hello_far_is_at : At ((0x100000002 ∷ []) ∷ (0x6a00000001 ∷ 0x6f77206f6
 hello_far_is_at =
     at (is_object {start = 1} (far refl (record { far = refl; wide = refl }) refl (lit< tt)) refl refl (some_numbers refl (lit< tt) (lit≤ tt))) nowhere nowhere
 
--- a struct of two words, of which one is zero, and a null pointer
+-- a struct of two words, one of them zero, and a null pointer
 abbrev pub five : Trees
 five = tree (struct (5 ∷ 0 ∷ [])) (tree null none none) none
 

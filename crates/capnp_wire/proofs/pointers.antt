@@ -1,4 +1,4 @@
--- Pointers, where they lead, and when they are invalid.
+-- Pointers, what they point to, and when they are invalid.
 pub mod LocalObjectLemmas
 pub mod OwnSegmentLemmas
 pub mod NullPointerLemmas

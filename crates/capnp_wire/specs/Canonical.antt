@@ -9,8 +9,8 @@ Padded segment start (numbers c values) =
     words_from segment start (words_for (length values) (width c)) ≡ digits (2 ^ 64) (words_for (length values) (width c)) (number_of (2 ^ width c) values)
 Padded segment start form = Unit {0}
 
--- The trees at places, the first one's body at `next`: each pointer word is that of a layout, and
--- so points to the next free word.
+-- The trees at places, the first one's body at `next`: each pointer word is as in a layout, and so
+-- points to the next free word.
 abbrev pub IsInPreorder : List ℕ → List Place → ℕ → Trees → Type 0
 IsInPreorder segment places next none = Unit {0}
 IsInPreorder segment [] next (tree form children rest) = Unit {0}

@@ -1,5 +1,5 @@
--- Objects that are copied, as they are or in canonical form (src/layout/copy.rt, and pending.rt,
--- copy_pointers.rt and copy_cursor.rt beside it).
+-- Objects that are copied, untrimmed or in canonical form (src/layout/copy.rt, pending.rt,
+-- copy_pointers.rt and copy_cursor.rt).
 use Rattle.std.specs.Prelude.{◌≡◌, ◌≢◌, ℕ, ◌+◌, ◌-◌, ◌/◌, ◌<◌, ◌≤◌, ◌^◌, Bool, List, [], ◌∷◌, length, Some, slice_get}
 use Rattle.capnp_layout.specs.Prelude.{words_of, words_from, code_of, numbers, Trees, depth, total_words, elements as numerals, elements_from, own, body, pointer_to, AllHaveRoom, output, struct_pointer, IsObject, room_of, words_in, put, put_data_sections, fill, places, run, segment_of, section_sizes, kept_in, slots_of, places_in, slots_in, end_of, TakesSlot, At, IsNarrower}
 use Rattle.capnp_layout.specs.declared.place.Place.{Place}
@@ -13,7 +13,8 @@ use Rattle.capnp_layout.specs.declared.object.Object.{Object}
 use Rattle.capnp_layout.specs.declared.object.Body.{Body}
 use Rattle.capnp_layout.specs.declared.object.Body.TheVariants.{Struct, Numbers, Structs}
 
--- trees are at places within the nesting depth left, every field has room, and there is room for their copies from a word on
+-- Trees are at places within the nesting depth left. Every field has room, and there is room for their copies
+-- from a word on.
 pub record CanCopy (m : List (List ℕ)) (at : List Place) (nesting : ℕ) (canonical : Bool) (next room : ℕ) : Type 0 where
   pub trees : Trees
   pub traversed : ℕ

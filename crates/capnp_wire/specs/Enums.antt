@@ -3,9 +3,9 @@ use Rattle.std.specs.Prelude.{ℕ, ◌++◌, [], nat_eq, nat_lt, pos, if◌then�
 use Rattle.std.specs.Hash as fed
 use Rattle.std.specs.Hash.{HashWrites}
 
--- What the derived `Hash` of an enum feeds for the value of a number: of one that the schema names,
--- the index of its variant, which is the number; of any other, the index of the variant after these,
--- and the number that it keeps. An enum of one variant feeds no index.
+-- What the derived `Hash` of an enum feeds for the value of a number. For a number that the schema
+-- names it is the index of the number's variant, which is the number. For any other it is the index of
+-- the variant after these, and the number that it keeps. An enum of one variant feeds no index.
 abbrev pub hash_of_number : ℕ → ℕ → HashWrites
 hash_of_number named number =
     (if nat_lt number named then fed.isize (pos number)

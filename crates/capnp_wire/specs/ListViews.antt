@@ -14,8 +14,8 @@ use Rattle.capnp_wire.specs.declared.struct_list.reader.Reader.{Reader as Struct
 use Rattle.capnp_wire.specs.declared.any_pointer_list.reader.Reader.{Reader as PointerListReader}
 
 -- A list of structs that is read: the message, the data words of each element, how many pointers
--- each has, the places of the pointers of all in the order of the elements, how many objects may
--- follow one another from these on, and the limit of words that are read.
+-- each has, and the places of the pointers of all, in the order of the elements. It also has the
+-- nesting depth left at the pointers, and the limit of words that are read.
 pub record StructList : Type 0 where
   pub message : List (List ℕ)
   pub elements : List (List ℕ)
@@ -24,7 +24,7 @@ pub record StructList : Type 0 where
   pub nesting : ℕ
   pub limit : Option ℕ
 
--- no elements for null, those of a list of structs
+-- no elements for null, the elements of a list of structs
 abbrev pub HasElements : Form → ℕ → List (List ℕ) → Type 0
 HasElements null p elements = elements ≡ []
 HasElements (structs d q there) p elements = (p ≡ q) × (elements ≡ there)
@@ -38,7 +38,7 @@ pub record IsStructList (pointer : Pointer) (list : StructList) : Type 0 where
   pub nesting_below : list.nesting ≡ pointer.nesting - 1
   pub same_limit : list.limit ≡ pointer.limit
 
--- an element: its data words, and its pointers, which follow those of the elements before it
+-- an element: its data words, and its pointers, which follow the pointers of the elements before it
 abbrev pub element_of : StructList → ℕ → Struct
 element_of list index = record {
   message = list.message;
@@ -48,8 +48,8 @@ element_of list index = record {
   limit = list.limit;
 }
 
--- A list of pointers that is read: the message, the places of the pointers, how many objects may
--- follow one another from these on, and the limit of words that are read.
+-- A list of pointers that is read: the message, the places of the pointers, the nesting depth left at
+-- them, and the limit of words that are read.
 pub record PointerList : Type 0 where
   pub message : List (List ℕ)
   pub children : List Place
@@ -67,7 +67,7 @@ TakesPointers null = ⊤
 TakesPointers pointers = ⊤
 TakesPointers _ = ⊥
 
--- a list of pointers: none for null, those that are there, with one less of nesting depth left
+-- a list of pointers: none for null, the pointers that are there, with one less of nesting depth left
 pub record IsPointerList (pointer : Pointer) (list : PointerList) : Type 0 where
   pub same_message : list.message ≡ pointer.message
   pub shown : Shows pointer (λ shape. TakesPointers shape.form × (list.children ≡ shape.children) × Within pointer.limit shape.traversed)
@@ -97,7 +97,7 @@ struct_list_of segments reader =
       limit = limit_of reader.limiter;
     }
 
--- no structs, as for null, and those in an object, after some of its words
+-- no structs, as for null, and the structs in an object, after some of its words
 abbrev pub no_structs : Pointer → StructList
 no_structs pointer = record {
   message = pointer.message;

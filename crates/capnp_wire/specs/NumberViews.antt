@@ -15,6 +15,6 @@ IsNumbers wanted _ values = ⊥
 abbrev pub numbers_of : {T : Type 0} {ghosts : Ghosts T} → ℕ → Reader T ghosts → List ℕ
 numbers_of code list = elements (words_of list.bytes.now) 0 code list.count
 
--- what contracts see of a list that has the size of its elements with it
+-- what contracts see of a list that holds the size of its elements
 abbrev pub sized_numbers_of : Numbers → List ℕ
 sized_numbers_of list = elements (words_of list.bytes.now) 0 (code_of list.size) list.count

@@ -13,7 +13,7 @@ use Rattle.capnp_wire.specs.declared.any_object.reader.Reader.TheVariants.{Null,
 abbrev pub TakesAll : Form → Type 0
 TakesAll form = ⊤
 
--- the kind of object that a view is of, and what the object has beside its pointers
+-- the kind of object that a view is of, and what the object has apart from its pointers
 abbrev pub ShowsForm : {S : Type 0} {ghosts : Ghosts S} → (S → List (List ℕ)) → Reader S ghosts → Form → Type 0
 ShowsForm segments Null form = form ≡ null
 ShowsForm segments (Struct view) form = form ≡ struct (struct_of segments view).words

@@ -1,4 +1,5 @@
--- What contracts see of readers (src/arena/reader_arena.rt, src/any_pointer/reader.rt, src/any_struct/reader.rt).
+-- What contracts see of readers (src/arena/reader_arena.rt, src/any_pointer/reader.rt,
+-- src/any_struct/reader.rt).
 use Rattle.std.specs.Prelude.{◌≡◌, ℕ, ◌+◌, ◌-◌, ◌^◌, ◌<◌, ℤ, pos, negsuc, List, [], ◌∷◌, Option, Some, None}
 use denote.Ref.{Bor}
 use Rattle.capnp_frame.specs.Prelude.{default_limit}
@@ -36,7 +37,7 @@ abbrev pub root_place : List (List ℕ) → Option Place
 root_place [] = None
 root_place (segment ∷ segments) = Some root
 
--- the root of segments that are read without limits, as those of a message that is built
+-- the root of segments that are read without limits, as in a message that is built
 abbrev pub unlimited_root : List (List ℕ) → Pointer
 unlimited_root segments = record { message = message_of segments; place = root_place segments; nesting = 2 ^ 31 - 1; limit = None }
 

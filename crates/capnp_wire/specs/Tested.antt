@@ -65,7 +65,7 @@ IsTruncated (struct words) links = EndsFull words × EndsFull links
 IsTruncated (structs d p elements) links = NeedData d elements × NeedPointers p (length elements) links
 IsTruncated form links = Unit {0}
 
--- The object to which the pointer at a place leads is as the canonical form has it, where this is
+-- The object that the pointer at a place points to is as the canonical form has it, where this is
 -- the next free word.
 pub record IsLaidOut (segment : List ℕ) (place : Place) (next : ℕ) (shape : Shape) : Type 0 where
   pub pointer : ℕ

@@ -21,8 +21,8 @@ Counts (Some kept) words = kept ≡ words
 abbrev pub CountsMore : Option ℕ → Option ℕ → ℕ → Type 0
 CountsMore kept kept_then more = (words : ℕ) → Counts kept words → Counts kept_then (words + more)
 
--- the same, where every field has room, and the trees have this many words as they are or in
--- canonical form
+-- trees at places, within the nesting depth left, where every field has room; they have this many
+-- words, untrimmed or in canonical form
 pub record TreesWithRoom (m : List (List ℕ)) (at : List Place) (nesting traversed : ℕ) (canonical : Bool) (words : ℕ) : Type 0 where
   pub trees : Trees
   pub are_at : At m at trees traversed

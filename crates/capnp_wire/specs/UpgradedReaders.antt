@@ -63,7 +63,7 @@ upgraded_pointers_of segments list = record {
   limit = limit_of list.limiter;
 }
 
--- pointers at this distance from one another, below the pointer that pointed to them
+-- pointers at this distance from one another, below the pointer that points to their list
 abbrev pub pointers_from : Pointer → Place → ℕ → ℕ → PointerList
 pointers_from pointer first step n = record {
   message = pointer.message;

@@ -21,8 +21,8 @@ use Rattle.capnp_wire.specs.declared.upgraded.struct_list.StructElements.{Struct
 use Rattle.capnp_wire.specs.declared.upgraded.struct_list.StructElements.TheVariants.{InPlace as StructsInPlace, Numbers as NumbersAsStructs}
 use Rattle.capnp_wire.specs.declared.upgraded.struct_list.StructList.{StructList as StructListReader}
 
--- Numbers: the tree of a list of them, whose error is that of too many. First fields of structs are
--- no value, since the view doesn't know what else the structs have.
+-- Numbers: the tree of a list of them, which fails where there are too many. First fields of structs
+-- are no value, since the view doesn't know what else the structs have.
 abbrev pub IsNumbersValue : {T : Type 0} {ghosts : ElementGhosts T} → ℕ → Numbers (NumbersReader T ghosts) (FirstFields T ghosts) → Trees → Type 0
 IsNumbersValue code (NumbersInPlace list) trees = IsNumbersTree code (numbers_of code list) trees
 IsNumbersValue code (OfStructs list) trees = ⊥
@@ -41,8 +41,8 @@ NumberListValueError code list kind = NumbersValueError code list.numbers kind
 abbrev pub numbers_in_structs : {S : Type 0} {ghosts : SegmentGhosts S} → NumberStructs S ghosts → List ℕ
 numbers_in_structs numbers = elements (words_of numbers.bytes.now) 0 (code_of numbers.size) numbers.count
 
--- Structs: the tree of a list of them, with all below them. A list of numbers that is read as one
--- of structs stays the list of numbers that it is.
+-- Structs: the tree of a list of them, with all below them. A list of numbers that is read as a list
+-- of structs stays a list of numbers.
 abbrev pub IsElementsValue : {S : Type 0} {ghosts : SegmentGhosts S} → (S → List (List ℕ)) → StructElements S ghosts → Trees → Type 0
 IsElementsValue segments (StructsInPlace list) trees = IsListTree (structs_form segments list) (pointers_in (struct_list_of segments list)) trees
 IsElementsValue segments (NumbersAsStructs numbers) trees = IsNumbersTree (code_of numbers.size) (numbers_in_structs numbers) trees
@@ -57,7 +57,7 @@ IsStructListValue segments list trees = IsElementsValue segments list.elements t
 abbrev pub StructListValueError : {S : Type 0} {ghosts : SegmentGhosts S} → (S → List (List ℕ)) → StructListReader S ghosts → ErrorKind → Type 0
 StructListValueError segments list kind = ElementsValueError segments list.elements kind
 
--- pointers that follow one another: those of a list of pointers, or of structs of one pointer each
+-- pointers that follow one another: of a list of pointers, or of structs of one pointer each
 abbrev pub IsConsecutive : {S : Type 0} → PointerListReader S → Type 0
 IsConsecutive list = (list.count ≡ 0) ⊎ (list.step ≡ 1)
 

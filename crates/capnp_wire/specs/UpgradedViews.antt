@@ -1,7 +1,7 @@
 -- What views show of lists whose elements were numbers or pointers before they became structs, or
 -- the other way round (src/upgraded). Encoding document, "Lists": a list whose elements are not
--- bits may be read as a list of structs that have the elements as their first fields, and a list of
--- structs as a list of its first fields.
+-- bits may be read as a list of structs that have the elements as their first fields. A list of
+-- structs may be read as a list of its first fields.
 use Rattle.std.specs.Prelude.{◌≡◌, ◌≢◌, ℕ, zero, suc, ◌-◌, ◌*◌, ◌%◌, ◌^◌, ◌<◌, ◌≤◌, ⊤, List, [], ◌∷◌, ◌++◌, length, map, take, drop, replicate, slice_index}
 use Rattle.capnp_frame.specs.declared.error.ErrorKind.{ErrorKind}
 use Rattle.capnp_frame.specs.declared.error.ErrorKind.TheVariants.{WrongPointerKind}
@@ -17,9 +17,9 @@ abbrev pub number_struct : ℕ → ℕ → List ℕ
 number_struct zero value = []
 number_struct (suc code) value = value ∷ []
 
--- Structs: the data words of each, and how many pointers each has. None for null; those of a list
--- of structs; numbers, each in the low bits of one data word; pointers, each as the one pointer of
--- a struct.
+-- Structs: the data words of each, and how many pointers each has. None for null; the elements of a
+-- list of structs; numbers, each in the low bits of one data word; pointers, each as the one pointer
+-- of a struct.
 abbrev pub ReadsAsStructs : Form → ℕ → ℕ → List (List ℕ) → Type 0
 ReadsAsStructs null n p elements = elements ≡ []
 ReadsAsStructs (structs d q there) n p elements = (p ≡ q) × (elements ≡ there)
@@ -38,7 +38,7 @@ TakesAsStructs _ = ⊥
 abbrev pub ElementsFormError : Form → ErrorKind → Type 0
 ElementsFormError form kind = (TakesAsStructs form → ⊥) × (kind ≡ WrongPointerKind)
 
--- a list read as one of structs: the elements that are there, with one less of nesting depth left
+-- a list read as a list of structs: the elements that are there, with one less of nesting depth left
 pub record IsUpgradedStructs (pointer : Pointer) (list : StructList) : Type 0 where
   pub same_message : list.message ≡ pointer.message
   pub shown : Shows pointer (λ shape. ReadsAsStructs shape.form (length shape.children) list.pointer_words list.elements
@@ -60,7 +60,7 @@ pub record IsFirstField (code d : ℕ) : Type 0 where
 abbrev pub first_fields : ℕ → List (List ℕ) → List ℕ
 first_fields code elements = map (λ element. slice_index element 0 % 2 ^ width code) elements
 
--- Numbers of a code: none for null, those of a list of this code, the first fields of structs.
+-- Numbers of a code: none for null, the elements of a list of this code, the first fields of structs.
 abbrev pub ReadsAsNumbers : ℕ → Form → List ℕ → Type 0
 ReadsAsNumbers wanted null values = values ≡ []
 ReadsAsNumbers wanted (numbers code there) values = (code ≡ wanted) × (values ≡ there)
@@ -81,7 +81,7 @@ abbrev pub first_pointers : ℕ → ℕ → List Place → List Place
 first_pointers p zero children = []
 first_pointers p (suc n) children = take 1 children ++ first_pointers p n (drop p children)
 
--- Pointers: none for null, those of a list of pointers, the first ones of structs.
+-- Pointers: none for null, the elements of a list of pointers, the first pointers of structs.
 abbrev pub ReadsAsPointers : Form → List Place → List Place → Type 0
 ReadsAsPointers null children places = places ≡ []
 ReadsAsPointers pointers children places = places ≡ children
@@ -97,7 +97,7 @@ TakesFirstPointers _ = ⊥
 abbrev pub FirstPointersFormError : Form → ErrorKind → Type 0
 FirstPointersFormError form kind = (TakesFirstPointers form → ⊥) × (kind ≡ WrongPointerKind)
 
--- a list read as one of pointers, with one less of nesting depth left
+-- a list read as a list of pointers, with one less of nesting depth left
 pub record IsUpgradedPointers (pointer : Pointer) (list : PointerList) : Type 0 where
   pub same_message : list.message ≡ pointer.message
   pub shown : Shows pointer (λ shape. ReadsAsPointers shape.form shape.children list.children × Within pointer.limit shape.traversed)

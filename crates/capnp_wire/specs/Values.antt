@@ -19,7 +19,7 @@ pub record TreeAt (m : List (List ℕ)) (place : Place) (nesting : ℕ) (limit :
   pub shallow : depth trees ≤ nesting
   pub within : Within limit traversed
 
--- the words of the body of the tree at a place, as it is or in canonical form, where these are
+-- the words of the body of the tree at a place, untrimmed or in canonical form, where these are
 -- fewer than 2 ^ 29
 pub record Measured (m : List (List ℕ)) (place : Place) (nesting : ℕ) (limit : Option ℕ) (canonical : Bool) (words : ℕ) : Type 0 where
   pub trees : Trees
@@ -28,7 +28,7 @@ pub record Measured (m : List (List ℕ)) (place : Place) (nesting : ℕ) (limit
   pub words_are : words ≡ total_words (output canonical trees)
   pub few : words < 2 ^ 29
 
--- measuring it fails: a walk over it stops, or it has too many words
+-- measuring the tree fails: a walk over it stops, or it has too many words
 abbrev pub TreeSizeError : List (List ℕ) → Place → ℕ → Option ℕ → Bool → ErrorKind → Type 0
 TreeSizeError m place nesting limit canonical kind =
     WalkError m (place ∷ []) nesting limit kind
@@ -48,7 +48,7 @@ abbrev pub starts_with_null : Trees → Bool
 starts_with_null none = false
 starts_with_null (tree form children rest) = is_null form
 
--- The words of a value as a part of another one: of its tree as it is, fewer than 2 ^ 29, and of
+-- The words of a value as a part of another one: of its untrimmed tree, fewer than 2 ^ 29, and of
 -- its tree in the form that is written.
 pub record HasPart (has_tree : Trees → Type 0) (canonical : Bool) (words : TreeWords) : Type 0 where
   pub trees : Trees
@@ -58,7 +58,7 @@ pub record HasPart (has_tree : Trees → Type 0) (canonical : Bool) (words : Tre
   pub output_is : words.output ≡ total_words (output canonical trees)
   pub few : words.untrimmed < 2 ^ 29
 
--- its tree has room in a block of this many words, from a word on
+-- a value's tree has room in a block of this many words, from a word on
 pub record HasRoomAt (has_tree : Trees → Type 0) (canonical : Bool) (next room : ℕ) : Type 0 where
   pub trees : Trees
   pub tree_is : has_tree trees
@@ -71,14 +71,15 @@ pub record IsFreeFrom (next : ℕ) (block : List ℕ) : Type 0 where
   pub few : length (words_of block) < 2 ^ 29
   pub zero : drop next (words_of block) ≡ replicate (length (words_of block) - next) 0
 
--- It has no tree, for this reason, or a tree of too many words.
+-- A value has no tree, for this reason, or a tree of too many words.
 abbrev pub WordsError : (Trees → Type 0) → (ErrorKind → Type 0) → Bool → ErrorKind → Type 0
 WordsError has_tree fails canonical kind =
     fails kind
     ⊎ ((trees : Trees) × has_tree trees × (2 ^ 29 ≤ total_words (output canonical trees))
     × (kind ≡ too_large canonical (total_words (output canonical trees))))
 
--- the tree that a pointer points to, within the nesting depth left and its limit, and where a walk over it stops
+-- the tree that a pointer points to, within the nesting depth left and its limit, and where a walk over it
+-- stops
 abbrev pub PointsToTree : Pointer → Trees → Type 0
 PointsToTree pointer trees = MatchOption pointer.place (trees ≡ tree null none none)
     (λ place. TreeAt pointer.message place pointer.nesting pointer.limit trees)
@@ -87,7 +88,8 @@ abbrev pub WalkErrorFrom : Pointer → ErrorKind → Type 0
 WalkErrorFrom pointer kind = (place : Place) × (pointer.place ≡ Some place)
     × WalkError pointer.message (place ∷ []) pointer.nesting pointer.limit kind
 
--- the tree of a struct that is read, within the nesting depth left and its limit, and where a walk over its pointers stops
+-- the tree of a struct that is read, within the nesting depth left and its limit, and where a walk over its
+-- pointers stops
 pub record IsTreeOf (fields : Struct) (trees : Trees) : Type 0 where
   pub children : Trees
   pub traversed : ℕ

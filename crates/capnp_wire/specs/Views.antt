@@ -9,16 +9,16 @@ use Rattle.capnp_layout.specs.Tree.{is_null}
 use Rattle.capnp_layout.specs.Prelude.{Form, null, struct, numbers, Shape, PointsTo, nothing, PointerError, WalkError, TreesAt, Within}
 use Rattle.capnp_layout.specs.declared.place.Place.{Place}
 
--- A pointer that is read: the message, its place (a pointer past the end of a struct has none, and
--- is null), how many objects may follow one another from it on, and the limit of words that are
--- read.
+-- A pointer that is read: the message, its place, the nesting depth left (how many objects may
+-- follow one another from it on), and the limit of words that are read. A pointer past the end of a
+-- struct has no place, and is null.
 pub record Pointer : Type 0 where
   pub message : List (List ℕ)
   pub place : Option Place
   pub nesting : ℕ
   pub limit : Option ℕ
 
--- these are the words of the segment of a pointer; of one that has no place, any
+-- these are the words of the segment of a pointer; any words where the pointer has no place
 abbrev pub HasSegment : Pointer → List ℕ → Type 0
 HasSegment pointer words = ForSome pointer.place (λ place. slice_get pointer.message place.segment ≡ Some words)
 
@@ -28,7 +28,7 @@ pub data Denotes (pointer : Pointer) : Shape → Type 0 where
   at_place : {place : Place} {shape : Shape} → pointer.place ≡ Some place → PointsTo pointer.message place shape
       → (is_null shape.form ≡ false → 0 < pointer.nesting) → Denotes pointer shape
 
--- a pointer stands for a shape of which `fact` holds
+-- a pointer stands for a shape for which `fact` holds
 abbrev pub Shows : Pointer → (Shape → Type 0) → Type 0
 Shows pointer fact = (shape : Shape) × Denotes pointer shape × fact shape
 
@@ -60,10 +60,10 @@ ViewError pointer form_error kind = ObjectError pointer kind ⊎ FormError point
 abbrev pub Reads : Pointer → (Form → Type 0) → Type 0
 Reads pointer fact = Shows pointer (λ shape. fact shape.form × Within pointer.limit shape.traversed)
 
--- What each view of a pointer keeps. The view shows what is there, or the call fails with a stated
+-- What a call for a view of a pointer returns: the view shows what is there, or the call fails with a stated
 -- error. Without a limit there is a view of whatever it accepts, and no error of the limit. Where
 -- no object is there, the pointer's error is returned, unless the view accepts the pointer itself;
--- where an object is there that the view rejects, its error is, or that of the limit.
+-- where an object is there that the view rejects, the view's error is returned, or the limit's.
 pub record IsViewOf {V : Type 0} (pointer : Pointer) (shows : V → Type 0) (accepts : Type 0)
     (fails form_error : ErrorKind → Type 0) (result : Result V Error) : Type 0 where
   pub returned : MatchResult result shows (λ error. fails error.kind)
@@ -91,8 +91,8 @@ IsWords null words = words ≡ []
 IsWords (numbers code values) words = (code ≡ 5) × (words ≡ values)
 IsWords _ words = ⊥
 
--- a struct that is read: the message, its data words, the places of its pointers, how many objects may follow
--- one another from these on, and the limit of words that are read
+-- a struct that is read: the message, its data words, the places of its pointers, the nesting depth left at
+-- them, and the limit of words that are read
 pub record Struct : Type 0 where
   pub message : List (List ℕ)
   pub words : List ℕ
@@ -114,7 +114,7 @@ pub record IsStruct (pointer : Pointer) (fields : Struct) : Type 0 where
   pub nesting_below : fields.nesting ≡ pointer.nesting - 1
   pub same_limit : fields.limit ≡ pointer.limit
 
--- a struct of data words alone, in the place of what a pointer points to
+-- a struct of data words alone, in place of what a pointer points to
 abbrev pub data_struct : Pointer → List ℕ → Struct
 data_struct pointer words =
     record { message = pointer.message; words = words; children = []; nesting = pointer.nesting - 1; limit = pointer.limit }

@@ -42,7 +42,7 @@ pub trait Constant: ReaderSegments {
 }
 
 /// A view of what the root pointer of a constant points to. It fails as
-/// `any_pointer::Reader::get_as` does of that pointer.
+/// `any_pointer::Reader::get_as` does for that pointer.
 pub fn view_of<'a, C: Constant, T: FromPointerReader<'a, C>>(constant: &'a C) -> Result<T>
     ensures { let pointer = C.root constant.now in
         IsViewOf pointer (T.shows pointer) (T.accepts pointer) (T.fails pointer)
@@ -51,8 +51,8 @@ pub fn view_of<'a, C: Constant, T: FromPointerReader<'a, C>>(constant: &'a C) ->
     T::get_from_pointer(constant.constant_root())
 }
 
-/// The struct of a default that sets no pointers, in the place of what a null pointer of a message
-/// points to. It fails as a view of the default does.
+/// The struct of a default that sets no pointers, to be read in place of a null pointer of a
+/// message. It fails as a view of the default does.
 pub fn default_data<'a, S: ReaderSegments, C: Constant>(
     pointer: &any_pointer::Reader<'a, S>,
     words: &'a C,
@@ -93,9 +93,9 @@ impl<const N: usize> Words<N> {
     }
 }
 
-/// What the getter of a pointer with a default returns where a view follows pointers in the segments
-/// that its type names: the view of what the message holds, or of the default where its pointer is
-/// null.
+/// What the getter of a pointer with a default returns, for views that follow pointers in the
+/// segments that their type names. It is the view of what the message holds, or of the default
+/// where the message's pointer is null.
 #[derive(Drop)]
 pub enum OrDefault<M, D> {
     Stored(Result<M>),

@@ -21,7 +21,7 @@ pub fn one_object_at_a_place()
         PointsTo m place some → PointsTo m place other → some ≡ other }
 {}
 
-/// Where an object leads back to itself, there is no tree.
+/// Where pointers go from an object back to itself, there is no tree.
 pub fn cycle_has_no_tree()
     ensures { (m : List (List ℕ)) (place : Place) (form : Form) (children : Trees) (traversed : ℕ) →
         Below m place place → At m (place ∷ []) (tree form children none) traversed → ⊥ }
@@ -78,7 +78,8 @@ pub fn tree_after_its_pointer()
         × At m (record { segment = segment; word = word } ∷ []) (tree form children none) traversed }
 {}
 
-/// Where a tree's body follows its landing pad, a far pointer to the landing pad points to the tree.
+/// Where a tree's body follows its landing pad, a far pointer to the landing pad points to the
+/// tree.
 pub fn tree_after_its_landing_pad()
     ensures { (m : List (List ℕ)) (place : Place) (segment landing_pad : ℕ) (words : List ℕ)
         (form : Form) (children : Trees) →

@@ -1,5 +1,5 @@
 //! The wire layout: pointer words, the objects that they point to, and the words that a walk over
-//! these counts.
+//! the objects counts.
 pub(crate) mod canonical;
 pub(crate) mod canonical_rules;
 pub(crate) mod copy;

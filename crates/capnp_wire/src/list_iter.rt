@@ -11,7 +11,7 @@ pub trait IndexMove {
     /// What a contract sees of an element.
     ghost Element: { Type 0 };
 
-    /// What a contract sees of what an element is read as.
+    /// What a contract sees of an element that was read.
     ghost seen: { Self.Item → Element };
 
     /// The number of elements, for contracts.
@@ -59,7 +59,7 @@ impl<'l, L: IndexMove> ListIter<'l, L> {
     }
 }
 
-// Each call gives the element of the next index, and `None` from the end on.
+// Each call returns the element at the next index, and `None` from the end on.
 impl<'l, L: IndexMove> Iterator for ListIter<'l, L> {
     type Item = L::Item;
 

@@ -18,7 +18,7 @@ pub(crate) fn wrong_kind() -> Error
 
 /// Returns its argument, which the compiler then keeps in registers.
 ///
-/// Speed: a value that is built anew keeps the fast path's result in registers, where the one that
+/// Speed: a value that is built again keeps the fast path's result in registers. The value that
 /// `enter` returns in memory would not (`tools/time-reading`).
 #[inline(always)]
 pub(crate) fn by_value<T>(entered: Result<T>) -> Result<T>
@@ -63,7 +63,7 @@ pub(crate) fn object_numbers<'a>(
     }
 }
 
-/// The words of a list of numbers that was entered, and how many numbers they are.
+/// The words of a list of numbers that was entered, and the number of its elements.
 #[derive(Drop)]
 pub(crate) struct EnteredNumbers<'a> {
     pub bytes: &'a [u8],

@@ -1,4 +1,4 @@
-//! Views of one kind of object, and how each is taken of a pointer.
+//! Views of one kind of object, and how each is read from a pointer.
 ghost use Rattle.std.specs.Prelude.{MatchResult};
 ghost use Rattle.std.specs.Option.{ForSome};
 ghost use Rattle.capnp_frame.specs.declared.error.ErrorKind.{ErrorKind};
@@ -13,7 +13,7 @@ use capnp_frame::Result;
 use capnp_frame::message::ReaderSegments;
 use capnp_layout::object::Object;
 
-/// A view of one kind of object, as `text::Reader` is one of a list of bytes.
+/// A view of one kind of object, as `text::Reader` is a view of a list of bytes.
 pub(crate) trait ObjectView<'a, S: ReaderSegments>: Sized {
     /// The view shows what the pointer points to, as `FromPointerReader` has it.
     ghost shows: { Pointer → Self → Type 0 };
@@ -35,12 +35,13 @@ pub(crate) trait ObjectView<'a, S: ReaderSegments>: Sized {
         ensures { let pointer = pointer_of S.segments reader.now in MatchResult result
             (λ view. shows pointer view) (λ error. fails pointer error.kind) };
 
-    /// A pointer that can't be read fails with such an error.
+    /// A pointer that can't be read fails with an error that `fails` names.
     ghost unread: { (pointer : Pointer) (kind : ErrorKind) → ObjectError pointer kind →
         fails pointer kind };
 }
 
-/// The view of what a pointer points to: by the object in its own segment, or else by any path.
+/// The view of what a pointer points to: the object that the fast path finds, or else what `enter`
+/// finds.
 #[inline(always)]
 pub(crate) fn read<'a, S: ReaderSegments, V: ObjectView<'a, S>>(
     reader: &any_pointer::Reader<'a, S>,
@@ -57,7 +58,7 @@ pub(crate) fn read<'a, S: ReaderSegments, V: ObjectView<'a, S>>(
     }
 }
 
-// The view of what a pointer points to, by any path.
+// The view of what a pointer points to, wherever that is.
 // Speed: a function of its own, so `read` knows the kind of the fast path's object
 // (`tools/time-reading`).
 #[inline(never)]

@@ -15,7 +15,7 @@ pub struct ReadLimiter {
 }
 
 impl ReadLimiter {
-    /// A limiter of which nothing has been read.
+    /// A limiter that has counted nothing so far.
     pub(crate) fn new(limit: Option<usize>) -> ReadLimiter
         ensures { result.limit ≡ limit }
     {

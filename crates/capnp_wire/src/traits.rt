@@ -18,8 +18,8 @@ use capnp_frame::message::ReaderSegments;
 /// A type of views of what a pointer points to, as `text::Reader` is one.
 ///
 /// A view that doesn't name `S` has a lifetime of its own, as in
-/// `impl<'a: 'v, 'v, S: ReaderSegments> FromPointerReader<'a, S> for View<'v>`. A loop over a list of
-/// such views isn't proved where the impl names the one lifetime `'a` for both.
+/// `impl<'a: 'v, 'v, S: ReaderSegments> FromPointerReader<'a, S> for View<'v>`. A loop over a list
+/// of such views isn't proved where the impl names the one lifetime `'a` for both.
 pub trait FromPointerReader<'a, S: ReaderSegments>: Sized {
     /// The view shows what the pointer points to.
     ghost shows: { Pointer → Self → Type 0 };
@@ -27,7 +27,7 @@ pub trait FromPointerReader<'a, S: ReaderSegments>: Sized {
     /// There is a view of what the pointer points to.
     ghost accepts: { Pointer → Type 0 };
 
-    /// With which errors a view fails: there is none, or it may not be read.
+    /// With which errors a view fails: there is none, or the object may not be read.
     ghost fails: { Pointer → ErrorKind → Type 0 };
 
     /// With which error a view fails where an object is there that it does not accept.
@@ -40,7 +40,7 @@ pub trait FromPointerReader<'a, S: ReaderSegments>: Sized {
             result };
 }
 
-/// A type of views that are also taken where the segment of the pointer is known, as it is in a
+/// A type of views that can also be read where the segment of the pointer is known, as it is in a
 /// struct.
 pub trait FromPointerInSegment<'a, S: ReaderSegments>: FromPointerReader<'a, S> {
     /// The view of what a pointer in this segment points to. Fails as `get_from_pointer` does.
@@ -57,13 +57,13 @@ pub trait Owned<'a, S: ReaderSegments> {
     type Reader: FromPointerReader<'a, S>;
 }
 
-/// How many words some trees have, as they are and in the form that is written.
+/// How many words some trees have, untrimmed and in the form that is written.
 #[derive(Clone, Copy)]
 pub struct TreeWords {
-    /// As they are.
+    /// Untrimmed.
     pub untrimmed: u64,
 
-    /// In the form that is written. Fewer, where that is canonical and they are not.
+    /// In the form that is written. Fewer, where that form is canonical and the trees are not.
     pub output: u64,
 }
 
@@ -75,7 +75,7 @@ pub trait SetterInput<T> {
     /// With which errors the value fails: it has no tree, or the tree may not be read.
     ghost fails: { Self → ErrorKind → Type 0 };
 
-    /// The number of words of the value, without the pointer to it, as it is or in canonical form.
+    /// The number of words of the value, without the pointer to it, untrimmed or in canonical form.
     ///
     /// Fails with a kind that `fails` names, and for 2^29 words and more with
     /// `AllocationTooLarge`, or in canonical form with `CanonicalTooLarge`.
@@ -90,7 +90,7 @@ pub trait SetterInput<T> {
 
     /// The number of words of the value as a part of another one, without the pointer to it.
     ///
-    /// Fails as `measure` does for the value as it is, even where its canonical form is smaller.
+    /// Fails as `measure` does for the untrimmed value, even where its canonical form is smaller.
     fn measure_part(&self, canonical: bool) -> Result<TreeWords>
         ensures returned { MatchResult result (λ words. HasPart (has_tree self.now) canonical words)
             (λ error. WordsError (has_tree self.now) (fails self.now) false error.kind) }

@@ -1,9 +1,9 @@
-//! Lists that older and newer writers wrote, read as the schema has them now (encoding document,
+//! Lists of older and newer writers, read as the schema has them now (encoding document,
 //! "Lists").
 //!
 //! Elements of a list that are numbers or pointers may become structs with these as their first
 //! field, and a newer writer may write structs where an older schema has numbers or pointers. These
-//! views accept both; those of [`struct_list`](crate::struct_list),
+//! views accept both. The views of [`struct_list`](crate::struct_list),
 //! [`primitive_list`](crate::primitive_list) and [`any_pointer_list`](crate::any_pointer_list)
 //! accept only lists of their own type. A list of bits is never upgraded, and nothing else is read
 //! as bits.

@@ -1,4 +1,4 @@
--- The canonical form at worked examples.
+-- The canonical form at hand-computed examples.
 use Rattle.std.proofs.Common.{◌≡◌, [], ◌∷◌, Some, None, refl, lit<, arith}
 use Rattle.capnp_frame.specs.declared.error.ErrorKind.TheVariants.{PointerOutOfBounds, InvalidSegmentId}
 use Rattle.capnp_layout.specs.Prelude.{null, struct, numbers, structs, none, tree, root, canon}

@@ -1,4 +1,4 @@
--- The tests of a walk hold exactly where the words are those of a layout.
+-- The tests of a walk hold exactly where the words are as in a layout.
 use Rattle.std.proofs.Common.{◌≡◌, ℕ, ◌+◌, ◌-◌, ◌*◌, ◌^◌, ◌<◌, ◌≤◌, List, [], ◌∷◌, length, Some, slice_get, refl, sym, ◌∙◌, ap, subst, arith}
 use Rattle.std.proofs.lemmas.List.{nil_from_length}
 use Rattle.capnp_layout.specs.Prelude.{pointer_kind, offset, struct_pointer, list_pointer, minus_one, pointer, HasRoom, Reaches, Form, null, struct, numbers, pointers, structs, Trees, tree, Shape, ShapeIsAt, PointsTo, is_null, is_object, At, at}

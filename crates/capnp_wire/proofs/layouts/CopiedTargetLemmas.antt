@@ -63,7 +63,7 @@ as_many start begin from copied q is =
     ∙ ap (λ (n : ℕ). n * q) (sym same_count)
     ∙ sym (kept_many begin.segment (first_section copied begin.word) (section_sizes copied).data_words (section_sizes copied).pointers q (section_count copied))
 
--- null, and what no copyable pointer is
+-- null is null in either form, and so is the tree of a null pointer
 null_output : (c : Bool) → output c (tree null none none) ≡ tree null none none
 null_output true = refl
 null_output false = refl

@@ -135,7 +135,7 @@ pub zero_part : (bytes : List ℕ) (k n : ℕ) → bytes ≡ replicate (length b
 zero_part bytes k n zeros room =
     ap (λ (l : List ℕ). take n (drop k l)) zeros ∙ ap (λ (l : List ℕ). take n l) (drop-replicate k (length bytes) 0) ∙ take-replicate n (length bytes - k) 0 (omega (arith, room))
 
--- where a value is one tree, which has room, that has as many words as its body
+-- where a value is one tree, which has room, the tree's body has as many words as the tree
 pub tree_body_long : (h : Trees → Type 0) (c : Bool) (next room : ℕ) → ((a b : Trees) → h a → h b → a ≡ b) → HasRoomAt h c next room → (trees : Trees) → h trees
     → length (body (output c trees)) ≡ total_words (output c trees)
 tree_body_long h c next room one w trees is = length-body (output c trees) (room_output c trees (subst AllHaveRoom (one w.trees trees w.tree_is is) w.rooms))
@@ -195,7 +195,7 @@ pub numbers_output : (c : Bool) (code : ℕ) (values : List ℕ) → output c (t
 numbers_output true code values = refl
 numbers_output false code values = refl
 
--- whatever the form, a list of numbers is copied as it is
+-- whatever the form, a list of numbers is copied unchanged
 pub as_output : (c : Bool) (code : ℕ) (values : List ℕ) (trees : Trees) (gap next : ℕ) (old new : List ℕ) (copied : Copied) → trees ≡ tree (numbers code values) none none
     → IsCopied (tree (numbers code values) none none) gap next old new copied → IsCopied (output c trees) gap next old new copied
 as_output c code values trees gap next old new copied is done =

@@ -20,7 +20,7 @@ use Rattle.capnp_wire.proofs.layouts.CopyPlanLemmas.{Opened}
 use Rattle.capnp_wire.proofs.layouts.ObjectCopyLemmas.{struct_plain, struct_trimmed}
 use Rattle.capnp_layout.proofs.objects.ReadStructLemmas.{struct_room}
 
--- its own words, with those of the trees below it
+-- its own words, with the words of the trees below it
 output_total : (m : List (List ℕ)) (words : List ℕ) (start : Place) (size : StructSize) (c : Bool) (children : Trees) (inside : ℕ) → HasPointersSegment m words start size
     → start.word + (size.data_words + size.pointers) ≤ length words → At m (places start.segment (start.word + size.data_words) size.pointers) children inside → AllHaveRoom children
     → words_in (output_body_of c words start.word (Struct size)) + total_words (output c children) ≡ total_words (output c (tree (struct (words_from words start.word size.data_words)) children none))

@@ -1,4 +1,5 @@
--- Structs of no words that begin where their pointers do: a walk meets no words there, and their copies are such pointers.
+-- Structs of no words that begin where their pointers do: a walk meets no words there, and their copies are
+-- such pointers.
 use Rattle.std.proofs.Common.{◌≡◌, ℕ, ◌<◌, ◌^◌, Bool, List, [], Option, Some, slice_get, inl, inr, sym, ◌∙◌, ap, subst, arith, lit<}
 use Rattle.std.proofs.lemmas.List.Elements.{All-nil}
 use Rattle.capnp_layout.specs.Prelude.{struct, Trees, none, tree, total_words, is_null as null_there, nowhere, at, body, pointer_to, output, put, empty_struct, IsNullOrEmptyStruct}

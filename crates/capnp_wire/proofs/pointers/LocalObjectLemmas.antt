@@ -1,4 +1,4 @@
--- Lists of numbers and structs in the segments of their pointers: they are where the pointers lead.
+-- Lists of numbers and structs in the segments of their pointers: the pointers point to them.
 use Rattle.std.proofs.Common.{◌≡◌, Bool, ℕ, ◌+◌, ◌<◌, List, Option, refl, ◌∙◌, ap, subst}
 use Rattle.capnp_layout.specs.Prelude.{words_of, code_of, width, words_for, IsObject, words_in, traversed_of, object_of, local_struct_of, pointers_of, Within, less, output_body_of}
 use Rattle.capnp_wire.specs.Prelude.{CountsMore, EntersObject, Walked}

@@ -1,4 +1,4 @@
--- A pointer points to the next free word exactly where its word is that of a layout.
+-- A pointer points to the next free word exactly where its word is as in a layout.
 use Rattle.std.proofs.Common.{◌≡◌, ℕ, zero, suc, ◌+◌, ◌-◌, ◌*◌, ◌/◌, ◌^◌, ◌<◌, ◌≤◌, List, [], ◌∷◌, length, refl, sym, ◌∙◌, ap, arith, drop, length-take, length-drop}
 use Rattle.std.specs.Prelude.{◌↔◌}
 use Rattle.capnp_layout.specs.Prelude.{pointer_kind, offset, data_words, pointer_words, code, list_count, words_from, number_of, width, words_for, struct, object_size, Shape, ShapeIsAt, places, elements_from, elements, a_struct, some_numbers, some_pointers, some_structs, struct_pointer, list_pointer, minus_one, pointer, Reaches}
@@ -60,7 +60,7 @@ a_struct_next tag word next [] zero k d p = empty_struct tag word next k d p
 a_struct_next tag word next [] (suc n) k d p = some_struct tag word next [] (suc n) k d p (omega arith)
 a_struct_next tag word next (w ∷ words) n k d p = some_struct tag word next (w ∷ words) n k d p (omega arith)
 
--- the object says what the pointer's word is but for its offset
+-- the object says what the pointer's word is, except for its offset
 pub next_is_laid_out : (segment : List ℕ) (start : Place) (tag word next : ℕ) (shape : Shape) → ShapeIsAt segment start tag shape
     → IsNext tag word next shape.form (length shape.children) ↔ ((tag ≡ pointer shape.form (length shape.children) (next - (word + 1))) × Reaches shape.form (length shape.children) (next - (word + 1)))
 next_is_laid_out segment start tag word next shape (a_struct k room) =
@@ -84,7 +84,7 @@ struct_room segment start tag word next [] (suc n) room before within target is 
 struct_room segment start tag word next (w ∷ words) n room before within target is =
     let at : start ≡ next = point_start word next start (offset tag) before (is.1 (omega arith)) target in omega arith
 
--- and where it leads there, the object's words lie after that word
+-- and where it points there, the object's words lie after that word
 pub next_room : (segment : List ℕ) (start tag word next : ℕ) (shape : Shape) → ShapeIsAt segment (record { segment = 0; word = start }) tag shape → word < next → next ≤ length segment
     → start + 2 ^ 30 * (offset tag / 2 ^ 29) ≡ word + 1 + offset tag
     → IsNext tag word next shape.form (length shape.children) → next + object_size shape.form (length shape.children) ≤ length segment

@@ -34,7 +34,7 @@ nulls_walked {m} {c} {nesting} {left} {counted_now = b} segment words start n th
   counted = counts_none b;
 }
 
--- Its words are its copy then.
+-- Its own words are then its copy.
 pub struct_of_nulls : {m : List (List ℕ)} {place : Place} {found : LocalStruct} {size : StructSize} {nesting : ℕ} {c : Bool} {gap next free pointer : ℕ} {old new : List ℕ}
     (can : CanCopy m (place ∷ []) nesting c next (length old)) → IsObject m place (local_struct_of found)
     → Struct size ≡ output_body_of c (words_of found.segment.now) found.start.word (Struct found.size) → size.data_words ≤ found.size.data_words → size.pointers ≤ found.size.pointers

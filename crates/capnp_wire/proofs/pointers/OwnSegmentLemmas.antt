@@ -5,7 +5,7 @@ use Rattle.capnp_layout.specs.Prelude.{words_of, places}
 use Rattle.capnp_layout.specs.declared.place.Place.{Place}
 use Rattle.capnp_wire.specs.Prelude.{Pointer, HasSegment}
 
--- a segment that is known to be the pointer's is, in an option
+-- a known segment, in an option, is the pointer's segment
 pub known_segment : (p : Pointer) (segment : Bor (List ℕ)) → HasSegment p (words_of segment.now) → ForSome (Some segment) (λ known. HasSegment p (words_of known.now))
 known_segment p segment has = λ known is. let same : segment ≡ known = cc in subst (λ (s : Bor (List ℕ)). HasSegment p (words_of s.now)) same has
 
@@ -17,7 +17,7 @@ places_within m words segment first (suc n) zero there place is =
     subst (λ (p : Place). slice_get m p.segment ≡ Some words) same there
 places_within m words segment first (suc n) (suc index) there place is = places_within m words segment (first + 1) n index there place is
 
--- a struct holds the segment of its pointers, if it has any
+-- where a struct has pointers, they are in its segment
 pub struct_pointers_within : (m : List (List ℕ)) (words : List ℕ) (segment first n index : ℕ) → (0 < n → slice_get m segment ≡ Some words)
     → (place : Place) → slice_get (places segment first n) index ≡ Some place → slice_get m place.segment ≡ Some words
 struct_pointers_within m words segment first zero index holds place is = cc

@@ -1,4 +1,4 @@
--- Trees at places with room for their fields, and the words that they have, as they are or in canonical form.
+-- Trees at places with room for their fields, and the words that they have, untrimmed or in canonical form.
 use Rattle.std.proofs.Common.{ℕ, ◌+◌, ◌-◌, ◌<◌, Bool, List, [], ◌∷◌, ◌++◌, refl, sym, ◌∙◌, subst, arith}
 use Rattle.capnp_layout.specs.Tree.{is_null}
 use Rattle.capnp_layout.specs.Prelude.{none, tree, depth, total_words, before, Shape, PointsTo, nothing, At, nowhere, at, HasRoom, TreesAt}

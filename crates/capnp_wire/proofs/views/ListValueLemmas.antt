@@ -42,7 +42,7 @@ pub same_list : (form : Form) (m : List (List ℕ)) (at : List Place) (nesting :
 same_list form m at nesting limit other a b x y =
     x.whole ∙ ap (λ (t : Trees). tree form t none) (one_tree m at x.children y.children x.traversed y.traversed x.are_at y.are_at).0 ∙ sym y.whole
 
--- its own words, with those of the trees below it, and the room that its fields have
+-- its own words, with the words of the trees below it, and the room that its fields have
 pub record OwnWords (form : Form) (m : List (List ℕ)) (at : List Place) (c : Bool) (own : ℕ) : Type 0 where
   pub totals : (children : Trees) (inside : ℕ) → At m at children inside → AllHaveRoom children → own + total_words (output c children) ≡ total_words (output c (tree form children none))
   pub room : (children : Trees) (inside : ℕ) → At m at children inside → HasRoom form (count children)
@@ -117,7 +117,7 @@ pub pointers_copyable : {m : List (List ℕ)} {first : Place} {n nesting : ℕ} 
 pointers_copyable {m} {first} {n} {nesting} {c} {next} {room} o =
     subst (λ (l : List Place). CanCopy m l nesting c (next + n) room) (in_run first (Pointers n) (Pointers n) next n refl refl).places_are o.kept
 
--- where there is no segment, a list whose pointers lead somewhere has none
+-- where there is no segment, a list whose pointers can be copied has no pointers
 pub no_pointers_there : (m : List (List ℕ)) (first : Place) (n nesting : ℕ) (c : Bool) (next room : ℕ) → slice_get m first.segment ≡ None
     → CanCopy m (places first.segment first.word n) nesting c next room → n ≡ 0
 no_pointers_there m first zero nesting c next room missing can = refl
@@ -139,8 +139,8 @@ pointers_written {m} {first} {n} {nesting} {c} {gap} {next} {room} {trees} {old}
       next_is = omega (arith, all.next_is k.trees k.traversed there, o.totals);
     }
 
--- A list of structs, as it is and as it is kept: in canonical form without the trailing words that
--- no element needs.
+-- A list of structs, untrimmed and as it is written: in canonical form without the trailing words
+-- that no element needs.
 abbrev pub kept_size : Bool → List ℕ → Place → Elements → StructSize
 kept_size c words first elements = if c then least_size words first.word elements.size elements.count else elements.size
 

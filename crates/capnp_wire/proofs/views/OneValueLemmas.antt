@@ -32,14 +32,14 @@ one_words_error h r one c a b (inr x) (inl y) = absurd (one.apart b x.0 y x.1)
 one_words_error h r one c a b (inr x) (inr y) =
     x.3 ∙ ap (λ (t : Trees). too_large c (total_words (output c t))) (one.same_tree x.0 y.0 x.1 y.1) ∙ sym y.3
 
--- a value that lacks words fails for exactly this reason
+-- a value that has no such number of words fails with exactly this error
 pub measured_exactly : (h : Trees → Type 0) (r : ErrorKind → Type 0) → IsOne h r → (c : Bool) (returned : Result ℕ Error)
     → MatchResult returned (λ words. HasWords h c words) (λ error. WordsError h r c error.kind)
     → (kind : ErrorKind) → WordsError h r c kind → IsErrAnd returned (λ error. error.kind ≡ kind)
 measured_exactly h r one c (Ok words) m kind words_error = absurd (has_or_error h r one c words kind m words_error)
 measured_exactly h r one c (Err error) m kind words_error = one_words_error h r one c error.kind kind m words_error
 
--- and for one that has words exactly these are returned
+-- and for a value that has one, exactly that number is returned
 pub measured_found : (h : Trees → Type 0) (r : ErrorKind → Type 0) → IsOne h r → (c : Bool) (returned : Result ℕ Error)
     → MatchResult returned (λ words. HasWords h c words) (λ error. WordsError h r c error.kind)
     → (words : ℕ) → HasWords h c words → returned ≡ Ok words

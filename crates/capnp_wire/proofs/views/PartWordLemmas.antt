@@ -11,7 +11,7 @@ use Rattle.capnp_wire.specs.declared.traits.TreeWords.{TreeWords}
 use Rattle.capnp_layout.proofs.objects.OneObjectLemmas.{one_object}
 use Rattle.capnp_layout.proofs.trees.TrimmedTreeLemmas.{total-trim}
 
--- a part, by its words as it is, and in the form that is written
+-- a part, by its words untrimmed and in the form that is written
 pub output_less : (c : Bool) (trees : Trees) → AllHaveRoom trees → total_words (output c trees) ≤ total_words trees
 output_less true trees rooms = total-trim trees rooms
 output_less false trees rooms = omega arith

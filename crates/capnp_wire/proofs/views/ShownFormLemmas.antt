@@ -30,7 +30,7 @@ entered_reads p object fact entered holds = (
   (holds, entered.within),
 )
 
--- and a view of the object is one of its pointer
+-- and a view of the object is a view of its pointer
 pub entered_view : {V : Type 0} (p : Pointer) (object : ReadObject) (shows : V → Form → Type 0) (form_error : Form → ErrorKind → Type 0)
     (result : Result V Error) → IsEntered p object
     → MatchResult result (λ view. shows view (form_of object)) (λ error. form_error (form_of object) error.kind)

@@ -45,7 +45,7 @@ stepped_within segment word step (suc n) (suc i) within =
     let more : suc i * step ≡ step + i * step = omega arith in
     stepped_within segment (word + step) step n i (omega arith) ∙ ap (λ (w : ℕ). Some (record { segment = segment; word = w })) (omega (arith, more))
 
--- those at a distance of one word follow one another
+-- places at a distance of one word follow one another
 pub stepped_by_one : (segment word n : ℕ) → stepped_places segment word 1 n ≡ places segment word n
 stepped_by_one segment word zero = refl
 stepped_by_one segment word (suc n) = ap (λ (ps : List Place). record { segment = segment; word = word } ∷ ps) (stepped_by_one segment (word + 1) n)
@@ -60,7 +60,7 @@ one_step : (segment word n : ℕ) → stepped_places segment word 1 n ≡ places
 one_step segment word zero = refl
 one_step segment word (suc n) = ap (λ (l : List Place). record { segment = segment; word = word } ∷ l) (one_step segment (word + 1) n)
 
--- the first ones of structs
+-- the first pointers of structs
 first_of_each : (segment word d p n : ℕ) → 0 < p → stepped_places segment (word + d) (d + p) n ≡ first_pointers p n (pointer_places segment word d p n)
 first_of_each segment word d zero n some = absurd (omega arith)
 first_of_each segment word d (suc q) zero some = refl

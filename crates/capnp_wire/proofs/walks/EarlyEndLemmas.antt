@@ -55,7 +55,7 @@ in_first P place zero_there p = subst (λ (k : ℕ). P (record { segment = k; wo
 from_first : (P : Place → Type 0) (place : Place) → place.segment ≡ 0 → P (record { segment = 0; word = place.word }) → P place
 from_first P place zero_there p = subst (λ (k : ℕ). P (record { segment = k; word = place.word })) (sym zero_there) p
 
--- what is laid out by its tree is laid out by its tests
+-- an object is as the canonical form has it where its pointer and its padding are, and its tree is trimmed
 preorder_lays : (segment : List ℕ) (word nesting next inside : ℕ) (limit : Option ℕ) (shape : Shape) (children : Trees) → All (λ w. w < 2 ^ 64) segment
     → MeetsObject segment (record { segment = 0; word = word }) nesting limit shape
     → At (segment ∷ []) shape.children children inside → IsPointerOfLayout segment word next shape.form (count children) → Padded segment next shape.form

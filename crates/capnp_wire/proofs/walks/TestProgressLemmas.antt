@@ -65,8 +65,8 @@ null_passes {segment} {word} {nesting} {next} {after} {limit} {left} met room = 
   left_is = met.1 ∙ sym (less_none limit);
 }
 
--- How far a walk over the trees at some places has come, all of which pass so far: which are done,
--- and which are left.
+-- How far a walk over the trees at some places has come, where all pass so far: which are done, and
+-- which are left.
 pub record PassesSoFar (segment : List ℕ) (children rest : List Place) (nesting : ℕ) (limit left : Option ℕ) (next now : ℕ) : Type 0 where
   pub front : List Place
   pub children_is : children ≡ front ++ rest

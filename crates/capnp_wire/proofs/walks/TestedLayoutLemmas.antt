@@ -1,4 +1,4 @@
--- The tests of a walk hold exactly where the words are those of a layout.
+-- The tests of a walk hold exactly where the words are as in a layout.
 use Rattle.std.proofs.Common.{◌≡◌, ℕ, ◌+◌, ◌-◌, ◌^◌, ◌<◌, ◌≤◌, List, [], ◌∷◌, ◌++◌, length, Some, slice_get, refl, sym, subst, arith, length-append}
 use Rattle.capnp_layout.specs.Prelude.{digits, number_of, width, words_for, Form, null, struct, numbers, pointers, structs, Trees, none, tree, count, object_size, total_words, At, pointer, slots, pointers_to, own, body, HasRoom, AllHaveRoom, Reaches, AllReach, placed}
 use Rattle.capnp_layout.specs.declared.place.Place.{Place}

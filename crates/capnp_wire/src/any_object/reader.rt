@@ -11,8 +11,8 @@ use capnp_frame::message::ReaderSegments;
 use capnp_layout::object::{Body, Object, words_fit};
 
 /// What a pointer points to: null, or a view of the kind of object that is there. The object is
-/// counted once against the traversal limit. What its own pointers point to is counted when they are
-/// followed.
+/// counted once against the traversal limit. What its own pointers point to is counted when they
+/// are followed.
 #[derive(Drop)]
 pub enum Reader<'a, S: ReaderSegments> {
     Null,

@@ -24,15 +24,15 @@ pub(crate) enum ObjectKind {
 }
 
 // Views ask here first. `None` says nothing about what is there; then `enter` finds it.
-// Speed: from `get_as`, `get_pointer`, `get_data_field` and the `get` of lists down to the
-// pointer's word everything is inlined, since a reader or a result of more than two words would be
-// passed in memory, and the kind of an object is known where the code is inlined
+// Speed: everything is inlined, from `get_as`, `get_pointer`, `get_data_field` and the `get` of
+// lists down to the pointer's word. A reader or a result of more than two words would otherwise be
+// passed in memory, and where the code is inlined the kind of the object is known
 // (`tools/time-reading`).
 
 impl<'a, S: ReaderSegments> Reader<'a, S> {
-    /// The object of this kind that the pointer points to without a landing pad, counted against the
-    /// traversal limit: a fast path. `None` says nothing about what is there, and counts nothing;
-    /// then `enter` is asked.
+    /// The object of this kind that the pointer points to without a landing pad, counted against
+    /// the traversal limit: a fast path. `None` says nothing about what is there, and counts
+    /// nothing; then `enter` is asked.
     #[inline(always)]
     pub(crate) fn enter_local(
         &self,
@@ -53,7 +53,7 @@ impl<'a, S: ReaderSegments> Reader<'a, S> {
         }
     }
 
-    // The segment of the pointer, where it isn't known yet.
+    // The segment of the pointer: the known one, or else the segment of its place.
     #[inline(always)]
     fn segment_at(&self, known: Option<&'a [u8]>, place: Place) -> Option<&'a [u8]>
         requires place { self.now.place ≡ Some place }
@@ -69,8 +69,9 @@ impl<'a, S: ReaderSegments> Reader<'a, S> {
     }
 }
 
-// The object of this kind that the pointer at a place of this segment points to without a landing pad.
-// Speed: the size of numbers is looked at first, so the compiler knows it in the code after that
+// The object of this kind that the pointer at a place of this segment points to without a landing
+// pad.
+// Speed: the size of numbers is tested first, so the compiler knows it in the code after the test
 // (`tools/time-reading`).
 #[inline(always)]
 fn local_object(segment: &[u8], place: Place, nesting: u32, kind: ObjectKind) -> Option<Object<'_>>

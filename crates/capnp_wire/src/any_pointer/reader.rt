@@ -26,9 +26,9 @@ pub struct Reader<'a, S> {
 }
 
 impl<'a, S: ReaderSegments> Reader<'a, S> {
-    /// The root pointer of segments that are trusted, as those of a message that is being built,
-    /// read under no traversal limit, and under a nesting limit of 2^31 - 1. It is null where there
-    /// is no first segment.
+    /// The root pointer of trusted segments, such as the segments of a message that is being built.
+    /// It is read under no traversal limit, and under a nesting limit of 2^31 - 1. It is null where
+    /// there is no first segment.
     pub fn root_of(segments: &'a S) -> Reader<'a, S>
         ensures { pointer_of S.segments result ≡ unlimited_root (S.segments segments.now) }
     {
@@ -106,10 +106,10 @@ impl<'a, S: ReaderSegments> Reader<'a, S> {
     /// The object that the pointer points to, as a view that borrows it from the segments.
     ///
     /// Fails with `InvalidSegmentId`, `PointerOutOfBounds`, `CapabilityRefused` or
-    /// `WrongPointerKind` where no object is there; with `NestingLimitExceeded` where the object is
-    /// deeper than the nesting limit; with `ReadLimitExceeded` where it would bring what is read
-    /// past the traversal limit; and else with `WrongPointerKind` or `TextNotTerminated`, as the
-    /// type of the view says.
+    /// `WrongPointerKind` where no object is there, and with `NestingLimitExceeded` where the
+    /// object is deeper than the nesting limit. Fails with `ReadLimitExceeded` where the object
+    /// would bring the words that are read past the traversal limit, and else with
+    /// `WrongPointerKind` or `TextNotTerminated`, as the type of the view says.
     #[inline(always)]
     pub fn get_as<T: FromPointerReader<'a, S>>(&self) -> Result<T>
         ensures returned { let pointer = pointer_of S.segments self.now in MatchResult result

@@ -24,8 +24,8 @@ impl<'a, S: ReaderSegments> StructReader<'a, S> {
     }
 
     /// A field that has a default, at an offset in units of its own width. The data section has the
-    /// bits of the value XORed with those of the default. Where the section ends before the field,
-    /// the default is returned.
+    /// bits of the value XORed with the bits of the default. Where the section ends before the
+    /// field, the default is returned.
     pub fn get_data_field_mask<T: PrimitiveElement>(&self, offset: u32, default: T) -> T
         ensures { result ≡ T.value_of (bit_xor
             (field (struct_of S.segments self.now).words (width T.code) offset)
@@ -45,7 +45,7 @@ impl<'a, S: ReaderSegments> StructReader<'a, S> {
 
     /// The view of what a pointer points to, or the default where the pointer is null.
     ///
-    /// Fails as `any_pointer::Reader::get_as` does of a pointer that isn't null.
+    /// Where the pointer isn't null, this fails as `any_pointer::Reader::get_as` does.
     pub fn get_pointer_or<T: FromPointerReader<'a, S> + Drop>(
         &self,
         index: u16,

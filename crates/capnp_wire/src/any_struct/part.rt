@@ -1,5 +1,5 @@
-//! Elements of lists of numbers, read as structs (encoding document, "Lists"): the data section of
-//! such a struct is a part of a word, which other elements have, too.
+//! Elements of lists of numbers, read as structs (encoding document, "Lists"). The data section of
+//! such a struct is a part of a word, which holds other elements as well.
 ghost use Rattle.std.specs.Prelude.{◌≡◌};
 ghost use Rattle.capnp_wire.specs.Parts.{own_part};
 
@@ -14,8 +14,8 @@ pub(crate) struct WordPart {
     pub index: u32,
 }
 
-/// A data word of a struct, by the word of the segment that it is in: all of that word, or, for an
-/// element of a list of numbers, the element's bits, in the low bits.
+/// A data word of a struct, from the word of the segment that it is in. It is all of that word or,
+/// for an element of a list of numbers, the element's bits, in the low bits.
 pub(crate) fn data_word_of(part: Option<WordPart>, word: u64) -> u64
     ensures { result ≡ own_part part word }
 {

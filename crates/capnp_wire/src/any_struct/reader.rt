@@ -87,7 +87,7 @@ impl<'a, S: ReaderSegments> StructReader<'a, S> {
         }
     }
 
-    /// The view of what a pointer points to. Fails as `any_pointer::Reader::get_as` does of it.
+    /// The view of what a pointer points to. Fails as `any_pointer::Reader::get_as` does.
     #[inline(always)]
     pub fn get_pointer_as<T: FromPointerInSegment<'a, S>>(&self, index: u16) -> Result<T>
         ensures { let pointer = pointer_in (struct_of S.segments self.now) index in
@@ -97,8 +97,8 @@ impl<'a, S: ReaderSegments> StructReader<'a, S> {
         T::get_from_segment(self.get_pointer(index), self.segment)
     }
 
-    /// The data section of this struct, as a struct with no pointers in the place of what a pointer
-    /// of another message points to.
+    /// The data section of this struct, as a struct without pointers, in place of what a pointer of
+    /// another message points to.
     pub fn data_at<R: ReaderSegments>(
         &self,
         pointer: &any_pointer::Reader<'a, R>,

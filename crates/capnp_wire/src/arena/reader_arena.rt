@@ -24,7 +24,7 @@ pub struct ReaderArena<S> {
 }
 
 impl<S: ReaderSegments> ReaderArena<S> {
-    /// An arena of which nothing has been read.
+    /// An arena with nothing read so far.
     pub fn new(segments: S, options: ReaderOptions) -> ReaderArena<S>
         ensures segments { result.segments ≡ segments }
         ensures nesting { result.nesting_limit ≡ options.nesting_limit }
@@ -73,8 +73,8 @@ impl<S: ReaderSegments> ReaderArena<S> {
     /// A message of more than one segment is not canonical, nor is one with a far pointer.
     ///
     /// Fails with `InvalidSegmentId(0)` without a segment, and else where the walk over the objects
-    /// stops before it meets what is not canonical: with the error of a view of one of them, or
-    /// with `ReadLimitExceeded` where they have more words than the traversal limit. The walk
+    /// stops before it meets one that is not canonical. The error is the error of a view of one of
+    /// them, or `ReadLimitExceeded` where they have more words than the traversal limit. The walk
     /// counts from 0, takes no memory, and does not change what views have counted.
     pub fn is_canonical(&self) -> Result<bool>
         ensures returned { let m = message_of (S.segments self.now.segments) in

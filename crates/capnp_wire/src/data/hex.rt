@@ -8,9 +8,9 @@ use std::fmt::{Display, Formatter, Write};
 
 /// Bytes that are printed as hexadecimal digits, two for each byte, in lower case.
 ///
-/// `data::Hex(bytes)` is an argument of `println!` or `format!`, as a number is: it takes no memory,
-/// and writes each digit as it comes. Nothing is written between them or before them, also where a
-/// width is asked for.
+/// `data::Hex(bytes)` is an argument of `println!` or `format!`, as a number is. It takes no
+/// memory, and writes each digit as it comes. Nothing is written between the digits or before
+/// them, even where a width is asked for.
 #[derive(Clone, Copy)]
 pub struct Hex<'a>(pub &'a [u8]);
 

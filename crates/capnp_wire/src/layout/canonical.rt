@@ -16,16 +16,16 @@ use capnp_layout::object::{Object, object_in};
 use capnp_layout::place::{Place, existing_word, pointer_at};
 use capnp_layout::pointer_slots::PointerSlots;
 
-/// A walk over the objects of a message of one segment, and the first word after those that were
-/// tested.
+/// A walk over the objects of a message of one segment, and the first word after the objects that
+/// were tested.
 #[derive(Drop)]
 pub(crate) struct CanonicalWalk {
     walk: Walk,
     next: usize,
 }
 
-/// What a pointer points to: null; an object that isn't canonical; or an object that is canonical by
-/// itself, with its pointers, which are still to be tested.
+/// What a pointer points to: null; an object that isn't canonical; or an object that is canonical
+/// by itself, with its pointers, which are still to be tested.
 #[derive(Drop)]
 pub(crate) enum Met {
     Null,
@@ -52,9 +52,9 @@ impl CanonicalWalk {
         self.next
     }
 
-    /// Whether the object that the pointer at a word points to, and all below it, are laid out as in
-    /// canonical form, from the next free word on. It goes in preorder, and stops at the first
-    /// object that isn't canonical, or at the first error.
+    /// Whether the object that the pointer at a word points to, and all below it, are laid out as
+    /// in canonical form, from the next free word on. The walk goes in preorder, and stops at the
+    /// first object that isn't canonical, or at the first error.
     #[inline(always)]
     #[cycle(testing)]
     pub(crate) fn test<S: ReaderSegments>(

@@ -1,4 +1,4 @@
-//! The pointers of an object beside those of its copy.
+//! The pointers of an object, each with its slot in the copy.
 ghost use Rattle.std.specs.Prelude.{◌≡◌, ◌≢◌, ◌↔◌, ◌+◌, ◌*◌, ◌/◌, ◌^◌, ◌<◌, ◌≤◌, [], length, IsTrue};
 ghost use Rattle.capnp_layout.specs.Prelude.{places, room_of, words_in, run, section_sizes, kept_in, kept_places, section_slots, slots_of, places_in, IsNarrower};
 ghost use Rattle.capnp_wire.specs.Copy.{ArePaired, TakesPair};

@@ -11,8 +11,8 @@ use capnp_layout::object::{Body, Object, words_fit};
 use capnp_layout::place::Place;
 
 /// Copies what the pointers of an object point to, one after the other, to the words after the
-/// object's own copy, which begins at the word `next`, and puts the pointers to these copies into
-/// that copy. Returns the first free word.
+/// object's own copy, which begins at the word `next`. Puts the pointers to these copies into the
+/// object's own copy. Returns the first free word.
 #[inline(always)]
 #[cycle(copy)]
 pub(crate) fn copy_pointers<S: ReaderSegments, T: BlockItem>(

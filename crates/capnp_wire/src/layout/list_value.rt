@@ -16,8 +16,8 @@ use capnp_layout::place::{Place, segment};
 use capnp_layout::pointer_slots::PointerSlots;
 use capnp_layout::pointer_word::{POINTER_LIST, list_word};
 
-/// The number of words of a list of pointers with all below it, without the pointer to it, as it is
-/// or in canonical form.
+/// The number of words of a list of pointers with all below it, without the pointer to it,
+/// untrimmed or in canonical form.
 pub(crate) fn measure<S: ReaderSegments>(
     segments: &S,
     first: Place,

@@ -1,4 +1,4 @@
-//! Copies in progress: the words of an object are in the block, but not yet what its pointers lead
+//! Copies in progress: the words of an object are in the block, but not yet what its pointers point
 //! to.
 ghost use Rattle.std.specs.Prelude.{◌≡◌, ◌+◌, ◌-◌, ◌^◌, ◌<◌, ◌≤◌, ◌/◌, Bool, ℕ, List, [], ◌∷◌, length, slice_get, Some, MatchOption};
 ghost use Rattle.capnp_layout.specs.Prelude.{words_of, message_of, IsObject, object_of, local_struct_of, pointers_of};
@@ -34,7 +34,7 @@ pub(crate) enum StructCopy {
 }
 
 /// The pointer to a copy, and what is left to copy: what this many consecutive pointers point to,
-/// whose slots are consecutive, too. It goes from the word `next` on.
+/// whose slots are consecutive, too. It is copied from the word `next` on.
 #[derive(Clone, Copy)]
 pub(crate) struct PendingPointers {
     pub pointer: u64,

@@ -29,7 +29,7 @@ pub(crate) struct StructRun<'a> {
     pub elements: Elements,
 }
 
-/// The number of words of a list of structs with all below it, without the pointer to it, as it is
+/// The number of words of a list of structs with all below it, without the pointer to it, untrimmed
 /// or in canonical form.
 pub(crate) fn measure<S: ReaderSegments>(
     segments: &S,

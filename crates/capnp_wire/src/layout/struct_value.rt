@@ -16,7 +16,7 @@ use capnp_layout::fast_path::LocalStruct;
 use capnp_layout::object::{Body, Object, words_fit};
 use capnp_layout::output_size::output_body;
 
-/// The number of words of a struct with all below it, without the pointer to it, as it is or in
+/// The number of words of a struct with all below it, without the pointer to it, untrimmed or in
 /// canonical form.
 pub(crate) fn measure<S: ReaderSegments>(
     segments: &S,

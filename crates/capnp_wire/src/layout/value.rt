@@ -18,7 +18,7 @@ use capnp_layout::number_list::NumberList;
 use capnp_layout::place::Place;
 use capnp_layout::pointer_word::{BYTE_LIST, list_word};
 
-/// The number of words of the tree at a place, without the pointer to it, as it is or in canonical
+/// The number of words of the tree at a place, without the pointer to it, untrimmed or in canonical
 /// form.
 #[inline(always)]
 pub(crate) fn measure<S: ReaderSegments>(

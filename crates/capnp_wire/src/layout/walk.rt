@@ -21,7 +21,7 @@ use capnp_layout::pointer_slots::PointerSlots;
 pub(crate) struct Walk {
     /// What is left of the traversal limit, in words; `None` without a limit.
     pub(crate) left: Option<usize>,
-    /// The words of the objects, as they are or as they are written, modulo 2^64.
+    /// The words of the objects, untrimmed or in canonical form, modulo 2^64.
     words: u64,
     /// Whether the words that were counted don't fit `words`.
     overflowed: bool,
@@ -40,7 +40,7 @@ impl Walk {
         }
     }
 
-    /// The number of words of all objects that it has entered, without landing pads, as they are or
+    /// The number of words of all objects that it has entered, without landing pads, untrimmed or
     /// in canonical form; `None` where it does not fit 64 bits.
     pub(crate) fn words(&self) -> Option<u64>
         ensures { result ≡ counted self.now }
@@ -89,8 +89,8 @@ impl Walk {
         Ok(())
     }
 
-    /// Adds words to those of the objects, and counts them against no limit: words of an object
-    /// that was counted before, as one that a view shows.
+    /// Adds words to the words of the objects, and counts them against no limit: they are words of
+    /// an object that was counted before, such as one that a view shows.
     #[inline(always)]
     pub(crate) fn count(&mut self, more: u64)
         ensures words { CountsMore (counted self.old) (counted self.new) more }
@@ -102,7 +102,7 @@ impl Walk {
     }
 
     /// Enters the object that the pointer at a place points to, where it may be entered at this
-    /// nesting depth, and all below it, in preorder. It stops at the first error.
+    /// nesting depth, and all below it, in preorder. The walk stops at the first error.
     #[inline(always)]
     pub(crate) fn walk<S: ReaderSegments>(
         &mut self,
@@ -230,8 +230,8 @@ impl Walk {
     }
 
     // Takes these pointers one by one, and walks over what each points to, until one points to a
-    // struct with pointers that aren't null: that struct is entered, and its pointers are returned,
-    // to be walked over next. `None` once no pointer is left.
+    // struct with pointers that aren't null. Enters that struct, and returns its pointers, to be
+    // walked over next. `None` once no pointer is left.
     #[inline(always)]
     #[cycle(walk)]
     fn next_parent<'a, S: ReaderSegments>(

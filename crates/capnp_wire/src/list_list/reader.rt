@@ -9,7 +9,7 @@ use capnp_frame::Result;
 use capnp_frame::message::ReaderSegments;
 use std::marker::PhantomData;
 
-/// A list of pointers in a message, each of which is read as a view of one type.
+/// A list of pointers in a message, each read as a view of one type.
 #[derive(Drop)]
 pub struct Reader<'a, S, T> {
     pub(crate) pointers: any_pointer_list::Reader<'a, S>,
@@ -28,10 +28,10 @@ impl<'a, S: ReaderSegments, T: FromPointerReader<'a, S>> Reader<'a, S, T> {
         self.pointers.len()
     }
 
-    /// The view of the element at this index, which must be below `len`; `try_get` takes any. It is
-    /// counted against the traversal limit each time.
+    /// The view of the element at this index, which must be below `len`; `try_get` takes any. The
+    /// element is counted against the traversal limit each time.
     ///
-    /// Fails as `any_pointer::Reader::get_as` does of the element's pointer.
+    /// Fails as `any_pointer::Reader::get_as` does for the element's pointer.
     #[inline(always)]
     pub fn get(&self, index: u32) -> Result<T>
         requires { index < length (pointer_list_of S.segments self.now.pointers).children }

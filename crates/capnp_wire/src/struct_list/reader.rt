@@ -91,7 +91,7 @@ impl<'a, S: ReaderSegments> Reader<'a, S> {
         ListIter::new(self)
     }
 
-    /// The list that null is, which has no elements.
+    /// The list that null is read as, which has no elements.
     pub(crate) fn empty(reader: &any_pointer::Reader<'a, S>) -> Reader<'a, S>
         ensures { struct_list_of S.segments result ≡ no_structs (pointer_of S.segments reader.now) }
     {

@@ -7,7 +7,7 @@ use crate::text::Reader;
 use std::fmt;
 use std::fmt::{Display, Formatter, Write};
 
-// The text, with U+FFFD for each sequence of bytes that is no UTF-8, as `String::from_utf8_lossy`
+// The text, with U+FFFD for each sequence of bytes that isn't UTF-8, as `String::from_utf8_lossy`
 // makes it. Text that is UTF-8 takes a width as a `str` does.
 impl<'a> Display for Reader<'a> {
     ghost output = { λ text. Some (utf8_lossy text.bytes.now) };
@@ -20,7 +20,7 @@ impl<'a> Display for Reader<'a> {
     }
 }
 
-// Writes bytes as text, with U+FFFD for each sequence of them that is none.
+// Writes bytes as text, with U+FFFD for each sequence of them that isn't UTF-8.
 fn write_replaced<W: Write>(bytes: &[u8], f: &mut Formatter<W>) -> fmt::Result
     ensures { WritesOnOk W.write_str_gives f.old result (utf8_lossy bytes.now) f.new }
 {

@@ -37,7 +37,7 @@ impl<'a> Reader<'a> {
         self.bytes.len()
     }
 
-    /// Whether there is no byte.
+    /// Whether there are no bytes.
     pub fn is_empty(&self) -> bool
         ensures { IsTrue result ↔ (self.now.bytes.now ≡ []) }
     {
@@ -46,8 +46,8 @@ impl<'a> Reader<'a> {
 
     /// The text as a `str`.
     ///
-    /// Fails where the bytes aren't UTF-8, with how many of them are at the front: writers should
-    /// write only UTF-8 ("Blobs"), but no reader tests it unasked.
+    /// Fails where the bytes aren't UTF-8; the error says how many bytes at the front are. Writers
+    /// should write only UTF-8 ("Blobs"), but no reader tests that unasked.
     pub fn to_str(&self) -> std::result::Result<&'a str, Utf8Error>
         ensures { MatchResult result
             (λ text. (text.now ≡ self.now.bytes.now) × IsUtf8 self.now.bytes.now)

@@ -14,8 +14,8 @@ use std::marker::PhantomData;
 /// An enum of a schema, whose values a message holds by their numbers: a variant for each number
 /// that the schema names, in their order, and a last one that keeps any other number.
 ///
-/// Contracts tell its values apart by what its derived `Hash` feeds, which no two of them share: the
-/// index of the variant, and the number that the last one keeps.
+/// Contracts tell its values apart by what its derived `Hash` feeds, which no two of them share:
+/// the index of the variant, and the number that the last one keeps.
 pub trait EnumElement: Hash + Sized {
     /// How many numbers the schema names.
     ghost named: { ℕ };
@@ -52,7 +52,7 @@ impl<'a, E: EnumElement> EnumList<'a, E> {
         self.numbers.len()
     }
 
-    /// The element of this index, which must be below `len`; `try_get` takes any.
+    /// The element at this index, which must be below `len`; `try_get` takes any.
     pub fn get(&self, index: u32) -> E
         requires { index < length (upgraded_numbers_of 3 self.now.numbers) }
         ensures { E.hash_input result ≡ hash_of_number E.named
@@ -61,7 +61,7 @@ impl<'a, E: EnumElement> EnumList<'a, E> {
         E::from_number(self.numbers.get(index))
     }
 
-    /// The element of this index, or `None` where there are no more elements than it.
+    /// The element at this index, or `None` where the list ends before it.
     pub fn try_get(&self, index: u32) -> Option<E>
         ensures { FindsElement (length (upgraded_numbers_of 3 self.now.numbers)) index
             (λ item. E.hash_input item ≡ hash_of_number E.named
@@ -78,7 +78,7 @@ impl<'a, E: EnumElement> EnumList<'a, E> {
     }
 }
 
-// What is seen of an element is which value it is.
+// A contract sees of an element which value it is.
 impl<'a, E: EnumElement> IndexMove for EnumList<'a, E> {
     ghost use Rattle.std.specs.Hash.{HashWrites};
     ghost use Rattle.capnp_wire.specs.UpgradedReaders.{upgraded_numbers_of};
@@ -103,7 +103,8 @@ impl<'a, E: EnumElement> IndexMove for EnumList<'a, E> {
     }
 }
 
-// Null is empty; else it shows what a list of numbers of 16 bits does, each as a value of the enum.
+// Null is an empty list; anything else is read as a list of 16-bit numbers, each as a value of the
+// enum.
 impl<'a: 'v, 'v, S: ReaderSegments, E> FromPointerReader<'a, S> for EnumList<'v, E> {
     ghost use Rattle.capnp_wire.specs.Readers.{pointer_of};
     ghost use Rattle.capnp_wire.specs.Views.{IsViewOf, Accepts, Reads, ViewError, FormError};

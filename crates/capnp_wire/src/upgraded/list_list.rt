@@ -31,10 +31,10 @@ impl<'a, S: ReaderSegments, T: FromPointerReader<'a, S>> ListList<'a, S, T> {
         self.pointers.len()
     }
 
-    /// The view of the element at this index, which must be below `len`; `try_get` takes any. It is
-    /// counted against the traversal limit each time.
+    /// The view of the element at this index, which must be below `len`; `try_get` takes any. The
+    /// element is counted against the traversal limit each time.
     ///
-    /// Fails as `any_pointer::Reader::get_as` does of the element's pointer.
+    /// Fails as `any_pointer::Reader::get_as` does for the element's pointer.
     pub fn get(&self, index: u32) -> Result<T>
         requires { index < length (upgraded_pointers_of S.segments self.now.pointers).children }
         ensures { let pointer = pointer_at (upgraded_pointers_of S.segments self.now.pointers) index in

@@ -47,7 +47,7 @@ pub(crate) struct FirstFields<'a, T: PrimitiveElement> {
 impl<'a, T: PrimitiveElement> FirstFields<'a, T> {
     ghost use Rattle.capnp_wire.specs.UpgradedReaders.{fields_of};
 
-    // The field of the struct of this index.
+    // The first field of the struct at this index.
     fn get(&self, index: u32) -> T
         requires { index < length (fields_of T.code self.now) }
         ensures { result ≡ T.value_of (slice_index (fields_of T.code self.now) index) }

@@ -12,7 +12,7 @@ use capnp_layout::object::words_fit;
 use capnp_layout::place::Place;
 use capnp_layout::pointer::StructSize;
 
-/// Numbers, each of which is a struct of one data word.
+/// Numbers, each read as a struct of one data word.
 #[derive(Drop)]
 pub(crate) struct NumberStructs<'a, S: ReaderSegments> {
     pub segments: &'a S,

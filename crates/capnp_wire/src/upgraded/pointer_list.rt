@@ -85,7 +85,7 @@ impl<'a, S: ReaderSegments> PointerList<'a, S> {
         ListIter::new(self)
     }
 
-    /// The list as one of consecutive pointers; `None` where others lie between them.
+    /// The list as a list of consecutive pointers; `None` where other words are between them.
     pub(crate) fn consecutive(&self) -> Option<any_pointer_list::Reader<'a, S>>
         ensures { MatchOption result (IsConsecutive self.now → ⊥) (λ list. IsConsecutive self.now
             × (pointer_list_of S.segments list ≡ upgraded_pointers_of S.segments self.now)) }

@@ -18,7 +18,7 @@ use capnp_layout::element_size::ElementSize;
 use capnp_layout::object::{Body, Object};
 use capnp_layout::pointer::{Elements, StructSize};
 
-/// A list of structs, of numbers or of pointers in a message, read as a list of structs: a number
+/// A list of structs, of numbers or of pointers in a message, read as a list of structs. A number
 /// is in the low bits of its struct's one data word, and a pointer is its struct's one pointer.
 #[derive(Drop)]
 pub struct StructList<'a, S: ReaderSegments> {

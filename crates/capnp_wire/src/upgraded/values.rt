@@ -1,9 +1,9 @@
 //! Lists that were read, as values: each is the list that is there, with all below it, within the
 //! nesting depth left and the traversal limit.
 //!
-//! A view of numbers, or of pointers, whose elements another writer wrote as larger structs knows no
-//! more than their first fields, so the rest would be lost silently. It is no value, and fails with
-//! `WrongPointerKind`. The pointer to the list, an `any_pointer::Reader`, is a value in any case.
+//! Where another writer wrote numbers or pointers as larger structs, a view of them knows no more
+//! than their first fields, so the rest would be lost silently. Such a view is no value, and fails
+//! with `WrongPointerKind`. The pointer to the list, an `any_pointer::Reader`, is always a value.
 use crate::layout::copy::Copied;
 use crate::layout::value;
 use crate::object_content::wrong_kind;
@@ -70,8 +70,8 @@ impl<'a, E> SetterInput<primitive_list::Owned<u16>> for EnumList<'a, E> {
     }
 }
 
-// The value is the list of the structs. Numbers that are read as structs stay a list of numbers, and
-// pointers that are become structs of one pointer each.
+// The value is the list of the structs. Numbers that are read as structs stay a list of numbers,
+// and pointers that are read as structs become structs of one pointer each.
 impl<'a, S: ReaderSegments> SetterInput<struct_list::Owned> for StructList<'a, S> {
     ghost use Rattle.capnp_wire.specs.UpgradedValues.{IsStructListValue, StructListValueError, one_struct_list};
 

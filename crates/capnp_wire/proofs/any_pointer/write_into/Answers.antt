@@ -1,4 +1,4 @@
--- A tree is written as it is copied; null is no words.
+-- A tree is written as a copy is; null has no words.
 use Rattle.capnp_wire.specs.Prelude.{pointer_of}
 use Rattle.capnp_wire.proofs.layouts.FreeBlockLemmas.{null_copied}
 use Rattle.capnp_wire.proofs.views.PartWordLemmas.{null_there_tree}

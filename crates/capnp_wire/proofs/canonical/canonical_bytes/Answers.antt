@@ -1,4 +1,4 @@
--- The bytes are those of the canonical form, and no more.
+-- The bytes are the canonical form, and no more.
 use Rattle.std.proofs.lemmas.Result.{err_from_is_err_and}
 use Rattle.capnp_wire.proofs.canonical.canonical_bytes.Goals as goal
 

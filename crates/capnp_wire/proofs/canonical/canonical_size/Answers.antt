@@ -1,4 +1,4 @@
--- The size is that of the body and of the pointer before it.
+-- The size counts the body and the pointer before it.
 use Rattle.std.proofs.Common.{◌≡◌, ℕ, ◌+◌, Ok, ap}
 use Rattle.capnp_wire.proofs.canonical.canonical_size.Goals as goal
 

@@ -1,4 +1,4 @@
--- The words are those of the canonical form, and no more.
+-- The words are the canonical form, and no more.
 use Rattle.std.proofs.lemmas.Result.{err_from_is_err_and}
 use Rattle.capnp_wire.proofs.canonical.canonical_words.Goals as goal
 

@@ -1,4 +1,4 @@
--- The elements of a list are those of its own words.
+-- The elements of a list are in its own words.
 use Rattle.std.proofs.Common.{◌≡◌, ◌+◌, ◌-◌, ◌*◌, ℕ, take, drop, ap, ◌∙◌, arith, length-take, length-drop}
 use Rattle.capnp_layout.specs.Prelude.{words_of, code_of, width, words_for, elements}
 use Rattle.capnp_layout.proofs.objects.NumberElementLemmas.{elements_within}

@@ -1,4 +1,4 @@
--- The words of what a pointer points to are those of its tree, as it is or in canonical form.
+-- What a pointer points to has the words of its tree, untrimmed or in canonical form.
 use Rattle.std.proofs.Common.{ℕ, Result, Ok}
 use Rattle.capnp_frame.specs.declared.error.Error.{Error}
 use Rattle.capnp_wire.specs.Prelude.{pointer_of, PointsToTree, WalkErrorFrom}

@@ -1,4 +1,4 @@
--- The words of a list of pointers that is read, with all below it, are those of its tree.
+-- A list of pointers that is read has, with all below it, the words of its tree.
 use Rattle.capnp_layout.specs.Prelude.{pointers}
 use Rattle.capnp_wire.specs.Prelude.{pointer_list_of, IsListTree, WalkErrorInList}
 use Rattle.capnp_wire.proofs.views.OneValueLemmas.{measured_found, measured_exactly}

@@ -1,4 +1,4 @@
--- The words of a struct that is read, with all below it, are those of its tree.
+-- A struct that is read has, with all below it, the words of its tree.
 use Rattle.std.proofs.Common.{◌≢◌, ◌^◌, ◌<◌, MatchResult, None, sym, ◌∙◌, subst, refl, arith}
 use Rattle.capnp_layout.specs.Prelude.{words_of, message_of}
 use Rattle.capnp_wire.specs.Prelude.{struct_of, limit_of, Struct, HasWords, WordsError, IsTreeOf, WalkErrorInside}

@@ -1,4 +1,4 @@
--- The bytes are those of a list of bytes.
+-- The bytes are the elements of a list of bytes.
 use Rattle.std.proofs.Common.{refl, sym, subst}
 use Rattle.std.proofs.lemmas.Result.{err_from_is_err_and}
 use Rattle.capnp_wire.specs.Prelude.{IsData}

@@ -1,4 +1,4 @@
--- A struct's own words are put into a block, and where its pointers are null these, too.
+-- A struct's own words are put into a block, and so are its pointers where all are null.
 use Rattle.std.proofs.Common.{arith}
 use Rattle.capnp_wire.proofs.layouts.CopiedTargetLemmas.{opened_here, struct_begins}
 use Rattle.capnp_wire.proofs.pointers.NullRunLemmas.{struct_of_nulls}

@@ -1,4 +1,5 @@
--- A list of structs is written as it is copied: its tag and the data of its elements, then what their pointers point to.
+-- A list of structs is written as a copy is: its tag and the data of its elements, then what their pointers
+-- point to.
 use Rattle.std.proofs.Common.{◌≡◌, ◌-◌, ◌+◌, ◌*◌, ◌≤◌, [], ◌∷◌, ℕ, refl, sym, ap, ◌∙◌, subst, length, arith}
 use Rattle.capnp_layout.specs.Prelude.{words_of, Trees, message_of, pointer_places, output, list_pointer, put, kept_places}
 use Rattle.capnp_wire.specs.Prelude.{CanCopy, IsCopied, structs_along}

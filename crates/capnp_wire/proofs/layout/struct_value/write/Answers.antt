@@ -1,4 +1,4 @@
--- A struct is written as it is copied: its own words, then what its pointers point to.
+-- A struct is written as a copy is: its own words, then what its pointers point to.
 use Rattle.std.proofs.Common.{◌-◌, refl, subst, length, arith}
 use Rattle.capnp_layout.specs.Prelude.{words_of, Trees, message_of, output}
 use Rattle.capnp_wire.specs.Prelude.{IsCopied}

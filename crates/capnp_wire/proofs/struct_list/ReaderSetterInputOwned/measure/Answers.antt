@@ -1,4 +1,4 @@
--- The words of a list of structs that is read, with all below it, are those of its tree.
+-- A list of structs that is read has, with all below it, the words of its tree.
 use Rattle.capnp_wire.specs.Prelude.{struct_list_of, IsListTree, WalkErrorInList, pointers_in, structs_form}
 use Rattle.capnp_wire.proofs.views.OneValueLemmas.{measured_found, measured_exactly}
 use Rattle.capnp_wire.proofs.views.ListValueLemmas.{one_of_list}

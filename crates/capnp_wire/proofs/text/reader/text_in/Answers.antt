@@ -1,4 +1,4 @@
--- The text is that of a list of bytes, before its last zero.
+-- The text is the elements of a list of bytes, before its last zero.
 use Rattle.std.proofs.Common.{inl}
 use Rattle.std.proofs.lemmas.Result.{err_from_is_err_and}
 use Rattle.capnp_wire.proofs.views.ShownFormLemmas.{ends_with_zero, no_zero_at_end}

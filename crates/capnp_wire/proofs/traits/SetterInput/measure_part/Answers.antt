@@ -1,4 +1,4 @@
--- A part is measured as it is, and, where the canonical form is written, in that form, too.
+-- A part is measured untrimmed, and, where the canonical form is written, in that form, too.
 use Rattle.std.proofs.Common.{Ok, ap}
 use Rattle.capnp_wire.specs.declared.traits.TreeWords.{TreeWords}
 use Rattle.capnp_wire.proofs.views.PartWordLemmas.{untrimmed_words, untrimmed_found, both_returned, both_found}

@@ -1,4 +1,4 @@
--- The words that a walk from the pointer counts are those of its tree.
+-- A walk from the pointer counts the words of its tree.
 use Rattle.std.proofs.Common.{Some, None, refl, sym, ◌∙◌}
 use Rattle.std.proofs.lemmas.Result.{err_from_is_err_and}
 use Rattle.capnp_wire.specs.Prelude.{pointer_of}

@@ -1,4 +1,4 @@
--- The pointers of a list are those of the object, with one less of nesting depth left.
+-- The pointers of a list are the object's, with one less of nesting depth left.
 use Rattle.std.proofs.Common.{inr, refl}
 use Rattle.capnp_wire.specs.Prelude.{pointer_of, PointersFormError}
 use Rattle.capnp_wire.proofs.views.ShownFormLemmas.{entered_shows}

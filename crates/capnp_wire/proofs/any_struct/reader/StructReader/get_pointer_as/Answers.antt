@@ -1,4 +1,4 @@
--- The segment of a struct is that of its pointers.
+-- The pointers of a struct are in the segment of the struct.
 use Rattle.std.proofs.Common.{◌+◌, refl, sym, subst}
 use Rattle.capnp_layout.specs.Prelude.{words_of, message_of}
 use Rattle.capnp_wire.specs.Prelude.{Pointer, HasSegment}

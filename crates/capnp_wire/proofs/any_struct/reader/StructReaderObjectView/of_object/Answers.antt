@@ -1,4 +1,4 @@
--- The fields of a struct are those of the object, with one less of nesting depth left.
+-- The fields of a struct are the object's, with one less of nesting depth left.
 use Rattle.std.proofs.Common.{inr, refl}
 use Rattle.capnp_wire.specs.Prelude.{StructFormError, pointer_of}
 use Rattle.capnp_wire.proofs.views.ShownFormLemmas.{entered_shows, other_than_struct, struct_shows}

@@ -1,4 +1,4 @@
--- The sum over the first segments grows to that over all of them.
+-- The sum over the first segments grows to the sum over all of them.
 use Rattle.std.proofs.Common.{◌≡◌, ◌<◌, [], length, Some, slice_get, sym, arith}
 use Rattle.std.proofs.lemmas.Option.{slice_get-get_or}
 use Rattle.capnp_layout.proofs.objects.StructFieldLemmas.{size_next}

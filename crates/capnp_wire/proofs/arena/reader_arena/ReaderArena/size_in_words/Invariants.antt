@@ -1,4 +1,4 @@
--- So far the sum is that of the segments gone over.
+-- The sum counts the segments gone over so far.
 use Rattle.std.proofs.Common.{◌≡◌, ◌-◌, ◌^◌, min, take}
 use Rattle.capnp_frame.specs.Prelude.{size_in_words}
 use Rattle.capnp_wire.proofs.arena.reader_arena.ReaderArena.size_in_words.Given as goal

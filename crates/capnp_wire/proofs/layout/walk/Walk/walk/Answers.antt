@@ -1,4 +1,4 @@
--- The first pointer is null, or points to a list of pointers, and these are walked, or to anything else.
+-- The first pointer is null, or points to a list of pointers, which are walked over, or to anything else.
 use Rattle.std.proofs.Common.{refl, arith}
 use Rattle.capnp_layout.specs.Prelude.{at_pointer, no_word, no_segment}
 use Rattle.capnp_wire.specs.Prelude.{counted}

@@ -1,4 +1,4 @@
--- The numbers are those of a list of numbers of this size.
+-- The numbers are the elements of a list of numbers of this size.
 use Rattle.std.proofs.Common.{◌≡◌, ℕ, refl, sym, subst}
 use Rattle.std.proofs.lemmas.Result.{err_from_is_err_and}
 use Rattle.capnp_layout.specs.Prelude.{words_of, numbers, elements}

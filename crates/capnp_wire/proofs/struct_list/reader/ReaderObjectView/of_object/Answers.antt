@@ -1,4 +1,4 @@
--- The elements of a list are those of the object, with one less of nesting depth left.
+-- The elements of a list are the object's, with one less of nesting depth left.
 use Rattle.std.proofs.Common.{inr, sym, subst}
 use Rattle.capnp_wire.specs.Prelude.{pointer_of, StructsFormError, IsStructList}
 use Rattle.capnp_wire.proofs.views.ShownFormLemmas.{entered_shows}

@@ -1,4 +1,4 @@
--- Text that is UTF-8 is its own.
+-- Text that is UTF-8 is printed unchanged.
 use Rattle.std.proofs.lemmas.Str.{utf8_lossy-IsUtf8}
 use Rattle.capnp_wire.proofs.text.display.ReaderDisplay.fmt.Goals as goal
 

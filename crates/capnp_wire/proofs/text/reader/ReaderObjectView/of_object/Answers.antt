@@ -1,4 +1,4 @@
--- The text of a list of bytes is that of the pointer.
+-- The view of a list of bytes shows the text that the pointer points to.
 use Rattle.capnp_wire.specs.Prelude.{IsText, TextFormError, pointer_of}
 use Rattle.capnp_wire.proofs.views.ShownFormLemmas.{entered_view}
 use Rattle.capnp_wire.proofs.text.reader.ReaderObjectView.of_object.Goals as goal

@@ -1,4 +1,4 @@
--- A list of structs has as many first fields.
+-- A list of structs has as many first fields as structs.
 use Rattle.std.proofs.lemmas.List.{length-map}
 use Rattle.std.proofs.Common.{◌%◌, ◌^◌, ℕ, List, length, slice_index_or, sym, ap, ◌∙◌}
 use Rattle.capnp_layout.specs.Prelude.{words_of, width, elements_from}

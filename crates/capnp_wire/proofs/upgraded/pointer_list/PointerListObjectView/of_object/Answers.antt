@@ -1,4 +1,4 @@
--- The pointers are those of the object, or the first ones of its structs.
+-- The pointers are the object's, or the first pointers of its structs.
 use Rattle.std.proofs.Common.{◌≡◌, ◌<◌, ◌≤◌, ◌+◌, ◌*◌, ℕ, refl, sym, ◌∙◌, ap, arith}
 use Rattle.std.proofs.Math.Nat.{mul-le-mul_left}
 use Rattle.capnp_wire.specs.Prelude.{pointer_of}

@@ -1,4 +1,4 @@
--- A list of numbers has as many structs.
+-- A list of numbers has as many structs as numbers.
 use Rattle.std.proofs.lemmas.List.{length-map}
 use Rattle.std.proofs.Common.{◌^◌, length, sym, ap, ◌∙◌}
 use Rattle.capnp_layout.specs.Prelude.{number_of, words_of, words_from, code_of, width, words_for, elements}

@@ -1,4 +1,4 @@
--- The elements are those of the object, by its kind.
+-- The elements are the object's, by its kind.
 use Rattle.std.proofs.Common.{arith}
 use Rattle.capnp_wire.specs.Prelude.{pointer_of}
 use Rattle.capnp_wire.proofs.views.UpgradedStructLemmas.{structs_upgraded, pointers_upgraded, struct_form_error}

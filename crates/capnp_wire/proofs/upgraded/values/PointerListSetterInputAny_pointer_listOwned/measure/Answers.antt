@@ -1,4 +1,4 @@
--- The words of a list that is read as a list of pointers are those of its tree.
+-- A list that is read as a list of pointers has the words of its tree.
 use Rattle.std.proofs.Common.{rules}
 use Rattle.capnp_wire.specs.Prelude.{IsPointerListValue, PointerListValueError}
 use Rattle.capnp_wire.proofs.views.OneValueLemmas.{measured_found, measured_exactly}

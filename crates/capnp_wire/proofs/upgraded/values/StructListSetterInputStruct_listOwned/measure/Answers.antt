@@ -1,4 +1,4 @@
--- The words of a list that is read as a list of structs are those of its tree.
+-- A list that is read as a list of structs has the words of its tree.
 use Rattle.capnp_layout.specs.Prelude.{words_of}
 use Rattle.capnp_wire.specs.Prelude.{IsElementsValue, ElementsValueError}
 use Rattle.capnp_wire.proofs.views.OneValueLemmas.{measured_found, measured_exactly}
