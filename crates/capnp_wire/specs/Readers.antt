@@ -63,6 +63,6 @@ pub record IsEntered (pointer : Pointer) (object : ReadObject) : Type 0 where
   pub nesting : 0 < pointer.nesting
   pub within : Within pointer.limit object.traversed
 
--- its form
+-- the form of an object that was read
 abbrev pub form_of : ReadObject → Form
 form_of object = (shape_of (words_of object.segment.now) object.start object.body).form

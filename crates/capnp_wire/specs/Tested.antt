@@ -59,7 +59,7 @@ NeedData d elements = (d ≡ 0) ⊎ ((i : ℕ) × (element : List ℕ) × (slice
 abbrev pub NeedPointers : ℕ → ℕ → List ℕ → Type 0
 NeedPointers p n links = (p ≡ 0) ⊎ ((i : ℕ) × (i < n) × (slice_index_or links (i * p + p - 1) 0 ≢ 0))
 
--- the sizes have no trailing zero words, where these are the object's pointer words
+-- an object with these pointer words has no trailing zero words, neither of data nor of pointers
 abbrev pub IsTruncated : Form → List ℕ → Type 0
 IsTruncated (struct words) links = EndsFull words × EndsFull links
 IsTruncated (structs d p elements) links = NeedData d elements × NeedPointers p (length elements) links
