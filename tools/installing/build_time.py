@@ -1,6 +1,6 @@
 """Says how long it takes to prove and build crates, and those that they stand on: build_time.py TOOL ROOT CRATE..
 
-The seconds of processor time of each crate's proof are those of the table in docs/PERF.md, "The gate". What a
+The seconds of processor time of each crate's proof are those of bench/gate.txt, which tools/time-gate writes. What a
 crate below has in its folder `out` already is left out.
 """
 import os
@@ -21,9 +21,8 @@ tool, root, *names = sys.argv[1:]
 with open(os.path.join(root, "crates.txt")) as file:
     lines = [line.split(":") for line in file if ":" in line and not line.startswith("#")]
 stands_on = {left.split()[0]: right.split() for left, right in lines}
-with open(os.path.join(root, "docs/PERF.md")) as file:
-    gate = file.read().partition("\n## The gate\n")[2].partition("\n## ")[0]
-seconds = dict(re.findall(r"^\| `(\w+)` \| (\d+) \|", gate, re.MULTILINE))
+with open(os.path.join(root, "bench/gate.txt")) as file:
+    seconds = dict(re.findall(r"^(\w+) +(\d+) +\d+ +\d+ +\d+$", file.read(), re.MULTILINE))
 wanted = set().union(*(below(name, stands_on, set()) for name in names))
 wanted = {name for name in wanted
           if name in names or not os.path.exists(os.path.join(root, "crates", name, "out/rlib", name + ".rlib"))}
