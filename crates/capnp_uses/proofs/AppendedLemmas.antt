@@ -16,7 +16,7 @@ use Rattle.capnp.proofs.RunLemmas.{format_lawful, format_requested, format_parts
 use Rattle.capnp.proofs.SourceEncodingLemmas.{nothing_found}
 use Rattle.capnp.proofs.MessageSequenceLemmas.{appended_encodings}
 
--- encodings of as many messages are those of the same messages
+-- as many encodings at the front of the same bytes are of the same messages, and leave the same rest
 encodings_same : {IsEncoding : Grammar} {rule : Padding} {gives : Giving} {refuses : Refusing} {limit : Option ℕ}
     → PartsStreams IsEncoding rule gives refuses limit
     → (ns ms : List (List (List ℕ))) (raw left rest : List ℕ) → AreEncodings IsEncoding limit ns raw left
@@ -33,7 +33,7 @@ encodings_same {IsEncoding} {limit = limit} parts (n ∷ ns) (m ∷ ms) raw left
 pub appended_alone : (P : List ℕ → Type 0) (start new : List ℕ) → start ≡ [] → Adds P start new → P new
 appended_alone P start new none (encoding, holds, e) = subst P (sym (e ∙ ap (λ l. l ++ encoding) none)) holds
 
--- what was appended to nothing is encodings
+-- what was appended to nothing is the encodings of these messages
 pub read_encodings : (rule : Padding) (format : Format) (limit : Option ℕ) (ms : List (List (List ℕ))) (start new shown : List ℕ)
     → start ≡ [] → shown ≡ new → AllByRecursion IsWritable ms → AllByRecursion IsWithinSegmentLimit ms
     → AllByRecursion (λ m. KeepsLimit (lengths m) limit) ms → Adds (AppendsEach (IsEncodingOf format) ms) start new
@@ -60,7 +60,7 @@ no_message_left rule format limit segments None source old new none reads = refl
 no_message_left rule format limit segments (Some x) source old new none reads = absurd (nothing_found rule (format_lawful format) (segments x) (source.unread old) (source.unread new) none
     (IfKnown-weaker (source.unread old) (source.unread new) (λ raw rest. (format_requested rule format (segments x) raw rest).1) reads.found))
 
--- what is appended to a vector fails for too many segments, or for want of memory
+-- appending to a vector fails for too many segments, or when out of memory
 pub appending_memory : (format : Format) (ms : List (List (List ℕ))) (kind : ErrorKind) → AllByRecursion IsWritable ms → (kind ≡ DeviceFailed → Fails 0 0)
     → OneOfError (ErrorsAs format (ByKind OutOfMemory)) ms kind → SegmentCountErrorIn ms kind ⊎ (kind ≡ OutOfMemory)
 appending_memory format [] kind writable failed errors = absurd errors

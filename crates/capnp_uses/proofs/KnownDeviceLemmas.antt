@@ -176,7 +176,7 @@ device_fails_after format limit messages error before (Some bytes) (Some rest) n
       | inr (inr ends) ↦ inr (before, record { rest = rest; encodings = encodings; ends = ends })
     ])
 
--- A message that was read is not listed for want of memory.
+-- A message was read, and the list has no memory for it.
 pub fails_to_list : {X : Type 0} (format : Format) (limit : Option ℕ) (messages : X → List (List (List ℕ))) (error : Error) (before : List (List (List ℕ))) (message : List (List ℕ))
     (known unread new : Option (List ℕ)) → IfKnown known unread (AreEncodings (grammar_of Zero format) limit before)
     → IfKnown unread new (FoundNext Zero format limit message) → ExternalError error.kind → IfSome known (ReadsAll format limit messages (Err error))
@@ -187,7 +187,7 @@ fails_to_list format limit messages error before message (Some bytes) (Some rest
     all_fail format limit messages error bytes
     (λ none. absurd (never format limit message rest left (nothing_listed format limit before bytes rest encodings none).1 is_found)) (inl external)
 
--- Nor is the message past a full list.
+-- The list is full, so a message past it isn't listed.
 pub fails_past_full : {X : Type 0} (format : Format) (limit : Option ℕ) (messages : X → List (List (List ℕ))) (error : Error) (before : List (List (List ℕ)))
     (known unread : Option (List ℕ)) → IfKnown known unread (AreEncodings (grammar_of Zero format) limit before) → 0 < length before
     → ExternalError error.kind → IfSome known (ReadsAll format limit messages (Err error))

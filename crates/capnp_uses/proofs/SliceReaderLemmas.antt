@@ -45,7 +45,7 @@ pub succeeds_at_none : {X : Type 0} (segments : X → List (List ℕ)) (bytes : 
 succeeds_at_none segments bytes (Ok found) end failed empty = refl
 succeeds_at_none segments bytes (Err e) end failed empty = absurd (never_fails e.kind failed (end (ap Some empty)))
 
--- and else lacks memory where it takes some, or fails by a line
+-- else it is out of memory where it takes some, or fails by a line of the table of errors
 pub next_error : {X : Type 0} (segments : X → List (List ℕ)) (format : Format) (limit : Option ℕ) (bytes left : List ℕ) (r : Result (Option X) Error)
     → IfErr (next_in segments r) (λ e. e.kind ≡ DeviceFailed → Fails 0 0)
     → IfErr (next_in segments r) (λ e. (e.kind ≡ DeviceFailed) ⊎ ((e.kind ≡ OutOfMemory) × TakesMemory Zero (gives_of format) limit bytes left)

@@ -76,7 +76,7 @@ reads_too_many rule format limit source old new m e shown is_found unread over r
     few_segments : AreWithin (lengths m) None → length m < 512
     few_segments within = let few = within.few in omega (arith, few, length-map m word_count)
 
--- so of what is written and read nothing else comes than the limit and want of memory
+-- so writing and reading fail only past the limit of words, or when out of memory
 again_error : {S : Type 0} (rule : Padding) (format : Format) (limit : Option ℕ) (source : Ghosts S) (old new : S) (m : List (List ℕ)) (e : Error) (shown : List ℕ)
     → IsEncodingOf format m shown → IsWritable m → IsWithinSegmentLimit m → source.unread old ≡ Some shown → source.failures old ≡ 0 → source.failures new ≡ 0
     → (FoundNext rule format limit m shown [] → ExternalError e.kind)
@@ -117,7 +117,7 @@ written_and_read rule format options source old new m (Err e) shown here writabl
           (or_fails_reads source old new (by_format rule format) options e reads);
     }
 
--- the root of what is read is that of what was built
+-- the root that is read is the root that was built
 pub tree_again : {X : Type 0} (has_tree : Trees → Type 0) (segments : X → List (List ℕ)) (r : Result X Error) (m : List (List ℕ)) → HasRootOf has_tree m
     → IfOk r (λ x. segments x ≡ m) → IfOk r (λ x. HasRootOf has_tree (segments x))
 tree_again has_tree segments (Err e) m is_found back = tt

@@ -32,13 +32,13 @@ IsFullFor words segment = (2 ^ 29 ≤ length segment.bytes / 8 + words) ⊎ IsPa
 abbrev pub new_segment : Segment
 new_segment = record { bytes = replicate 8 0; most = None; capacity = 0 }
 
--- No list of these accounts is added: memory is lacking, a name is too long for a text, or with the
--- words of the list the segment would have 2 ^ 29, or a region more than it has room for.
+-- No list of these accounts is added: the call is out of memory, or a name is too long for a text. Or with
+-- the words of the list the segment would have 2 ^ 29, or a region more than it has room for.
 abbrev pub AccountsError : List NewAccount → Segment → ErrorKind → Type 0
 AccountsError accounts segment kind = (kind ≡ OutOfMemory)
     ⊎ Any (λ account. LongText account.name.now kind) accounts
     ⊎ (IsFullFor (list_words accounts) segment × ((words : ℕ) × (kind ≡ AllocationTooLarge words)))
 
--- The message of such a list has more words than the limit, and the failure carries their number.
+-- The message of such a list has more words than the limit, and the error carries their number.
 abbrev pub AccountsLimitError : List NewAccount → Option ℕ → ErrorKind → Type 0
 AccountsLimitError accounts limit kind = IsSomeAnd limit (λ most. most < 1 + list_words accounts) × (kind ≡ MessageTooLarge (1 + list_words accounts))

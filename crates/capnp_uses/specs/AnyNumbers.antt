@@ -14,7 +14,7 @@ element_bits (Some list) = sized_numbers_of list
 abbrev pub any_numbers_of : Reader → List ℕ
 any_numbers_of list = element_bits list.numbers
 
--- none for null, those of a list of numbers of any width
+-- no numbers for null, and the elements of a list of numbers of any width
 abbrev pub IsAnyNumbers : Form → List ℕ → Type 0
 IsAnyNumbers null values = values ≡ []
 IsAnyNumbers (numbers code there) values = values ≡ there
@@ -25,6 +25,6 @@ TakesAnyNumbers null = ⊤
 TakesAnyNumbers (numbers code values) = ⊤
 TakesAnyNumbers _ = ⊥
 
--- and the errors of other forms
+-- the error for objects of other forms
 abbrev pub AnyNumbersFormError : Form → ErrorKind → Type 0
 AnyNumbersFormError form kind = (TakesAnyNumbers form → ⊥) × (kind ≡ WrongPointerKind)

@@ -1,4 +1,4 @@
--- What writing messages one after the other, and reading them back, leads to (src/appended.rt).
+-- What is returned where messages are written one after the other and read back (src/appended.rt).
 use Rattle.std.specs.Prelude.{◌≡◌, ◌⊎◌, ℕ, List, [], map, Option, None, Result, IfOk, OnOk, IfErr}
 use Rattle.std.specs.List.{AllByRecursion}
 use Rattle.capnp_frame.specs.declared.error.Error.{Error}
@@ -9,8 +9,8 @@ use Rattle.capnp_frame.specs.Prelude.{AreEncodings, IsWithinSegmentLimit}
 use Rattle.capnp.specs.declared.streams.Format.{Format}
 use Rattle.capnp.specs.Prelude.{grammar_of, IsEncodingOf, AppendsEach, SegmentCountErrorIn}
 
--- What a call returns that writes messages and reads them back. `encodings`, `readers` and `end` are
--- what is seen of what it returns.
+-- The result of a call that writes messages and reads them back. A contract sees of it `encodings`, `readers`
+-- and `end`.
 pub record ReadsBack {V X : Type 0} (format : Format) (options : ReaderOptions) (messages : List (List (List ℕ))) (encodings : V → List ℕ)
     (readers : V → List X) (end : V → Option X) (segments : X → List (List ℕ)) (options_of : X → ReaderOptions) (result : Result V Error)
     : Type 0 where
@@ -18,7 +18,7 @@ pub record ReadsBack {V X : Type 0} (format : Format) (options : ReaderOptions) 
   pub written : IfOk result (λ done. AppendsEach (IsEncodingOf format) messages (encodings done))
   -- the readers found their messages there
   pub read : IfOk result (λ done. AreEncodings (grammar_of Zero format) options.traversal_limit_in_words (map segments (readers done)) (encodings done) [])
-  -- they are those that were written
+  -- the messages that are read are the ones that were written
   pub back : IfOk result (λ done. map segments (readers done) ≡ messages)
   pub options_are : IfOk result (λ done. AllByRecursion (λ reader. options_of reader ≡ options) (readers done))
   -- after them there is no message

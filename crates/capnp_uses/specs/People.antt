@@ -37,12 +37,12 @@ TooLargeError texts trees kind = Any (λ bytes. LongText bytes kind) texts
 
 -- Why a message in which a value of these texts and this tree was to be the root is not read back, and what that leaves.
 -- The root is null: the value is too large, the first segment is not handed out, or no segment has room. Or the value is
--- the root: the message has too many segments or words, or memory is lacking.
+-- the root: the message has too many segments or words, or the call is out of memory.
 abbrev pub ReadBackError : {A S : Type 0} → Ghosts A S → List (List ℕ) → Trees → Option ℕ → Built A → Built A → ErrorKind → Type 0
 ReadBackError alloc texts trees limit old new kind = StaysUnset alloc (λ found. found ≡ trees) (TooLargeError texts trees) old new kind
     ⊎ StaysUnread alloc (λ found. found ≡ trees) limit old new kind
 
 -- why the canonical form of such a value does not become the one segment of a new message: the first segment is not handed
--- out, or it is, and the value is too large, its form is, or the form has no room there
+-- out. Or it is, and the value or its form is too large, or the form has no room there.
 abbrev pub AloneError : {A S : Type 0} → Ghosts A S → List (List ℕ) → Trees → Built A → Built A → ErrorKind → Type 0
 AloneError alloc texts trees = SetCanonicalError alloc (λ found. found ≡ trees) (TooLargeError texts trees)

@@ -17,10 +17,10 @@ pub record ReturnsCanonical {T : Type 0} (bytes : List ℕ) (words : T → List 
   -- there is one such message
   pub form : (message : List (List ℕ)) (rest : List ℕ) → BeginsFramed Zero default_limit message bytes rest
       → IfOk result (λ form. IsCanonicalForm (default_root message) (words form))
-  -- they are returned wherever there are such words, unless memory is lacking
+  -- wherever there are such words they are returned, unless the call is out of memory
   pub found : (message : List (List ℕ)) (rest : List ℕ) → BeginsFramed Zero default_limit message bytes rest → HasForm (default_root message)
       → IfErr result (λ error. error.kind ≡ OutOfMemory)
-  -- else it fails as the reader does, which takes no memory, or with the reason why the message has no form, or for want of memory
+  -- else it fails as the reader does, which takes no memory, with the reason why the message has no form, or with `OutOfMemory`
   pub errors : IfErr result (λ error. RulesError (no_alloc_rules Zero default_limit) error.kind bytes
       ⊎ ((message : List (List ℕ)) × (rest : List ℕ) × BeginsFramed Zero default_limit message bytes rest
       × (CanonicalFormError (default_root message) error.kind ⊎ (error.kind ≡ OutOfMemory))))

@@ -54,22 +54,22 @@ pub record StaysWithoutForm {A S : Type 0} (alloc : Ghosts A S) (has_tree : Tree
 pub record StaysUnwritten {A S : Type 0} (alloc : Ghosts A S) (has_tree : Trees → Type 0) (canonical : Bool) (old new : Built A) (kind : ErrorKind) : Type 0 where
   pub set : IsSet has_tree canonical new.spaces
   pub placed : IsPut alloc (HasWords has_tree canonical) old new
-  -- it has too many segments, or memory is lacking
+  -- it has too many segments, or the call is out of memory
   pub errors : SegmentCountError (output_of new) kind ⊎ (kind ≡ OutOfMemory)
 
--- the message has more words than the limit, and the failure carries their number
+-- the message has more words than the limit, and the error carries their number
 abbrev pub MessageSizeError : List (List ℕ) → Option ℕ → ErrorKind → Type 0
 MessageSizeError message limit kind = IsTooLarge (lengths message) limit × (kind ≡ MessageTooLarge (size_in_words message))
 
--- a message is not written and read back: for too many segments, for too many words, or for want of memory
+-- a message is not written and read back: it has too many segments or words, or the call is out of memory
 abbrev pub ReadAgainError : List (List ℕ) → Option ℕ → ErrorKind → Type 0
 ReadAgainError message limit kind = SegmentCountError message kind ⊎ MessageSizeError message limit kind ⊎ (kind ≡ OutOfMemory)
 
--- What a call returns that writes a message and reads it back with these options. `segments` and
+-- The result of a call that writes a message and reads it back with these options. `segments` and
 -- `options_of` are what is seen of a reader.
 pub record ReadsWritten {X : Type 0} (message : List (List ℕ)) (options : ReaderOptions) (segments : X → List (List ℕ))
     (options_of : X → ReaderOptions) (result : Result X Error) : Type 0 where
-  -- the segments are those that were written
+  -- the segments that are read are the ones that were written
   pub back : IfOk result (λ reader. segments reader ≡ message)
   -- the segments are within the limit of words, and no more than a reader accepts
   pub size : OnOk result (KeepsLimit (lengths message) options.traversal_limit_in_words)
@@ -83,8 +83,7 @@ pub record StaysUnread {A S : Type 0} (alloc : Ghosts A S) (has_tree : Trees →
   pub placed : IsPut alloc (HasWords has_tree false) old new
   pub errors : ReadAgainError (output_of new) limit kind
 
--- No struct is read at the root of a packed message: memory is taken and lacking, no message is there, or its root
--- fails.
+-- No struct is read at the root of a packed message: an allocation fails, no message is there, or its root fails.
 abbrev pub PackedStructError : List ℕ → ErrorKind → Type 0
 PackedStructError encoding kind = ((kind ≡ OutOfMemory) × TakesForNext Zero Packed default_limit encoding) ⊎ EndsBy Zero Packed default_limit (Some kind) encoding
     ⊎ ((encoding ≡ []) × (kind ≡ PrematureEndOfFile))

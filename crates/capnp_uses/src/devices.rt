@@ -1,4 +1,4 @@
-//! Messages of devices whose bytes are known, as those of a cursor or of slices are.
+//! Messages of devices whose bytes are known, such as cursors and slices.
 ghost use Rattle.std.specs.Prelude.{◌≡◌, ◌++◌, map, drop, Some, IsSome, IfSome, IfOk, IfErr};
 ghost use Rattle.std.specs.List.{AllByRecursion};
 ghost use Rattle.std.specs.Io.Cursor.{cursor_inner, cursor_position, cursor_remaining};
@@ -133,7 +133,7 @@ pub fn all_of_device<R: io::Read + Drop>(
     Ok(DeviceRead { read, rest: source })
 }
 
-/// Every message of a stream that lies in two parts, of which the first may end within a message.
+/// Every message of a stream that lies in two parts. The first part may end within a message.
 ///
 /// Fails as `all_of_device` does.
 pub fn all_of_parts<'a>(

@@ -59,7 +59,7 @@ pub fn read_packed_words(alloc: Global, encoding: &[u8]) -> Result<(u64, u64)>
         IfOk result (λ read. read ≡ (first, second)) }
     // Else it returns words only of what is there.
     ensures is_found { IfOk result (λ read. ShowsPackedStruct encoding.now read) }
-    // It succeeds, unless memory is lacking or the traversal limit is met.
+    // It succeeds, unless it is out of memory or the traversal limit is met.
     ensures found { (message : List (List ℕ)) (first second : ℕ) → IsWritable message →
         IsWithinSegmentLimit message → KeepsLimit (lengths message) default_limit →
         IsPackedEncodingOf message encoding.now → HasPlainRoot message (struct (first ∷ second ∷ [])) →

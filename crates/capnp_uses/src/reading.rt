@@ -22,7 +22,7 @@ pub fn first_message(alloc: Global, bytes: &[u8]) -> Result<Option<Reader<OwnedS
         (rest : List ℕ) × BeginsFramed Zero default_limit reader.segments bytes.now rest)) }
     ensures none { IfOk result (λ found. IfNone found (bytes.now ≡ [])) }
     ensures empty { bytes.now ≡ [] → IsOk result }
-    // A message that is there is returned, unless memory is lacking.
+    // A message that is there is returned, unless the call is out of memory.
     ensures exact { (message : List (List ℕ)) (rest : List ℕ) →
         BeginsFramed Zero default_limit message bytes.now rest → MatchResult result
         (λ found. IsSomeAnd found (λ reader. reader.segments ≡ message))

@@ -1,4 +1,4 @@
-//! Messages that are built in a region that the caller provides, which is zero again afterwards.
+//! Messages that are built in a caller-provided region, which is zero again afterwards.
 ghost use Rattle.std.specs.Prelude.{◌≡◌, ◌⊎◌, ℕ, ◌+◌, ◌/◌, ◌^◌, ◌<◌, false, length, IfOk, IfErr, IsOk};
 ghost use Rattle.capnp_frame.specs.declared.error.ErrorKind.TheVariants.{SegmentTaken};
 ghost use Rattle.capnp_wire.specs.Prelude.{HasWords, WordsError};
@@ -27,7 +27,7 @@ pub fn set_in_region<'a, T, V: SetterInput<T> + Drop>(
         × (words < length region.old / 8 → IsOnlyBlock message words)) }
     ensures available { IfErr result (λ error. error.kind ≡ SegmentTaken →
         WordsError (V.has_tree value) (V.fails value) false error.kind) }
-    // It fails as measuring the value does, or for want of room.
+    // It fails as measuring the value does, or since there is no room.
     ensures errors { IfErr result (λ error.
         WordsError (V.has_tree value) (V.fails value) false error.kind
         ⊎ RegionRoomError (V.has_tree value) (length region.old / 8) error.kind) }

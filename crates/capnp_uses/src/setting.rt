@@ -11,7 +11,8 @@ use capnp::traits::SetterInput;
 use capnp::{Result, any_pointer, serialize};
 use std::alloc::Global;
 
-/// Makes the root what a pointer of another message leads to, for example a struct with pointers.
+/// Sets the root to what a pointer of another message points to, for example a struct with
+/// pointers.
 pub fn set_tree<A: Allocator, S: ReaderSegments>(
     built: &mut Builder<A>,
     source: any_pointer::Reader<'_, S>,
@@ -26,8 +27,8 @@ pub fn set_tree<A: Allocator, S: ReaderSegments>(
     built.set_root::<any_pointer::Owned, any_pointer::Reader<'_, S>>(source)
 }
 
-/// Does the same, and then sets another first data word, where the struct has one: what its pointers
-/// lead to stays.
+/// Sets the root as `set_tree` does, and then its first data word, where the struct has one. What
+/// its pointers point to stays.
 pub fn set_tree_and_word<A: Allocator, S: ReaderSegments>(
     built: &mut Builder<A>,
     source: any_pointer::Reader<'_, S>,
@@ -37,7 +38,7 @@ pub fn set_tree_and_word<A: Allocator, S: ReaderSegments>(
         PointsToTree (pointer_of S.segments source.entry) (tree (struct words) children none) →
         OnOk result ((traversed : ℕ)
         × Root (message built.new.spaces) (struct (slice_set words 0 word)) children traversed) }
-    // Where it succeeds, the pointer leads to a struct, or to null, and then the root is null.
+    // Where it succeeds, the pointer points to a struct, or is null, and then the root is null.
     ensures is_set { OnOk result (IsSetWithWord (PointsToTree (pointer_of S.segments source.entry))
         word built.new.spaces) }
     // It fails as setting the root does, and then the root is null, or where what is set is no
@@ -56,7 +57,7 @@ pub fn set_tree_and_word<A: Allocator, S: ReaderSegments>(
     Ok(())
 }
 
-/// Makes a message of no segments the canonical form of what a pointer of another one leads to.
+/// Makes a message of no segments the canonical form of what a pointer of another one points to.
 pub fn set_canonical<A: Allocator, S: ReaderSegments>(
     built: &mut Builder<A>,
     source: any_pointer::Reader<'_, S>,
@@ -92,7 +93,7 @@ pub fn set_and_write<T, V: SetterInput<T> + Drop, A: Allocator>(
     Ok(encoding)
 }
 
-/// Does the same in canonical form.
+/// Sets the root to the canonical form of a value, and writes the message right after.
 pub fn set_canonical_and_write<T, V: SetterInput<T> + Drop, A: Allocator>(
     alloc: Global,
     built: &mut Builder<A>,

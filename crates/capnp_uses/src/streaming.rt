@@ -14,8 +14,8 @@ use std::alloc::Global;
 
 /// The next message of a stream in either format, of zero padding, or `None` at its end.
 ///
-/// What the contract says of the bytes holds where those of the source are known, as a slice's are.
-/// A device's are not; for it `reads.failed` says that `DeviceFailed` is returned only where the
+/// What the contract says of bytes holds where the source's bytes are known, as a slice's are. A
+/// device's are not: for it `reads.failed` says that `DeviceFailed` is returned only where the
 /// device failed.
 pub fn next_message<R: BufRead>(
     alloc: Global,
@@ -45,7 +45,7 @@ pub fn skip_message<R: BufRead>(
 /// The first two messages of a stream in memory, by an iterator over its messages, or `None` where
 /// it has fewer.
 ///
-/// Fails as the reader of the first message does, or of the second one.
+/// Fails as the reader of the first message does, or as the reader of the second one.
 pub fn first_two(
     alloc: Global,
     stream: &[u8],

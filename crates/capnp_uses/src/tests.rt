@@ -1,5 +1,5 @@
-//! The examples of public items, the callers by worked bytes, and messages and limits of many
-//! words.
+//! The examples of public items, the callers by hand-computed bytes, and messages and limits of
+//! many words.
 mod account_lists;
 mod accounts;
 mod any_numbers;

@@ -1,4 +1,4 @@
-//! Accounts that are built from the bottom up, by worked bytes.
+//! Accounts that are built from the bottom up, by hand-computed bytes.
 use crate::account;
 use crate::account_list::{NewAccount, accounts_are_read_back, list_of_accounts};
 use capnp::ErrorKind;
@@ -7,8 +7,8 @@ use capnp::serialize::OwnedSegments;
 use capnp_orphans::Orphanage;
 use std::test::Fail;
 
-// The root leads over the two names, "A" and none, to the list: a tag, then 7 and 8, each of which
-// leads back to its name.
+// The root points past the two names, "A" and the empty one, to the list: a tag, then 7 and 8, each
+// with a pointer back to its name.
 const BUILT: &[u8] = b"\x09\0\0\0\x27\0\0\0\
     A\0\0\0\0\0\0\0\
     \0\0\0\0\0\0\0\0\

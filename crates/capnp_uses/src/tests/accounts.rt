@@ -1,4 +1,4 @@
-//! A type over structs, read from worked bytes.
+//! A type over structs, read from hand-computed bytes.
 use crate::account;
 use crate::tests::fixtures::{expect, message_of};
 use capnp::message::{DEFAULT_READER_OPTIONS, SegmentArray};
@@ -20,8 +20,8 @@ fn is_named(account: &Account<'_>, name: &[u8]) -> Result<(u64, bool)> {
     Ok((account.id(), account.name()?.as_bytes() == name))
 }
 
-// Segments, and the number and the name of the account at the root. That of an older writer has
-// defaults.
+// Segments, and the number and the name of the account at the root. An account of an older writer
+// has defaults.
 const ACCOUNTS_AT_ROOTS: [(&[u8], u64, &[u8]); 3] = [
     (ALICE, 7, b"Alice"),
     (NO_FIELDS, 0, b""),

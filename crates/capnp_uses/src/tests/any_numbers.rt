@@ -1,4 +1,4 @@
-//! A view that takes several kinds of objects, read from worked bytes.
+//! A view that takes several kinds of objects, read from hand-computed bytes.
 use crate::any_numbers;
 use crate::tests::fixtures::{expect, message_of};
 use capnp::ErrorKind;

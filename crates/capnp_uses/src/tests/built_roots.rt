@@ -156,8 +156,8 @@ const IN_A_REGION: [Root; 4] = [
 ];
 
 // Regions of a given number of bytes, and the errors of a text of five bytes, of as much data, of
-// two numbers and of a struct of two words: what does not fit after the root's word wants a word
-// more, for its landing pad.
+// two numbers and of a struct of two words. What does not fit after the root's word needs one more
+// word, for its landing pad.
 #[rattlefmt::skip]
 const REGIONS: [(usize, [u8; 4]); 4] = [
     (8,  [15, 15, 15, 15]),
@@ -191,8 +191,8 @@ fn reported(error: u8) -> Reported {
     if error == 0 { Ok(true) } else { Err(error) }
 }
 
-// What is returned for a root that is built over a region, and of one in the next message over it;
-// and whether a null root is read back there then.
+// What is returned for a root that is built over a region, and for one in the next message over it,
+// and then whether a null root is read back there.
 fn two_in_a_region(
     rt: &(impl Abort + AllocGlobal),
     region: &mut [u8],

@@ -1,4 +1,4 @@
-//! The callers that read back values that are composed, by worked bytes (encoding document,
+//! The callers that read back values that are composed, by hand-computed bytes (encoding document,
 //! "Lists").
 use crate::tests::fixtures::expect;
 use crate::values::{contact_is_read_back, person_is_read_back, phone};

@@ -1,4 +1,4 @@
-//! A list of structs whose fields have a sign and a default, by worked bytes.
+//! A list of structs whose fields have a sign and a default, by hand-computed bytes.
 use crate::entries;
 use crate::tests::fixtures::{expect, message_of};
 use capnp::message::{DEFAULT_READER_OPTIONS, SegmentArray};

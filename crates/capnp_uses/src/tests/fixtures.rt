@@ -1,4 +1,4 @@
-//! What these tests share: messages over worked segments, and what is expected of a case.
+//! What these tests share: messages over hand-computed segments, and what is expected of a case.
 use capnp::message::{
     Builder, DEFAULT_READER_OPTIONS, HeapAllocator, Reader, ReaderOptions, SegmentArray,
 };
@@ -36,12 +36,12 @@ pub fn message_of<'a>(segments: &'a [&'a [u8]], options: ReaderOptions) -> Messa
     Reader::new(SegmentArray::new(segments), options)
 }
 
-/// Sets a root to that of another message.
+/// Sets a root to the root of another message.
 pub fn set_root(message: &mut Builder<HeapAllocator>, root: Source<'_>) -> Result<()> {
     message.set_root::<any_pointer::Owned, Source<'_>>(root)
 }
 
-/// Sets a root to the canonical form of that of another message.
+/// Sets a root to the canonical form of another message's root.
 pub fn set_root_canonical(message: &mut Builder<HeapAllocator>, root: Source<'_>) -> Result<()> {
     message.set_root_canonical::<any_pointer::Owned, Source<'_>>(root)
 }

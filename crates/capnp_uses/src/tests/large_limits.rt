@@ -41,8 +41,8 @@ const POINTERS: [(u16, u8); 12] = [
     (1, 20), (2, 22), (2, 20),
 ];
 
-// A struct of three pointers: to 536,870,911 elements of no size, to 6 and to 5. Within 2^32 words
-// are the struct's three, eight times the first list, and once the last.
+// A struct of three pointers: to 536,870,911 elements of no size, to 6 and to 5. The struct's three
+// words, eight times the first list, and once the last are just 2^32.
 #[test]
 fn a_limit_past_four_bytes(rt: HostRuntime) -> Result<()> {
     let segments: [&[u8]; 1] = [
@@ -59,7 +59,7 @@ fn a_limit_past_four_bytes(rt: HostRuntime) -> Result<()> {
 }
 
 // Segments, a limit, and the words of the canonical form or the error's number. A landing pad is
-// counted against the traversal limit, and all words of a list of structs.
+// counted against the traversal limit, as are all words of a list of structs.
 #[rattlefmt::skip]
 const SIZES: [(&[&[u8]], Option<usize>, std::result::Result<u32, u8>); 12] = [
     (&[b"\x01\0\0\0\x72\0\0\0Hello, World!\0\0\0"], Some(2), Ok(3)),
@@ -81,7 +81,8 @@ fn form_size(reader: &Message<'_>) -> Result<std::result::Result<u32, u8>> {
     Ok(numbered(canonical_size(&root)))
 }
 
-// Each is asked thrice: a size counts from none, and counts nothing against the traversal limit.
+// Each size is computed three times: it is counted from none, and counts nothing against the
+// traversal limit.
 #[test]
 fn sizes_of_canonical_forms(rt: HostRuntime) -> Result<()> {
     for (segments, limit, wanted) in &SIZES {
@@ -137,10 +138,10 @@ fn data_that_is_set(rt: HostRuntime) -> Result<()> {
     Ok(())
 }
 
-// 40 structs of two pointers, both of which point to the next struct: a tree of 2^40 - 1 structs,
-// which a walk enters 4,194,304 times before the default limit of 8,388,608 words is met. In a
-// build with checks (`rt try`) that takes longer than the minute of a test, in one that is proved
-// (`rt test`) a moment.
+// 40 structs of two pointers, both of them to the next struct: a tree of 2^40 - 1 structs. A walk
+// enters 4,194,304 of them before the default limit of 8,388,608 words is met. In a build with
+// checks (`rt try`) that takes longer than the minute of a test; in one that is proved (`rt test`)
+// it takes a moment.
 fn doublings() -> [u8; 648] {
     let mut bytes = [0; 648];
     bytes[6] = 2;

@@ -7,7 +7,7 @@ use capnp::{Result, Way, data, serialize, serialize_packed};
 use std::alloc::Global;
 use std::process::Abort;
 
-// Words of a message of one segment: the root's, and those of its data.
+// Words of a message of one segment: the root's, and its data's.
 const SIZES: [u32; 3] = [513, 1025, 4097];
 
 // The segment of a given number of words whose root is data of sevens.
@@ -72,9 +72,9 @@ fn a_million_packed_words_are_unpacked(rt: HostRuntime) -> Result<()> {
 }
 
 // The packed encoding of a segment of 2^20 words whose root is data of sevens: the table's word,
-// the root's with its three zero bytes left out, and then literal runs: each a word by its tag and
-// up to 255 words as they are, 256 words together. Of 2^20 - 1 words 4,095 runs are full, and the
-// last has 255 words.
+// the root's with its three zero bytes left out, and then literal runs. Each run is a word after
+// its tag, and up to 255 words that are copied, 256 words together. Of 2^20 - 1 words 4,095 runs
+// are full, and the last has 255 words.
 fn packed_million(alloc: Global) -> Result<Vec<u8>> {
     let mut packed = [0x40, 0x10, 0xf1, 1, 0xc2, 0xff, 0xff, 3].to_vec(alloc)?;
     let words = [7u8; 255 * 8];
@@ -241,7 +241,7 @@ pub(crate) fn has_segment(message: &Builder<HeapAllocator>, segment: &[u8]) -> b
     }
 }
 
-// A root that is set to that of the message, as it is and in canonical form.
+// A root that is set to the message's root, untrimmed and in canonical form.
 fn set_from(rt: &(impl Abort + AllocGlobal), reader: &Message<'_>, segment: &[u8]) -> Result<()> {
     let mut message = large_message(rt.alloc());
     set_root(&mut message, reader.get_root()?)?;

@@ -1,4 +1,4 @@
-//! Messages of more than 100,000 words, no two objects or numbers of which are equal: read, packed,
+//! Messages of more than 100,000 words, in which no two objects or numbers are equal: read, packed,
 //! copied and made canonical.
 use crate::tests::fixtures::{Source, expect, message_of, set_root, set_root_canonical};
 use crate::tests::large_messages::{

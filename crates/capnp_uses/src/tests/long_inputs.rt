@@ -27,7 +27,7 @@ fn take(bytes: &[u8], part: &mut [u8]) -> Result<usize> {
 // How many bytes a chunk has, and two of them.
 const LENGTHS: [(usize, usize); 2] = [(65_537, 131_074), (2_000_003, 4_000_006)];
 
-// A chunk of at most 2,000,016 bytes, no two words of which are equal.
+// A chunk of at most 2,000,016 bytes, in which no two words are equal.
 fn chunk_of(alloc: Global, length: usize) -> Result<Vec<u8>> {
     let mut bytes = list_of_numbers(alloc, 8, 250_001)?;
     bytes.truncate(length);
@@ -84,8 +84,9 @@ fn unpack_into(encoding: &[u8], part: &mut [u8]) -> Result<usize> {
     Ok(source.len())
 }
 
-// How many bytes there are, and how many packed: of 8,193 words without a zero byte 32 runs of 256
-// words, each with a tag and a count, and a word; of 250,113 such words 977 runs and a word.
+// How many bytes there are, and how many packed. Packed, 8,193 words without a zero byte are 32
+// runs of 256 words, each with a tag and a count, and a word; 250,113 such words are 977 runs and a
+// word.
 const PACKED_LENGTHS: [(usize, usize); 2] = [(65_544, 65_610), (2_000_904, 2_002_860)];
 
 #[test]

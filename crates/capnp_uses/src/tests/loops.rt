@@ -1,4 +1,4 @@
-//! Loops over the lists of a message, by worked bytes (encoding document, "Lists").
+//! Loops over the lists of a message, by hand-computed bytes (encoding document, "Lists").
 use crate::loops::{ListsReader, outwards};
 use capnp::any_struct::StructReader;
 use capnp::message::DEFAULT_READER_OPTIONS;
@@ -6,8 +6,8 @@ use capnp::serialize::{self, OwnedSegments};
 use std::test::Fail;
 
 // A message of 24 words: a struct of six pointers, and the lists that these point to, each of two
-// elements: "a" and "bc"; one byte and three; two numbers and one; structs of 5 and 6; 1 and 2 in
-// 16 bits; 7 and 8 in 32.
+// elements. The elements are "a" and "bc"; one byte and three; two numbers and one; structs of 5
+// and 6; 1 and 2 in 16 bits; 7 and 8 in 32.
 #[rattlefmt::skip]
 const LISTS: &[u8] = b"\0\0\0\0\x18\0\0\0\0\0\0\0\0\0\x06\0\
     \x15\0\0\0\x16\0\0\0\x21\0\0\0\x16\0\0\0\x2d\0\0\0\x16\0\0\0\
@@ -18,8 +18,8 @@ const LISTS: &[u8] = b"\0\0\0\0\x18\0\0\0\0\0\0\0\0\0\x06\0\
     \x08\0\0\0\x01\0\0\0\x05\0\0\0\0\0\0\0\x06\0\0\0\0\0\0\0\
     \x01\0\x02\0\0\0\0\0\x07\0\0\0\x08\0\0\0";
 
-// 2 pointers; 15 of weights twice, 11 of parts 4 times, 3 of lists 8 times, 4 of scans 16 times, 3 of
-// tags 32 times.
+// 2 for the pointers; 15 for the weights, twice; 11 for the parts, 4 times; 3 for the lists, 8
+// times; 4 for the scans, 16 times; 3 for the tags, 32 times.
 #[test]
 fn lists_in_one_another_are_looped_over(rt: HostRuntime) -> Result<(), Fail> {
     let mut source = LISTS;

@@ -45,7 +45,7 @@ fn copy(message: &mut Builder<HeapAllocator>, reader: &Message<'_>) -> Result<()
     copy_root(message, reader)
 }
 
-// Near and in a second segment; a text.
+// In the first segment, and in a second one; and a text.
 #[test]
 fn copies(rt: HostRuntime) -> Result<()> {
     let segments = [SHARED];

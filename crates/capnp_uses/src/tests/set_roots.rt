@@ -9,8 +9,8 @@ use capnp_frame_tests::messages::has_segments;
 use std::alloc::Global;
 use std::process::Abort;
 
-// A struct of two data words, of which the last is zero, and a text, after a far pointer: with the
-// landing pad five words are counted against the traversal limit.
+// A struct of two data words, the last one zero, and a text, after a far pointer: with the landing
+// pad five words are counted against the traversal limit.
 const FAR: &[&[u8]] = &[
     b"\x02\0\0\0\x01\0\0\0",
     b"\0\0\0\0\x02\0\x01\0\x07\0\0\0\0\0\0\0\0\0\0\0\0\0\0\0\x05\0\0\0\x12\0\0\0\xff\0\0\0\0\0\0\0A\0\0\0\0\0\0\0",
@@ -40,7 +40,7 @@ const FORMS: [(&[&[u8]], [&[u8]; 3]); 3] = [
     (NULL, [&[0; 8], &[0; 8], &[0; 8]]),
 ];
 
-// How a root is set to that of another message.
+// How a root is set to the root of another message.
 #[derive(Clone, Copy, Debug)]
 enum Way {
     Untrimmed,

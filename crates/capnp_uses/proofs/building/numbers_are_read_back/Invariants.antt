@@ -1,4 +1,4 @@
--- The numbers so far are those of the list so far.
+-- The numbers so far are the first ones of the list.
 use Rattle.std.proofs.Common.{◌≡◌, take}
 use Rattle.capnp_wire.specs.Prelude.{numbers_of}
 use Rattle.capnp_uses.proofs.building.numbers_are_read_back.Given as goal

@@ -1,4 +1,4 @@
--- Each turn reads one more message, and where the reading stops the bytes end, the reader fails, or memory is lacking.
+-- Each turn reads one more message. The reading stops where the bytes end, the reader fails, or it is out of memory.
 use Rattle.std.proofs.Common.{◌≡◌, ◌∙◌, inr, [], ◌∷◌, length, map, ap, sym, arith, length-append}
 use Rattle.std.proofs.lemmas.List.{length-map}
 use Rattle.std.proofs.lemmas.Result.{err_from_is_err_and}

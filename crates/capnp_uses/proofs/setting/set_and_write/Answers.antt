@@ -1,4 +1,4 @@
--- The encoding is that of the used words.
+-- What is encoded is the used words.
 use Rattle.std.proofs.Common.{inl, inr}
 use Rattle.std.proofs.lemmas.Result.{err_from_is_err_and}
 use Rattle.capnp.specs.Prelude.{output_of}
