@@ -1,8 +1,8 @@
 //! Assertions that tell the case in which they fail.
 //!
-//! Each is proved once, and a test that calls these is quick to prove: an assertion of two values
-//! with a message takes some three seconds wherever it is, a call of one of these a tenth of that.
-//! They are in each crate that calls them, since no library may end the process.
+//! Each is proved once, and a test that calls these is quick to prove. An assertion of two values
+//! with a message takes some three seconds wherever it is, and a call of one of these a tenth of
+//! that. They are in each crate that calls them, since no library may end the process.
 use capnp_frame::{ErrorKind, Result};
 use std::process::Abort;
 

@@ -38,7 +38,7 @@ fn unpack_each(rt: &impl Abort, case: &Packed) -> Result<()> {
     unpack_case(rt, case, 5000)
 }
 
-// Of a source that shows a chunk whole, it asks once for each, and nothing for no bytes.
+// A source that shows a chunk whole is asked once for each, and for no bytes not at all.
 fn unpack_case(rt: &impl Abort, case: &Packed, most: usize) -> Result<()> {
     let at = At::new(case.name, most as u64);
     let mut source = Failing::new(Trickle::new(case.encoding, most), 0);
@@ -78,7 +78,7 @@ fn unpack_chunk(
     Ok(())
 }
 
-// Encodings of which no whole words are asked for, and how many bytes are.
+// Encodings, and how many bytes are asked for, which are no whole words.
 #[rattlefmt::skip]
 const PARTS_OF_WORDS: [(&str, &[u8], usize); 4] = [
     ("a part of a word of nothing", &[], 12),
@@ -112,7 +112,7 @@ fn assert_failure(rt: &impl Abort, encoding: &[u8], length: usize, at: At<'_>) {
     assert_bytes(rt, &space, &[0xaa; 12], at);
 }
 
-// Of no more words a `read` returns none, and asks for nothing where there is no room.
+// At the end a `read` returns no bytes, and where there is no room it asks for nothing.
 #[test]
 fn no_more_words(rt: HostRuntime) -> Result<()> {
     for most in 1..=4 {
@@ -157,7 +157,7 @@ fn a_tag_alone_leaves_the_word(rt: HostRuntime) {
     }
 }
 
-// Of a literal run what is shown is copied, and the rest is one request.
+// What is shown of a literal run is copied, and the rest is one request.
 #[test]
 fn a_cut_literal_run_is_asked_for_once(rt: HostRuntime) -> Result<()> {
     for most in 14..25 {

@@ -9,7 +9,7 @@ pub fn error_of<T: Drop>(returned: Result<T>) -> u8 {
     }
 }
 
-/// The kind of an error, and nothing for a result. An error for want of memory is handed back.
+/// The kind of an error, and `None` for a result. An `OutOfMemory` is handed back as an error.
 pub fn kind_of<T: Drop>(returned: Result<T>) -> Result<Option<ErrorKind>> {
     match returned {
         Ok(_) => Ok(None),

@@ -1,7 +1,7 @@
-//! What a test does where `rt try --test --fail-alloc N` makes one growth of it fail.
+//! What a test does where `rt try --test --fail-alloc N` makes one of its allocations fail.
 use capnp_frame::{ErrorKind, Result};
 
-/// What a body returns, or returns when it is run once more.
+/// What a body returns, or returns when it is run again.
 #[macro_export]
 macro_rules! retried {
     ($run:expr) => {
@@ -12,7 +12,7 @@ macro_rules! retried {
     };
 }
 
-/// Whether a call failed for want of memory.
+/// Whether a call failed with `OutOfMemory`.
 pub fn is_out_of_memory<T>(returned: &Result<T>) -> bool {
     returned
         .as_ref()

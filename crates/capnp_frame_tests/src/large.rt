@@ -8,8 +8,8 @@ use capnp_frame::io::Write;
 use std::alloc::Global;
 use std::process::Abort;
 
-// A message of one segment, of which all bytes are the same: how many words it has, the word that
-// is its table, how long its packed encoding is, and how that begins.
+// A message of one segment whose bytes are all the same: how many words it has, the word that is
+// its table, how long its packed encoding is, and how that begins.
 #[derive(Drop)]
 struct Pattern {
     name: &'static str,
@@ -21,8 +21,8 @@ struct Pattern {
 }
 
 // A run is of 256 words at most. Of 2^16 words there are 256 runs, and of 2^20 there are 4,096,
-// after two bytes for the table. Of zeros each is a tag and a count; of sevens a tag, a word, a
-// count, and 255 words as they are.
+// after two bytes for the table. A run of zeros is a tag and a count; a run of sevens is a tag, a
+// word, a count, and 255 words that are copied.
 const PATTERNS: [Pattern; 2] = [
     Pattern {
         name: "2^16 zero words",

@@ -70,7 +70,7 @@ fn builder_of(alloc: Global, case: &Lengths) -> Result<SegmentLengthsBuilder> {
     Ok(lengths)
 }
 
-// Adds a length; where memory runs out, once more.
+// Adds a length, and again where memory runs out.
 fn push_again(lengths: &mut SegmentLengthsBuilder, length: usize) -> Result<()> {
     retried!(lengths.try_push_segment(length))
 }
@@ -135,7 +135,7 @@ fn has_lengths(segments: &OwnedSegments, case: &Lengths) -> bool {
         && segments.is_empty() == case.lengths.is_empty()
 }
 
-// The bytes of segments of 1, 0 and 2 words, some of which are written.
+// The bytes of segments of 1, 0 and 2 words; some of them are written.
 #[test]
 fn segments_that_are_written(rt: HostRuntime) -> Result<()> {
     retried!(write_into_segments(&rt))
@@ -170,7 +170,7 @@ fn has_written(segments: &OwnedSegments) -> bool {
     segments.get_segment(u32::MAX).is_none()
 }
 
-// A length, and the kind with which its segment fails. Of these no allocator is asked.
+// A length, and the kind with which its segment fails. No allocator is asked for these.
 const TOO_LONG: [(usize, ErrorKind); 3] = [
     (1 << 60, ErrorKind::OutOfMemory),
     (1 << 61, ErrorKind::MessageSizeOverflow),

@@ -1,10 +1,10 @@
-//! Worked cases over framing and packing, their calls, and what all tests share: messages, sources
-//! and sinks, limits, errors, and what a test does where a growth fails.
+//! Cases of framing and packing, their calls, and what all tests share: messages, sources and
+//! sinks, limits, errors, and what a test does after a failed allocation.
 //!
-//! Expected values come from the [encoding document] and from cases worked by hand, never from what
-//! the calls return. `rt try --test --fail-alloc N` makes one growth of each test fail: a body that
-//! returns an error is run once more, and has to succeed then. Only the tests of a module `calls`,
-//! which read whole results, may fail.
+//! Expected values come from the [encoding document] and are computed by hand, never taken from
+//! what the calls return. `rt try --test --fail-alloc N` makes one allocation of each test fail: a
+//! body that returns an error is run again, and has to succeed then. Only the tests of a module
+//! `calls`, which read whole results, may fail.
 //!
 //! [encoding document]: https://capnproto.org/encoding.html
 #![tactic(auto)]

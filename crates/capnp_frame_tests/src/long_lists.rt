@@ -97,8 +97,9 @@ pub fn append(bytes: &mut Vec<u8>, word: u64) -> Result<()> {
     Ok(())
 }
 
-/// Appends the packed encoding of a word that has a zero byte, and after which no word is zero: the
-/// tag and the bytes that aren't zero, and where there are none the count of further zero words.
+/// Appends the packed encoding of a word that has a zero byte, and after which no word is zero. It
+/// is the tag and the bytes that aren't zero, and where there are none the count of further zero
+/// words.
 pub fn append_packed(encoding: &mut Vec<u8>, word: u64) -> Result<()> {
     let bytes = word.to_le_bytes();
     let mut tag = 0u8;
@@ -121,7 +122,7 @@ pub fn append_packed(encoding: &mut Vec<u8>, word: u64) -> Result<()> {
     Ok(())
 }
 
-// A pointer to a list: how many words are between them, or 2^64 less as many as it leads back, the
+// A pointer to a list: how many words are between them, or 2^64 less as many as it points back, the
 // code of the elements, and how many elements, or words of structs, there are.
 fn list_pointer(between: u64, code: u64, count: u64) -> u64 {
     let low = between.wrapping_mul(4) % (1 << 32) | 1;
@@ -156,7 +157,7 @@ pub fn list_of_numbers(alloc: Global, width: usize, count: u32) -> Result<Vec<u8
     Ok(segment)
 }
 
-/// A list of bits: those of a byte from the lowest on.
+/// A list of bits, in each byte from the lowest on.
 pub fn list_of_bits(alloc: Global, count: u32) -> Result<Vec<u8>> {
     let mut segment: Vec<u8> = Vec::new(alloc);
     append(&mut segment, list_pointer(0, 1, count as u64))?;
@@ -250,7 +251,7 @@ pub fn list_of_structs(alloc: Global, place: Texts, count: u32) -> Result<Vec<u8
     Ok(segment)
 }
 
-// The tag, which says how many structs there are, and these.
+// The tag, which says how many structs there are, and the structs.
 fn append_structs(segment: &mut Vec<u8>, place: Texts, count: u32) -> Result<()> {
     let all = count as u64;
     append(segment, 4 * all | DATA_AND_POINTER)?;

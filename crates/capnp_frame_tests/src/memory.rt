@@ -1,8 +1,8 @@
-//! Growths that fail.
+//! Failed allocations.
 //!
-//! `rt try --test --fail-alloc N` makes the Nth growth of each test fail, and no other. So each
+//! `rt try --test --fail-alloc N` makes the Nth allocation of each test fail, and no other. So each
 //! test asks of a result that it is the right one, or `OutOfMemory` with nothing else changed, and
-//! that the call returns rightly when it is made again.
+//! that the call returns the right one when it is made again.
 use crate::assertions::{At, assert_bytes, assert_count, assert_holds};
 use crate::framing::{Found, read_by};
 use crate::growths::is_out_of_memory;

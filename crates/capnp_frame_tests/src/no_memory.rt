@@ -1,4 +1,4 @@
-//! Calls that take no memory: they succeed whichever growth fails, and none is made twice.
+//! Calls that take no memory: they succeed whichever allocation fails, and none is made twice.
 use crate::assertions::{At, assert_bytes, assert_count, assert_fails, assert_holds};
 use crate::framing::{Found, read_into, read_packed, write, write_packed};
 use crate::limits::STRICT;
@@ -211,7 +211,7 @@ fn a_packed_message_in_a_buffer(rt: HostRuntime) -> Result<()> {
     Ok(())
 }
 
-// Where one segment begins and ends takes none.
+// Where one segment begins and ends takes no memory.
 #[test]
 fn a_single_segment_is_found(rt: HostRuntime) -> Result<()> {
     let wanted: [&[u8]; 1] = [&[9; 8]];

@@ -12,8 +12,9 @@ const SEVEN: [u8; 8] = [7, 0, 0, 0, 0, 0, 0, 0];
 
 const ZERO: [u8; 8] = [0; 8];
 
-/// Words, their packed encoding, and in how many parts it is handed on at least: no more than 64
-/// bytes are collected for one, and a literal run's words that don't fit are a part by themselves.
+/// Words, their packed encoding, and in how many parts it is handed on at least. No more than 64
+/// bytes are collected for a part, and the words of a literal run that don't fit are a part by
+/// themselves.
 #[derive(Drop)]
 pub struct Parts {
     pub name: &'static str,

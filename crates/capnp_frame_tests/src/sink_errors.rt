@@ -40,7 +40,7 @@ fn written(sink: &FailingSink) -> &[u8] {
         .unwrap_or(&[1; 99])
 }
 
-// Whether the sink took each chunk. A growth that failed is handed back.
+// Whether the sink took each chunk. An `OutOfMemory` is handed back.
 fn is_taken(rt: &impl Abort, returned: Result<()>, at: At<'_>) -> Result<bool> {
     let error = kind_of(returned)?;
     assert_holds(
@@ -143,8 +143,8 @@ fn pack_to(rt: &(impl Abort + AllocGlobal), case: &Parts, fails_at: u64) -> Resu
     )
 }
 
-// Whether the run meets no failure. What was written stays at the front, and a front of the encoding
-// is after it, which is not the whole.
+// Whether the run meets no failure. What was written before stays at the front; after it is a front
+// of the encoding, which is not the whole.
 fn is_front(
     rt: &impl Abort,
     returned: Result<()>,

@@ -6,7 +6,7 @@ ghost use Rattle.capnp_frame.specs.declared.error.ErrorKind.{ErrorKind};
 use capnp_frame::io::Write;
 use capnp_frame::{Error, ErrorKind, Result};
 
-/// A sink whose chunks are counted from 1, and one of which fails. Of that one nothing is written.
+/// A sink whose chunks are counted from 1. One chunk fails, and nothing of it is written.
 #[derive(Drop)]
 pub struct FailingSink {
     pub written: Vec<u8>,

@@ -58,7 +58,7 @@ fn messages_are_skipped(rt: HostRuntime) -> Result<()> {
     Ok(())
 }
 
-// The second time the lengths come into the memory of the first, which takes no more.
+// The second time the lengths are put into the memory of the first, and no more is taken.
 fn skip_again(rt: &(impl Abort + AllocGlobal), message: &Message, most: usize) -> Result<()> {
     let at = At::new(message.name, most as u64);
     let mut kept = retried!(skip(
@@ -213,7 +213,7 @@ fn skip_large(rt: &(impl Abort + AllocGlobal), encoding: &[u8], most: usize) -> 
     Ok(())
 }
 
-// Where a call of the device fails, it is blamed, and no message is returned.
+// Where a call of the device fails, the error is `DeviceFailed`, and no message is returned.
 #[test]
 fn a_device_that_fails_is_blamed(rt: HostRuntime) -> Result<()> {
     for message in &MESSAGES {

@@ -72,7 +72,7 @@ impl BufRead for Trickle<'_> {
     ghost plain_errors = { λ _ _ _. (λ p. p, λ p. p) };
 }
 
-/// A source whose calls are counted from 1, and one of which fails. That one takes nothing.
+/// A source whose calls are counted from 1. One call fails, and takes nothing.
 #[derive(Drop)]
 pub struct Failing<'a> {
     pub source: Trickle<'a>,

@@ -97,7 +97,7 @@ const FLATTEN_ALONE: &[u8] = &[
     0, 5, 0, 0, 0, 0, 0, 0, 0,
 ];
 
-// Of these 40 bytes all but the last, and all but the last of the table.
+// All but the last of these 40 bytes, and all but the last of the table.
 const CUT: &[u8] = &[
     1, 0, 0, 0, 1, 0, 0, 0, 2, 0, 0, 0, 0, 0, 0, 0, 123, 0, 0, 0, 0, 0, 0, 0, 4, 0, 0, 0, 0, 0, 0,
     0, 5, 0, 0, 0, 0, 0, 0,
@@ -112,7 +112,7 @@ fn numbers_of_a_table(rt: HostRuntime) {
     }
 }
 
-// Whether the buffer is told to have such a table just where it has, and its segments are found.
+// Whether the buffer is found to have such a table just where it has one, with its segments.
 fn is_described(case: &Described) -> bool {
     let info = NoAllocSegmentTableInfo {
         segments_count: case.count,

@@ -24,7 +24,7 @@ fn make_words(rt: &(impl Abort + AllocGlobal), length: usize) -> Result<()> {
     Ok(())
 }
 
-// Of these no allocator is asked.
+// No allocator is asked for these.
 const TOO_MANY: [(usize, ErrorKind); 3] = [
     (1 << 60, ErrorKind::OutOfMemory),
     (1 << 61, ErrorKind::MessageSizeOverflow),
@@ -46,7 +46,7 @@ fn the_bytes_of_a_word(rt: HostRuntime) {
 }
 
 // A slice's room, the chunks that are written into it with the room that each leaves, a chunk for
-// which there is no room then, and the slice after all.
+// which there is no room then, and the slice at the end.
 #[derive(Drop)]
 struct Provided {
     name: &'static str,

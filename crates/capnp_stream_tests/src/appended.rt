@@ -51,7 +51,7 @@ fn write_three<W: Write>(
     write_messages(rt.alloc(), sink, format, &messages)
 }
 
-// Reads as many messages of what is unread of the three encodings.
+// Reads a number of messages from what is unread of the three encodings.
 fn read(
     rt: &impl AllocGlobal,
     format: Format,
@@ -165,9 +165,9 @@ fn read_too_many(
     Ok(())
 }
 
-// A sink that fails at its nth chunk, and would take those after it, has a front of the encodings.
-// Framed they have ten chunks: four of each of the first two, of which one is of no bytes, and two
-// of the last.
+// A sink that fails at its nth chunk, and would take the chunks after it, has a front of the
+// encodings. Framed they have ten chunks: four for each of the first two, one of them of no bytes,
+// and two for the last.
 #[test]
 fn no_chunk_follows_a_failed_one(rt: HostRuntime) -> Result<()> {
     for format in &FORMATS {

@@ -1,3 +1,3 @@
-//! The calls over streams of many messages. Where a growth fails, these tests may fail.
+//! The calls over streams of many messages. Where an allocation fails, these tests may fail.
 mod many_messages;
 mod many_records;

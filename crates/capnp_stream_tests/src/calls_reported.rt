@@ -1,4 +1,4 @@
-//! Assertions that tell the call at which they fail, beside the case.
+//! Assertions that tell the call at which they fail, in addition to the case.
 use crate::assertions::At;
 use crate::flat::Form;
 use crate::readers::Call;

@@ -28,7 +28,7 @@ const EXPECTED: [(&[&[u8]], Expected); 4] = [
     (&[], Err(ErrorKind::InvalidSegmentId(0))),
 ];
 
-// Writes a message's form. A growth that failed is handed back.
+// Writes a message's canonical form. An `OutOfMemory` is handed back.
 fn write<W: Write, S: ReaderSegments>(
     rt: &impl AllocGlobal,
     sink: &mut W,

@@ -46,9 +46,9 @@ impl io::Read for ChoppyReader<'_> {
     }
 }
 
-/// How a device that is written behaves: it takes `most` bytes a write; its first writes and its
-/// first flushes are interrupted, and the write `bad_write`, counted from 1, and each flush, where
-/// it is so, fail.
+/// How a device that is written behaves. It takes `most` bytes a write, and its first writes and
+/// its first flushes are interrupted. The write `bad_write`, counted from 1, fails, and each flush
+/// where `fails_to_flush` is true.
 #[derive(Clone, Copy)]
 struct Ways {
     most: usize,
@@ -75,7 +75,7 @@ struct ChoppyWriter {
     flushes: u64,
 }
 
-// It has room for what the tests write, so it does not fail for want of memory.
+// It has room for what the tests write, so it is never out of memory.
 fn taking(alloc: Global, ways: Ways) -> Result<ChoppyWriter> {
     Ok(ChoppyWriter {
         ways,

@@ -106,7 +106,7 @@ fn at(case: &Case, padding: Padding) -> At<'static> {
     At::new(case.name, u64::from(padding == Padding::Any))
 }
 
-// A stop for want of memory is handed back.
+// A run that stops with `OutOfMemory` is handed back.
 fn failure_of(returned: std::result::Result<(), FailedAt>) -> Result<Option<(u64, ErrorKind)>> {
     match returned {
         Ok(()) => Ok(None),

@@ -92,8 +92,8 @@ fn find(
     Ok((found, slice.len()))
 }
 
-// How many bytes a form leaves: those that take a slice move it after a message, and of `THREE` the
-// last 32 bytes follow.
+// How many bytes a form leaves. The forms that take a slice move it past a message, and in `THREE`
+// 32 more bytes follow it.
 fn left_by(form: Form, bytes: &[u8]) -> usize {
     match form {
         Form::Take | Form::Message if bytes.len() == THREE.len() => 32,

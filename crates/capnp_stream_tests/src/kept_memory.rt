@@ -1,7 +1,7 @@
 //! Messages that are read into the memory of the one before.
 //!
-//! An equal message, or a smaller one, takes no more of it: whichever growth fails, only the first
-//! reading may lack it.
+//! An equal message, or a smaller one, takes no more of it: whichever allocation fails, only the
+//! first reading may be out of memory.
 use crate::samples::{SAMPLES, Sample, append_word};
 use capnp::message::Reader;
 use capnp::streams::Format;
@@ -22,7 +22,7 @@ enum Returned {
     Message,
 }
 
-// A reader: of which format, by which rule of padding, and what it returns.
+// A reader: its format, its rule of padding, and what it returns.
 type Call = (Format, Padding, Returned);
 
 #[rattlefmt::skip]
@@ -114,7 +114,7 @@ enum Length {
     Longest,
 }
 
-// The words, in 256.
+// The words, in parts of 256.
 fn parts_in(length: Length) -> u32 {
     match length {
         Length::Long => 600,
@@ -122,7 +122,7 @@ fn parts_in(length: Length) -> u32 {
     }
 }
 
-// A message of one segment, of which the last word alone isn't zero: packed, the words before it are
+// A message of one segment in which the last word alone isn't zero. Packed, the words before it are
 // runs of 256, and one of 255.
 fn long_message(alloc: Global, format: Format, length: Length) -> Result<Vec<u8>> {
     let mut encoding = Vec::new(alloc);
@@ -159,7 +159,7 @@ fn long_messages_take_no_more_memory(rt: HostRuntime) -> Result<()> {
     read_long(&rt, CALLS[5], Length::Longest)
 }
 
-// After it smaller ones, and the same again.
+// After it smaller messages, and the same one again.
 fn read_long(rt: &(impl Abort + AllocGlobal), call: Call, length: Length) -> Result<()> {
     let encoding = retried!(long_message(rt.alloc(), call.0, length))?;
     let mut kept = retried!(read_encoding(call, &encoding, OwnedSegments::empty(rt.alloc())))?;
@@ -184,7 +184,7 @@ fn large_message(alloc: Global, format: Format) -> Result<Vec<u8>> {
     Ok(encoding)
 }
 
-// After it smaller ones, and the same again, many times.
+// After it smaller messages, and the same one again, many times.
 #[test]
 fn smaller_messages_take_no_more_memory(rt: HostRuntime) -> Result<()> {
     for call in &CALLS {

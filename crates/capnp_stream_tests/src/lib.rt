@@ -1,4 +1,4 @@
-//! Worked cases over the readers and writers of both formats, and their calls. It holds tests alone,
+//! Cases of the readers and writers of both formats, and their calls. The crate holds tests alone,
 //! by the rules of `capnp_frame_tests`.
 #![tactic(auto)]
 

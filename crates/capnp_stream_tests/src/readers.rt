@@ -52,10 +52,10 @@ pub fn with_limit(limit: Option<usize>) -> ReaderOptions {
     options
 }
 
-/// A call: the format that it reads, of which padding, and how.
+/// A call: the format that it reads, its rule of padding, and how it reads.
 pub type Call = (Format, Padding, Reader);
 
-/// Whether the call returns what is wanted. A result for want of memory is handed back.
+/// Whether the call returns what is wanted. An `OutOfMemory` is handed back.
 pub fn is_returned<R: BufRead>(
     alloc: Global,
     (format, padding, reader): Call,
@@ -217,7 +217,7 @@ fn needed_segments_of<S: ReaderSegments + Drop>(
     Ok(Some(returned?.into_segments()))
 }
 
-// What is returned where a message has to be there: at the end it is missed.
+// What is returned where a message has to be there: an error at the end.
 fn needed(wanted: Wanted<'_>) -> Wanted<'_> {
     match wanted {
         Wanted::End => Wanted::Fails(ErrorKind::PrematureEndOfFile),
@@ -225,7 +225,7 @@ fn needed(wanted: Wanted<'_>) -> Wanted<'_> {
     }
 }
 
-// Whether this is the result. One for want of memory is handed back.
+// Whether this is the result. An `OutOfMemory` is handed back.
 fn is_wanted<S: ReaderSegments + Drop>(
     returned: Result<Option<S>>,
     wanted: Wanted<'_>,

@@ -28,8 +28,8 @@ fn has_lengths(found: &SegmentLengthsBuilder, segments: &[&[u8]]) -> bool {
     found.segments_count() == segments.len()
 }
 
-// Whether what is wanted of the next message is returned where it is skipped. A result for want of
-// memory is handed back.
+// Whether what is wanted of the next message is returned where it is skipped. An `OutOfMemory` is
+// handed back.
 fn is_skipped<R: BufRead>(
     alloc: Global,
     (format, padding): (Format, Padding),

@@ -14,7 +14,7 @@ use std::process::Abort;
 
 pub const WAYS: [Way; 2] = [Way::Pack, Way::Unpack];
 
-/// The error, where there is one. A growth that failed is handed back.
+/// The error, where there is one. An `OutOfMemory` is handed back.
 pub fn transcoded<R: BufRead, W: Write>(
     rt: &impl AllocGlobal,
     way: Way,

@@ -146,7 +146,7 @@ fn reuse(
     Ok(())
 }
 
-// Skipped, each has as many segments as it has.
+// Each message is skipped, and its segments are counted.
 fn skip(
     rt: &(impl Abort + AllocGlobal),
     (format, padding): (Format, Padding),

@@ -8,7 +8,7 @@ use capnp_frame_tests::retried;
 use std::alloc::Global;
 use std::process::Abort;
 
-// How often a device was interrupted that gives two bytes a read.
+// How often a device that gives two bytes a read was interrupted.
 const INTERRUPTIONS: [u64; 2] = [3, 5000];
 
 #[test]
