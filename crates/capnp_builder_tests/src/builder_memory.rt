@@ -1,7 +1,7 @@
-//! Growths of a builder that fail.
+//! Failed allocations of a builder.
 //!
 //! A builder over a heap takes memory for each of its segments, and from the second on for the list
-//! of them. `rt try --test --fail-alloc N` makes the Nth growth fail: then the call returns
+//! of them. `rt try --test --fail-alloc N` makes the Nth allocation fail: then the call returns
 //! `OutOfMemory`, the root is null with no word taken but its own, and the same call succeeds when
 //! it is made again.
 use crate::building::{
@@ -47,8 +47,8 @@ fn is_null<A: Allocator>(message: &Builder<A>) -> bool {
     }
 }
 
-// Makes a call, and once more where it fails. What a failed call leaves are the words that were
-// used before, or the root's own; a look and a canonical form leave none but those before.
+// Makes a call, and again where it fails. What a failed call leaves are the words that were used
+// before, or the root's own; a look and a canonical form leave none but the words before.
 fn make_in_the_end<A: Allocator>(
     rt: &impl Abort,
     message: &mut Builder<A>,

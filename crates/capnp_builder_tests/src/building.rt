@@ -70,7 +70,7 @@ pub fn expect_segments<S: ReaderSegments>(
     );
 }
 
-/// A region that came home is zero.
+/// A region that was given back is zero.
 pub fn expect_zeros(rt: &impl Abort, case: &str, region: &[u8]) {
     expect(rt, case, region.iter().all(|byte| *byte == 0), true);
 }

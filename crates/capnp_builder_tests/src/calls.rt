@@ -1,5 +1,5 @@
-//! The calls of builders and of allocators by worked bytes: what no contract says, above all that
-//! they succeed. Where a growth fails, these tests may fail.
+//! The calls of builders and of allocators by hand-computed bytes: what no contract says, above all
+//! that they succeed. Where an allocation fails, these tests may fail.
 mod allocators;
 mod any_roots;
 mod arenas;

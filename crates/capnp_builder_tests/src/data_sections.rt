@@ -1,5 +1,5 @@
-//! Fields of data sections that are set in values, by bytes worked from the encoding document,
-//! "Structs".
+//! Fields of data sections that are set in values, by bytes computed by hand from the encoding
+//! document, "Structs".
 use crate::values::compare_by_each;
 use capnp_frame::Result;
 use capnp_values::{NoFields, StructValue};
@@ -7,9 +7,9 @@ use capnp_wire::any_struct;
 
 type Section = StructValue<3, NoFields>;
 
-// A pointer to a struct of three data words, and these: of the first word the lowest and the
-// highest bit, the second byte, and the second two bytes; of the next one both halves; and the last
-// whole.
+// A pointer to a struct of three data words, and the words. The first word has its lowest and its
+// highest bit, its second byte, and its second two bytes set; the next one both halves; and the
+// last is set whole.
 #[rattlefmt::skip]
 const SET: &[u8] = b"\0\0\0\0\x03\0\0\0\
     \x01\xab\xfe\xff\0\0\0\x80\
@@ -23,9 +23,9 @@ const SET_AGAIN: &[u8] = b"\0\0\0\0\x03\0\0\0\
     \xef\xbe\xad\xde\0\0\xc0\x3f\
     \xff\xff\xff\xff\xff\xff\xff\xff";
 
-// Fields that have defaults: a bool that is not its default and one that is, a byte of which each
-// bit is another than in the default, 301 where the default is 300, the default of a word, and a
-// float that differs from its default in the sign.
+// Fields that have defaults: a bool that is not its default, one that is, and a byte whose bits all
+// differ from the default's. The others are 301 where the default is 300, the default of a word,
+// and a float that differs from its default in the sign.
 #[rattlefmt::skip]
 const DEFAULTS: &[u8] = b"\0\0\0\0\x03\0\0\0\
     \x01\xff\x01\0\0\0\0\0\

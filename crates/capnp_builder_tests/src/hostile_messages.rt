@@ -13,7 +13,7 @@ use capnp_object_tests::trees::{chain, doublings, shared_lists, trimmed_chain};
 use capnp_wire::any_pointer;
 use std::process::Abort;
 
-// The kind of an error. One for want of memory is handed back.
+// The kind of an error. An `OutOfMemory` is handed back.
 fn error_of<T: Drop>(returned: Result<T>) -> Result<Option<ErrorKind>> {
     match returned {
         Ok(_) => Ok(None),
@@ -22,13 +22,13 @@ fn error_of<T: Drop>(returned: Result<T>) -> Result<Option<ErrorKind>> {
     }
 }
 
-/// Makes the root of one message that of another.
+/// Sets the root of a message to the root of another one.
 pub fn set<A: Allocator>(message: &mut Builder<A>, reader: &Source<'_>) -> Result<()> {
     let root: any_pointer::Reader<'_, SegmentArray<'_>> = reader.get_root()?;
     message.set_root::<any_pointer::Owned, any_pointer::Reader<'_, SegmentArray<'_>>>(root)
 }
 
-/// The same in canonical form.
+/// Sets it to the canonical form of the other one's root.
 pub fn set_canonical<A: Allocator>(message: &mut Builder<A>, reader: &Source<'_>) -> Result<()> {
     let root: any_pointer::Reader<'_, SegmentArray<'_>> = reader.get_root()?;
     message.set_root_canonical::<any_pointer::Owned, any_pointer::Reader<'_, SegmentArray<'_>>>(

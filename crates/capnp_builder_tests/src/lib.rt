@@ -1,5 +1,5 @@
-//! Worked cases over objects that are built: messages, values, allocators and their regions; and the
-//! calls of builders and allocators. It holds tests alone, by the rules of `capnp_frame_tests`.
+//! Cases of objects that are built: messages, values, allocators and their regions; and the calls
+//! of builders and allocators. The crate holds tests alone, by the rules of `capnp_frame_tests`.
 #![tactic(auto)]
 
 #[cfg(test)]

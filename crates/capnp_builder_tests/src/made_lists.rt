@@ -1,5 +1,5 @@
 //! Lists whose elements are made when they are asked for, set at the root of a message, by bytes
-//! worked from the encoding document, "Lists" and "Canonicalization".
+//! computed by hand from the encoding document, "Lists" and "Canonicalization".
 use crate::values::{compare_by_each, compare_canonical};
 use capnp_frame::Result;
 use capnp_values::{
@@ -7,8 +7,8 @@ use capnp_values::{
 };
 use capnp_wire::{any_struct, struct_list, text, text_list};
 
-// A tag for three structs of a data word and a pointer, the three, and their texts of four bytes,
-// of eight and of the zero byte alone: each pointer leads over the structs after it and the texts
+// A tag for three structs of a data word and a pointer, the structs, and their texts of four bytes,
+// of eight and of the zero byte alone. Each pointer points past the structs after it and the texts
 // before its own.
 #[rattlefmt::skip]
 const PHONES: &[u8] = b"\x01\0\0\0\x37\0\0\0\x0c\0\0\0\x01\0\x01\0\

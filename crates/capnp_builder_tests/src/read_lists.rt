@@ -1,5 +1,5 @@
-//! Lists that were read from one message and are set in another, by worked bytes: what no contract
-//! says, above all that they succeed.
+//! Lists that were read from one message and are set in another, by hand-computed bytes: what no
+//! contract says, above all that they succeed.
 use crate::fixtures::expect;
 use crate::value_lists::{LISTS, NARROW, NO_STRUCTS, PHONES, WIDE};
 use crate::values::{GROUP, NAMES, NO_POINTERS, compare_by_each, compare_canonical, measured};

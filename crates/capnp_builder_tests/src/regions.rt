@@ -1,4 +1,4 @@
-//! Regions that come back from builders, and heaps whose growth fails.
+//! Regions that come back from builders, and heaps after a failed allocation.
 use crate::building::{expect_segments, expect_zeros, set_canonical_text, set_text, text_of};
 use crate::fixtures::expect;
 use crate::hostile_messages::{is_null, set, set_canonical};
@@ -17,7 +17,7 @@ use std::process::Abort;
 
 const LONG: &str = "a text of more words than the region has";
 
-// Why a root is not set to a text; once more where the list of segments could not grow.
+// Why a root is not set to a text; again where the list of segments could not grow.
 fn error_of_root<A: Allocator>(message: &mut Builder<A>, text: &str) -> Option<ErrorKind> {
     match kind_of(set_text(message, text)) {
         Some(ErrorKind::OutOfMemory) => kind_of(set_text(message, text)),
@@ -109,7 +109,7 @@ fn next_segment(heap: &mut HeapAllocator, words: u32) -> Result<Vec<u8>> {
     heap.allocate_segment(words)
 }
 
-// A growth that fails changes nothing: the next request has the same size, and the one after it
+// A failed allocation changes nothing: the next request has the same size, and the one after it
 // twice that.
 #[test]
 fn a_heap_that_fails(rt: HostRuntime) -> Result<()> {

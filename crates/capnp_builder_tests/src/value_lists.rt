@@ -1,5 +1,5 @@
-//! Lists of structs, of numbers and of lists that are set at the root of a message, by bytes worked
-//! from the encoding document, "Lists" and "Canonicalization".
+//! Lists of structs, of numbers and of lists that are set at the root of a message, by bytes
+//! computed by hand from the encoding document, "Lists" and "Canonicalization".
 use crate::values::{compare_by_each, compare_canonical, expect_too_large};
 use capnp_frame::Result;
 use capnp_values::{Field, NoFields, Null, NumberList, PointerList, StructList, StructValue};
@@ -7,14 +7,14 @@ use capnp_wire::primitive_element::PrimitiveElement;
 use capnp_wire::{any_struct, list_list, primitive_list, struct_list, text};
 use std::process::Abort;
 
-/// A tag for two structs of a data word and a pointer, the two, and their texts: the first pointer
-/// leads over the struct after it, the second over the text before its own.
+/// A tag for two structs of a data word and a pointer, the two structs, and their texts: the first
+/// pointer points past the struct after it, the second past the text before its own.
 #[rattlefmt::skip]
 pub(crate) const PHONES: &[u8] = b"\x01\0\0\0\x27\0\0\0\x08\0\0\0\x01\0\x01\0\
     \x01\0\0\0\0\0\0\0\x09\0\0\0\x22\0\0\0\x02\0\0\0\0\0\0\0\x05\0\0\0\x42\0\0\0\
     123\0\0\0\0\04567890\0";
 
-// A number, pointers to two texts and to a list of one struct, and these.
+// A number, pointers to two texts and to a list of one struct, and what these point to.
 #[rattlefmt::skip]
 const PERSON: &[u8] = b"\0\0\0\0\x01\0\x03\0\x09\0\0\0\0\0\0\0\
     \x09\0\0\0\x22\0\0\0\x09\0\0\0\x22\0\0\0\x09\0\0\0\x17\0\0\0\

@@ -1,5 +1,5 @@
-//! Composed values that are set at the root of a message, by bytes worked from the encoding
-//! document, "Structs", "Lists" and "Canonicalization".
+//! Composed values that are set at the root of a message, by bytes computed by hand from the
+//! encoding document, "Structs", "Lists" and "Canonicalization".
 use crate::building::{expect_segments, far_message};
 use crate::fixtures::expect;
 use capnp_build::allocator::Allocator;
@@ -13,11 +13,11 @@ use capnp_wire::traits::SetterInput;
 use capnp_wire::{any_struct, data, text, text_list};
 use std::process::Abort;
 
-// A number and a name: the root's pointer, the number, the pointer to four bytes, and these.
+// A number and a name: the root's pointer, the number, the pointer to four bytes, and the bytes.
 const NAMED: &[u8] = b"\0\0\0\0\x01\0\x01\0\x07\0\0\0\0\0\0\0\x01\0\0\0\x22\0\0\0Ann\0\0\0\0\0";
 
-// A number, and pointers to such a struct, to nothing and to a text: the first leads over the two
-// after it, the last over the struct with its name.
+// A number, and pointers to such a struct, to nothing and to a text: the first points past the two
+// after it, the last past the struct with its name.
 #[rattlefmt::skip]
 const NESTED: &[u8] = b"\0\0\0\0\x01\0\x03\0\x09\0\0\0\0\0\0\0\
     \x08\0\0\0\x01\0\x01\0\0\0\0\0\0\0\0\0\x0d\0\0\0\x1a\0\0\0\
@@ -113,8 +113,8 @@ pub(crate) fn compare_by_each<T, V: SetterInput<T>>(
     compare_in_regions::<T, V>(rt, value, expected)
 }
 
-// A heap whose first segment has the root alone has the value in the next one, after a landing pad
-// that is as the root's pointer would be.
+// In a heap whose first segment has room for the root alone the value is in the next one, after a
+// landing pad that is as the root's pointer would be.
 fn compare_in_heaps<T, V: SetterInput<T>>(
     rt: &(impl Abort + AllocGlobal),
     value: &V,

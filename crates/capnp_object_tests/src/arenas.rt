@@ -1,4 +1,4 @@
-//! Arenas over worked segments, and what views of their roots say.
+//! Arenas over hand-computed segments, and what views of their roots say.
 use capnp_frame::message::{ReaderOptions, ReaderSegments, SegmentArray};
 use capnp_frame::{ErrorKind, Result};
 use capnp_frame_tests::limits::DEFAULT_LIMIT;
@@ -15,7 +15,7 @@ pub type Numbered<T> = std::result::Result<T, u8>;
 /// Segments that are read.
 pub type Arena<'a> = ReaderArena<SegmentArray<'a>>;
 
-/// An arena of segments, of which nothing has been read.
+/// An arena of segments from which nothing has been read.
 pub fn arena_of<'a>(segments: &'a [&'a [u8]], limit: Option<usize>, nesting: i32) -> Arena<'a> {
     let mut options = ReaderOptions::new();
     options

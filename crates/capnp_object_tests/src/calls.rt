@@ -1,5 +1,5 @@
-//! The calls of reading views by worked bytes: what no contract says, above all that they succeed.
-//! Where a growth fails, these tests may fail.
+//! The calls of reading views by hand-computed bytes: what no contract says, above all that they
+//! succeed. Where an allocation fails, these tests may fail.
 mod any_objects;
 mod canonical_messages;
 mod counts;

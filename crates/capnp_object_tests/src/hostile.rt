@@ -1,5 +1,5 @@
-//! What views and walks count, and walks that are led far by few words. What else hostile words lead
-//! to is in `conformance/`.
+//! What views and walks count, and walks that few words make long. What else hostile words may be
+//! read as is in `conformance/`.
 use crate::fixtures::{
     Walked, arena_of, expect, is_canonical, kind_of, root_as_any, root_as_text, size_of,
 };

@@ -1,5 +1,5 @@
-//! Worked cases over objects that are read: hostile pointers, and the calls of views; and what the
-//! tests of builders share with them. It holds tests by the rules of `capnp_frame_tests`.
+//! Cases of objects that are read: hostile pointers, and the calls of views; and what the tests of
+//! builders share with them. The crate holds tests by the rules of `capnp_frame_tests`.
 #![tactic(auto)]
 
 pub mod arenas;

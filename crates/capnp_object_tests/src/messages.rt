@@ -1,4 +1,4 @@
-//! Messages over worked segments, and their canonical words.
+//! Messages over hand-computed segments, and their canonical words.
 use capnp_frame::message::{ReaderOptions, SegmentArray};
 use capnp_frame::{Result, Word};
 use capnp_message::Reader;

@@ -1,4 +1,4 @@
-//! Segments of many objects in few words, by which walks are led far.
+//! Segments of many objects in few words, over which walks are long.
 use capnp_frame::Result;
 use std::alloc::Global;
 
@@ -23,8 +23,8 @@ pub fn chain(alloc: Global, length: usize) -> Result<Vec<u8>> {
     Ok(bytes)
 }
 
-/// Structs of a given number of data words and two pointers, each of which points to the next
-/// struct: a tree of 2^40 - 1 structs.
+/// Structs of a given number of data words and two pointers, both of them to the next struct: a
+/// tree of 2^40 - 1 structs.
 pub fn doublings(alloc: Global, data_words: u16) -> Result<Vec<u8>> {
     let next = TWO + ((data_words as u64) << 32);
     let mut bytes: Vec<u8> = Vec::new(alloc);
@@ -47,7 +47,7 @@ fn append_zeros(bytes: &mut Vec<u8>, words: u16) -> Result<()> {
     Ok(())
 }
 
-/// A list of 65,536 pointers, each of which points to the same list of 8,192 zero words.
+/// A list of 65,536 pointers, all of them to the same list of 8,192 zero words.
 pub fn shared_lists(alloc: Global) -> Result<Vec<u8>> {
     let mut bytes: Vec<u8> = Vec::new(alloc);
     append(&mut bytes, 0x0008_0006_0000_0001)?;

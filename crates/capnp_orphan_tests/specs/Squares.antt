@@ -1,4 +1,4 @@
--- Structs that are made one by one (src/built.rt, `src/errors.rt`).
+-- Structs that are made one by one (src/built.rt, src/errors.rt).
 use Rattle.std.specs.Prelude.{ℕ, ◌*◌, [], ◌∷◌}
 use Rattle.capnp_wire.specs.declared.any_struct.Owned.{Owned}
 use Rattle.capnp_orphans.specs.declared.draft.StructDraft.{StructDraft}

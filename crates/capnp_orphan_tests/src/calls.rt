@@ -1,5 +1,5 @@
-//! The calls by worked bytes: what no contract says, above all that they succeed. Where a growth
-//! fails, these tests may fail.
+//! The calls by hand-computed bytes: what no contract says, above all that they succeed. Where an
+//! allocation fails, these tests may fail.
 mod callers;
 mod cases;
 mod drafts;

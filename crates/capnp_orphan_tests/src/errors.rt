@@ -54,7 +54,7 @@ impl DraftSource<any_struct::Owned, 1, 0> for Many {
     }
 }
 
-/// Why a call failed, if it was.
+/// Why a call failed, if it did.
 pub(crate) fn error_of<T: Drop>(returned: Result<T>) -> Option<ErrorKind> {
     returned.err().map(|error| error.kind)
 }
@@ -73,7 +73,7 @@ fn too_large(number: u32) -> Option<ErrorKind> {
     Some(ErrorKind::AllocationTooLarge(number))
 }
 
-// The orphan's text is where the root leads, and it is as it was.
+// The root points to the orphan's text, which is as it was.
 fn shows(rt: &impl Abort, objects: &Orphanage, wanted: &str) -> Result<()> {
     let message = message_of(objects);
     let text: text::Reader<'_> = message.get_root()?;
@@ -187,7 +187,7 @@ fn strange(rt: &impl AllocGlobal) -> Result<Orphanage> {
     retried!(with_strange(rt, strange))
 }
 
-// The pointer of an orphan of another orphanage leads past the end, and fails where it is read.
+// The pointer of an orphan of another orphanage points past the end, and fails where it is read.
 #[test]
 fn orphans_of_others_do_no_harm(rt: HostRuntime) -> Result<()> {
     let objects = strange(&rt)?;
@@ -249,8 +249,8 @@ fn orphans_of_before_do_no_harm(rt: HostRuntime) -> Result<()> {
     shows(&rt, &objects, "Bob\0\0")
 }
 
-// `rt try --test --fail-alloc N` makes the Nth growth fail: the call returns `OutOfMemory`, what
-// was there before is still there, and the same call succeeds when it is made again.
+// `rt try --test --fail-alloc N` makes the Nth allocation fail: the call returns `OutOfMemory`,
+// what was there before is still there, and the same call succeeds when it is made again.
 #[test]
 fn failed_memory_is_taken_later(rt: HostRuntime) -> Result<()> {
     let mut objects = alice(&rt)?;
@@ -269,8 +269,8 @@ fn add_data(objects: &mut Orphanage) -> Result<()> {
     Ok(())
 }
 
-// Each object in turn after those before it: where a growth fails, what was there before is still
-// there, and the same object is built when it is asked for again.
+// Each object in turn after those before it. Where an allocation fails, what was there before is
+// still there, and the same object is built when it is asked for again.
 #[test]
 fn each_growth_is_taken_later(rt: HostRuntime) -> Result<()> {
     let mut objects = alice(&rt)?;

@@ -1,7 +1,7 @@
 //! Messages that are built in the memory of the one before.
 //!
-//! A message that is no longer takes no more of it: whichever growth fails, only the first one may
-//! lack it.
+//! A message that is no longer takes no more of it: whichever allocation fails, only the first one
+//! may be out of memory.
 use crate::built::{Built, build};
 use crate::fixtures::{empty, expect};
 use capnp_frame::Result;

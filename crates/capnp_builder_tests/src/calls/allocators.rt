@@ -1,4 +1,4 @@
-//! What allocators hand out, and what comes home.
+//! What allocators hand out, and what is given back.
 use crate::fixtures::expect;
 use capnp_build::allocator::Allocator;
 use capnp_build::segment_space::SegmentSpace;

@@ -85,7 +85,7 @@ fn init_error<K: OwnedBuilder>(arena: &mut Words, length: u32) -> (u8, u32) {
     allocation_error(arena.initn_root::<K>(length))
 }
 
-// Of a text that is set: the error as a list, and whether it is read as what it is.
+// For a text that is set: the error as a list, and whether it is read as what it is.
 fn reported_of_hello(arena: &mut Words) -> Result<(u8, bool)> {
     set_text(arena, "hello")?;
     let failed = view_error::<primitive_list::Owned<u64>>(arena);

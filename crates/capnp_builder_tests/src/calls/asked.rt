@@ -79,7 +79,7 @@ fn a_second_segment_is_asked_for(rt: HostRuntime) {
     }
 }
 
-// Longer and longer lists, each of which takes a further segment, until one fails.
+// Longer and longer lists, each in a further segment, until one fails.
 #[test]
 fn each_further_segment_is_asked_for(rt: HostRuntime) -> Result<()> {
     let mut allocator = asked_heap(rt.alloc(), 70);

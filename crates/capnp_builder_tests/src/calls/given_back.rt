@@ -11,7 +11,7 @@ use capnp_wire::text;
 use std::alloc::Global;
 use std::process::Abort;
 
-/// A heap that notes of each segment that comes back its words, and how many of them were used.
+/// A heap that notes, for each segment that comes back, its words and how many of them were used.
 #[derive(Drop)]
 struct Noting {
     heap: HeapAllocator,
@@ -64,9 +64,9 @@ fn noting_heap(alloc: Global) -> Noting {
     }
 }
 
-// Five roots, one after the other: of the first segment the root's word and texts of two words and
-// of one are used; then, after its landing pad each, a list of five words in another segment, and
-// one of nine in a third; at last another word in the first.
+// Five roots, one after the other. In the first segment the root's word and texts of two words and
+// of one are used. Then, after its landing pad each, a list of five words is in another segment,
+// and one of nine in a third; at last another word is used in the first.
 fn build<A: Allocator>(message: &mut Builder<A>) -> Result<()> {
     set_text(message, "Hello, World!")?;
     set_text(message, "hello")?;
@@ -120,7 +120,7 @@ fn each_segment_comes_back_with_the_allocator(rt: HostRuntime) -> Result<()> {
     Ok(())
 }
 
-// Of a message of no segments none comes back; where only the root was looked at, its word was
+// From a message of no segments none comes back; where only the root was looked at, its word was
 // used.
 #[test]
 fn little_comes_back(rt: HostRuntime) -> Result<()> {

@@ -36,7 +36,7 @@ fn has_segment(message: &Builder<HeapAllocator>, wanted: &[u8]) -> bool {
     }
 }
 
-// A root that is set to a value is this segment, as it is and in canonical form.
+// A root that is set to a value is this segment, untrimmed and in canonical form.
 fn expect_set<T, V: SetterInput<T>>(
     rt: &(impl Abort + AllocGlobal),
     case: &str,

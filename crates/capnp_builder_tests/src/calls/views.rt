@@ -51,7 +51,7 @@ const FAR: &[u8] = b"\x02\0\0\0\x01\0\0\0";
 
 const PADDED: &[u8] = b"\x01\0\0\0\x6a\0\0\0hello world!\0\0\0\0";
 
-// A struct of two data words, of which the last is zero, and a text, after a far pointer.
+// A struct of two data words, the last one zero, and a text, after a far pointer.
 const SOURCE: &[&[u8]] = &[
     b"\x02\0\0\0\x01\0\0\0",
     b"\0\0\0\0\x02\0\x01\0\x07\0\0\0\0\0\0\0\0\0\0\0\0\0\0\0\x05\0\0\0\x12\0\0\0\xff\0\0\0\0\0\0\0A\0\0\0\0\0\0\0",

@@ -12,8 +12,9 @@ enum Kind {
     Numbers,
 }
 
-// Segments, and what their roots point to: its kind, its data words or its elements, the bits of an
-// element of a list of numbers, and the first data word or the last number; or how they fail.
+// Segments, and what their roots point to, or how they fail. What they point to is told by its
+// kind, its data words or elements, the bits of an element of a list of numbers, and the first data
+// word or the last number.
 #[rattlefmt::skip]
 const OBJECTS: [(&[u8], Numbered<(Kind, u32, u32, u64)>); 8] = [
     (b"\0\0\0\0\0\0\0\0", Ok((Kind::Null, 0, 0, 0))),

@@ -1,5 +1,5 @@
-//! What each view counts against the traversal limit, by each way to it: the words of what leads
-//! there once, and the landing pads and the words of the object each time that it is viewed.
+//! What each view counts against the traversal limit, by each way to it. The words of what points
+//! there count once, and the landing pads and the words of the object each time that it is viewed.
 mod views;
 
 use crate::calls::counts::views::{Limited, VIEWS, View, views};
@@ -8,9 +8,9 @@ use capnp_frame::Result;
 use std::alloc::Global;
 use std::process::Abort;
 
-// An object as its pointer with the words right after it, and how many words it counts: all that
-// it has, of a list of structs the tag and each word that the pointer counts, and the number of
-// elements of no words.
+// An object as its pointer with the words right after it, and how many words it counts. Those are
+// all the words that it has; for a list of structs the tag and each word that the pointer counts;
+// and for elements of no words their number.
 #[rattlefmt::skip]
 const OBJECTS: [(&[u8], usize); 19] = [
     // structs: of nothing, of two data words and a pointer
@@ -84,7 +84,7 @@ pub enum Asked {
 /// A way to an object.
 pub type Way = (Root, Asked);
 
-// Ways, what is before the object, and how many words are counted of it, once.
+// Ways, what is before the object, and how many words of that are counted, once.
 #[rattlefmt::skip]
 const WAYS: [(Way, &[u8], usize); 26] = [
     ((Root::Pointer, Asked::Pointer), b"", 0),
@@ -138,7 +138,7 @@ fn append(segment: &mut Vec<u8>, first: &[u8], second: &[u8]) -> Result<()> {
     Ok(())
 }
 
-// The words before an object, and it at a place.
+// The words before an object, and the object at a place.
 fn segments_of(alloc: Global, before: &[u8], object: &[u8], place: Placed) -> Result<Segments> {
     let mut first = Vec::new(alloc);
     let mut second = Vec::new(alloc);
@@ -185,8 +185,8 @@ fn expect_within(
     Ok(())
 }
 
-// At the sum of what is counted each view is read, and at one word less the last one is not. Where
-// nothing is counted all are read.
+// Within the sum of what is counted each view is read, and within one word less the last one is
+// not. Where nothing is counted all are read.
 fn expect_counted(
     rt: &impl Abort,
     segments: &Segments,

@@ -1,4 +1,4 @@
-//! Lists of structs of no words, of which there may be many in two words.
+//! Lists of structs of no words: two words may hold many of them.
 use crate::fixtures::{Arena, arena_of, expect};
 use capnp_frame::Result;
 use capnp_wire::canonical::{canonical_bytes, canonical_size};
@@ -6,7 +6,7 @@ use capnp_wire::canonical::{canonical_bytes, canonical_size};
 // A list of 1,073,741,823 structs: the walks over it have no step to take for one of them.
 const EMPTY_STRUCTS: &[u8] = b"\x01\0\0\0\x07\0\0\0\xfc\xff\xff\xff\0\0\0\0";
 
-// The words of the tree, those of its canonical form, and whether the segment is that.
+// The words of the tree, the words of its canonical form, and whether the segment is in that form.
 fn walks(arena: &Arena<'_>) -> Result<(u64, u64, bool)> {
     let root = arena.get_root()?;
     let size = root.target_size()?.word_count;

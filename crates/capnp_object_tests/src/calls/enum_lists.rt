@@ -23,7 +23,7 @@ fn are_values(segment: &[u8]) -> Result<bool> {
     Ok(index == MANY)
 }
 
-// As numbers of two bytes, and as structs of which these are the first field.
+// As numbers of two bytes, and as the first fields of structs.
 #[test]
 fn values_of_long_lists(rt: HostRuntime) -> Result<()> {
     let pairs = list_of_numbers(rt.alloc(), 2, MANY)?;

@@ -113,7 +113,7 @@ fn lists_of_a_list(rt: HostRuntime) -> Result<()> {
     Ok(())
 }
 
-// A view by a struct's segment is counted as any other.
+// A view by a struct's segment counts as any other does.
 #[test]
 fn data_of_an_element(rt: HostRuntime) -> Result<()> {
     let segments = [CONTACTS];

@@ -1,5 +1,5 @@
-//! Lists of numbers with a sign and of fractions (encoding document, "Lists"). Those of bools and of
-//! numbers without a sign are in `conformance/lists.txt`.
+//! Lists of numbers with a sign and of fractions (encoding document, "Lists"). Lists of bools and
+//! of numbers without a sign are in `conformance/lists.txt`.
 use crate::fixtures::{expect, plain_arena};
 use capnp_frame::Result;
 use capnp_wire::primitive_element::PrimitiveElement;

@@ -1,5 +1,5 @@
-//! What pointer words point to, by words worked from the encoding document, "Structs", "Lists" and
-//! "Inter-Segment Pointers".
+//! What pointer words point to, by words computed by hand from the encoding document, "Structs",
+//! "Lists" and "Inter-Segment Pointers".
 use crate::fixtures::expect;
 use capnp_wire::pointer_word::{LocalShape, local_shape};
 

@@ -54,8 +54,8 @@ fn sizes_without_a_limit(rt: HostRuntime) {
     }
 }
 
-// A hundred structs of one pointer, each to the next word's one, and a null pointer in the last:
-// deeper than the 64 that a reader's options allow.
+// A hundred structs of one pointer, each to the pointer in the next word, and a null pointer in the
+// last: deeper than the 64 that a reader's options allow.
 #[test]
 fn a_tree_deeper_than_the_default(rt: HostRuntime) {
     let mut words = [[0, 0, 0, 0, 0, 0, 1, 0]; 101];

@@ -36,7 +36,7 @@ fn a_text_as_a_value(rt: HostRuntime) -> Result<()> {
 // A struct of two words and a null pointer.
 const LOOSE: &[u8] = b"\0\0\0\0\x02\0\x01\0\x05\0\0\0\0\0\0\0\0\0\0\0\0\0\0\0\0\0\0\0\0\0\0\0";
 
-// A tree as it is keeps its trailing words.
+// An untrimmed tree keeps its trailing words.
 #[test]
 fn a_tree_as_a_value(rt: HostRuntime) -> Result<()> {
     let segments = [LOOSE];
@@ -92,7 +92,7 @@ fn a_trimmed_struct_as_a_value(rt: HostRuntime) -> Result<()> {
     Ok(())
 }
 
-// Two pointers to one struct, and what these are as a tree.
+// Two pointers to one struct, and the same as a tree.
 const SHARED: &[u8] = b"\0\0\0\0\0\0\x02\0\x04\0\0\0\x01\0\0\0\0\0\0\0\x01\0\0\0\x09\0\0\0\0\0\0\0";
 
 const APART: &[u8] =

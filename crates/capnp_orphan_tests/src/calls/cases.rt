@@ -1,4 +1,4 @@
-//! Segments that are built beside their bytes, which are worked out by hand from the encoding
+//! Segments that are built, compared with bytes that are computed by hand from the encoding
 //! document.
 use crate::built::{Built, build};
 use crate::errors::error_of;
@@ -25,7 +25,7 @@ const CASES: [Case; 16] = [
     (Built::Doubles, 2, b"\x01\0\0\0\x15\0\0\0\0\0\0\0\0\0\xf0\x3f\0\0\0\0\0\0\0\xc0"),
     // The offset is -1.
     (Built::EmptyStruct, 1, b"\xfc\xff\xff\xff\0\0\0\0"),
-    // The struct is words 2 to 4, and its first pointer leads back to word 1: the offset is -3.
+    // The struct is words 2 to 4, and its first pointer points back to word 1: the offset is -3.
     (Built::Struct, 3, b"\x04\0\0\0\x01\0\x02\0hi\0\0\0\0\0\0\x01\0\0\0\x7b\0\0\0\xf5\xff\xff\xff\x1a\0\0\0\0\0\0\0\0\0\0\0"),
     (Built::Masked, 1, b"\0\0\0\0\x01\0\0\0\0\x01\0\0\0\0\0\0"),
     // The list is words 2 to 4: the offsets are -2 and -4.

@@ -121,7 +121,7 @@ fn long_lists_of_objects(rt: HostRuntime) -> Result<()> {
 }
 
 // The root's pointer to a struct after a text, the text, the struct's number, and its pointer,
-// which leads over the number to the text.
+// which points back past the number to the text.
 fn segment_of(alloc: Global, index: u32) -> Result<Vec<u8>> {
     let mut segment: Vec<u8> = Vec::new(alloc);
     append(&mut segment, 0x0001_0001_0000_0004)?;

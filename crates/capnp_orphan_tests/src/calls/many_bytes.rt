@@ -3,7 +3,7 @@ use crate::fixtures::{empty, expect};
 use capnp_frame::Result;
 use capnp_frame_tests::long_lists::{append, list_of_numbers};
 
-// The root's pointer to the last of five objects of 125,000 words: over four of them to 1,000,000
+// The root's pointer to the last of five objects of 125,000 words: past four of them to 1,000,000
 // bytes.
 const ROOT: u64 = 0x007a_1202_001e_8481;
 

@@ -84,7 +84,7 @@ type Lists<'a, T> = list_list::Reader<'a, Segments<'a>, T>;
 
 type UpgradedLists<'a, T> = ListList<'a, Segments<'a>, T>;
 
-/// Three views of one kind, one after the other, of the object to which a way leads.
+/// Three views of one kind, one after the other, of the object that a way ends at.
 pub fn views<'a>(arena: &'a Arena<'a>, way: Way, view: View) -> Result<Limited> {
     match view {
         View::Text => views_as::<text::Reader<'a>>(arena, way),
@@ -197,7 +197,7 @@ fn there<T>(element: Option<T>) -> Result<T> {
     }
 }
 
-// The pointer to which a way leads.
+// The pointer that a way ends at.
 fn pointer_by<'a>(arena: &'a Arena<'a>, root: Root) -> Result<Pointer<'a>> {
     match root {
         Root::Pointer => arena.get_root(),
@@ -217,7 +217,7 @@ fn pointer_by<'a>(arena: &'a Arena<'a>, root: Root) -> Result<Pointer<'a>> {
     }
 }
 
-// The struct to which a way leads.
+// The struct that a way ends at.
 fn struct_by<'a>(arena: &'a Arena<'a>, root: Root) -> Result<Struct<'a>> {
     match root {
         Root::Structs => {

@@ -95,8 +95,8 @@ pub fn with_email<R: ReaderSegments, S: GrowingSegment>(
     made.add_root(objects)
 }
 
-/// Writes a person with another email, and of what the old pointers point to the name and the phones
-/// alone: the old email is nowhere in the message.
+/// Writes a person with another email. Of what the old pointers point to it copies the name and the
+/// phones alone, so the old email is nowhere in the message.
 pub fn with_email_alone<R: ReaderSegments, S: GrowingSegment>(
     read: &person::Reader<'_, R>,
     email: &str,

@@ -175,7 +175,7 @@ fn a_copy_without_room(rt: HostRuntime) -> Result<()> {
     Ok(())
 }
 
-// A circle that becomes a rectangle, of which nothing was set.
+// A circle that becomes a rectangle in which nothing was set.
 fn rectangle(alloc: Global) -> Result<Orphanage> {
     let mut objects = Orphanage::new(alloc)?;
     let mut made = shape::Builder::new();

@@ -1,5 +1,5 @@
 //! What made getters count against the traversal limit: the words of what points to a struct once,
-//! and those of what a getter views each time.
+//! and the words of what a getter views each time.
 use crate::addressbook_capnp::person::phone_number;
 use crate::addressbook_capnp::{address_book, person};
 use crate::calls::schema_types::people::BOOK;
@@ -48,7 +48,7 @@ enum Getter {
     Right,
 }
 
-// Getters, messages, the words that are counted before, and those of what is viewed.
+// Getters, messages, the words that are counted before, and the words of what is viewed.
 #[rattlefmt::skip]
 const CASES: [(Getter, &[u8], usize, usize); 21] = [
     // after the root's thirteen words
@@ -201,8 +201,8 @@ fn expect_within(
     Ok(())
 }
 
-// At the sum of what is counted each call returns a view, and at one word less the last one does
-// not. Where nothing is counted all do.
+// Within the sum of what is counted each call returns a view, and within one word less the last one
+// does not. Where nothing is counted all do.
 fn expect_counted(
     rt: &impl Abort,
     call: (Getter, &[u8]),

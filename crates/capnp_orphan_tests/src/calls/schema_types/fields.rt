@@ -10,7 +10,7 @@ use capnp_frame::Result;
 use capnp_orphans::{Orphan, Orphanage};
 use std::process::Abort;
 
-// The sample of which the C++ tool wrote `FILLED`.
+// The sample that the C++ tool wrote as `FILLED`.
 fn filled(objects: &mut Orphanage) -> Result<sample::Builder> {
     let mut made = sample::Builder::new();
     set_numbers(&mut made);

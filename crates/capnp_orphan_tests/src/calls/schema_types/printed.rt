@@ -1,5 +1,5 @@
-//! Structs as text, by the method that the schema compiler writes with `print`. The lines are those of
-//! `capnp decode --short`, but where it has none, those of docs/COMPILER.md.
+//! Structs as text, by the method that the schema compiler writes with `print`. The lines are as
+//! `capnp decode --short` writes them, and where it has none, as docs/COMPILER.md says.
 use crate::calls::schema_types::shown::message_of;
 use crate::printed_capnp::printed;
 use capnp_frame::message::SegmentArray;
@@ -54,7 +54,7 @@ const NESTED: &[u8] = &[
     154, 153, 153, 153, 153, 153, 185, 63,
 ];
 
-// Of one data word: an enumerant that the schema doesn't name, and a member of the union whose
+// In one data word: an enumerant that the schema doesn't name, and a member of the union whose
 // pointer is null and has a default.
 #[rattlefmt::skip]
 const UNNAMED: &[u8] = &[

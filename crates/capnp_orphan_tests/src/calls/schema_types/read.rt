@@ -8,10 +8,10 @@ use capnp_frame::Result;
 use capnp_frame::message::{ReaderOptions, ReaderSegments, SegmentArray};
 use capnp_wire::arena::ReaderArena;
 
-// (count = 7, balance = 12, isReady = true, title = "A title", payload = 0x"01 02 ff", points = [(x
-// = 1, y = -2), (x = 3)], numbers = [5, 6, 4294967295], origin = (x = -9, y = 9), color = deepBlue,
-// window = (width = 80, height = 24), label = "here", ratio = -2.5, note = "some", target = (y =
-// 8))
+// `(count = 7, balance = 12, isReady = true, title = "A title", payload = 0x"01 02 ff", points =
+// [(x = 1, y = -2), (x = 3)], numbers = [5, 6, 4294967295], origin = (x = -9, y = 9), color =
+// deepBlue, window = (width = 80, height = 24), label = "here", ratio = -2.5, note = "some", target
+// = (y = 8))`
 #[rattlefmt::skip]
 pub(crate) const FILLED: &[u8] = &[
     0, 0, 0, 0, 4, 0, 9, 0,
