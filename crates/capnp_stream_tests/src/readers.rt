@@ -78,7 +78,7 @@ fn room_of(reader: Reader) -> usize {
     }
 }
 
-/// Whether a source that need not show bytes is read rightly by the framed calls.
+/// Whether the framed calls read this source as expected; it need not show bytes.
 pub fn is_read<R: Read>(
     alloc: Global,
     (rule, reader): (Padding, Reader),
@@ -144,7 +144,7 @@ pub fn is_read<R: Read>(
     }
 }
 
-// Whether a source is read rightly by the packed calls.
+// Whether the packed calls read this source as expected.
 fn is_unpacked<R: BufRead>(
     alloc: Global,
     (rule, reader): (Padding, Reader),

@@ -17,7 +17,7 @@ pub root_denotes : (spaces : List Space) (shape : Shape) → PointsTo (message s
 root_denotes [] shape points = absurd (word_of_object [] root shape refl points)
 root_denotes (space ∷ spaces) shape points = at_place refl points (λ some. omega arith)
 
--- and a view is had of it that takes it
+-- so a view that takes its form accepts it
 pub root_accepts : (spaces : List Space) (form : Form) (takes : Form → Type 0) → HasRootForm spaces form → takes form → Accepts (unlimited_root (map used_of spaces)) takes
 root_accepts spaces form takes (traversed, at {shape = shape} points inside others) taken = (shape, root_denotes spaces shape points, taken)
 
@@ -32,7 +32,7 @@ root_is_read spaces form fact is_at read =
     let shown = root_is_shown spaces form (λ shape. fact shape.form × Within None shape.traversed) is_at read in
     subst fact shown.1 shown.2.0
 
--- what a pointer to a root stands for is what is there
+-- a pointer at a root denotes the object that is there
 denotes_root : (pointer : Pointer) (shape other : Shape) → pointer.place ≡ Some root → Denotes pointer other → PointsTo pointer.message root shape → other ≡ shape
 denotes_root pointer shape other is (nowhere absent) points = cc
 denotes_root pointer shape other is (at_place {place = place} there is_at deep) points =

@@ -42,7 +42,7 @@ external_or kind (inl device) = inl (inl device)
 external_or kind (inr (inl memory)) = inl (inr memory)
 external_or kind (inr (inr other)) = inr other
 
--- What the reader of the next message returns of these bytes, it returns of the first message.
+-- What the reader of the next message returns of these bytes is what `ReadsFirst` says.
 first_of_bytes : {S : Type 0} (source : Ghosts S) (old new : S) (format : Format) (limit : Option ℕ) (r : Result (Option (List (List ℕ))) Error) (bytes : List ℕ)
     → source.unread old ≡ Some bytes → ReturnsEncodings (grammar_of Zero format) limit (source.unread old) (source.unread new) r
     → ReadsStream source old new (rules_of Zero format) limit r → ReadsFirst format limit r bytes

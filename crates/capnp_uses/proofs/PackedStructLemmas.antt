@@ -60,7 +60,7 @@ no_struct_error encoding segments left pointer kind same begins form_errors =
     let at_root = subst (λ (p : Pointer). NoWord p.message root kind ⊎ ViewError p StructFormError kind) same form_errors in
     inr (inr (inr (segments, left, begins, at_root)))
 
--- and is at the front of its encoding
+-- a packed message is at the front of its encoding
 pub begins_packed : (limit : Option ℕ) (message : List (List ℕ)) (encoding : List ℕ) → IsWritable message → IsWithinSegmentLimit message → KeepsLimit (lengths message) limit
     → IsPackedEncodingOf message encoding → BeginsPacked Zero limit message encoding []
 begins_packed limit message encoding writable few size packed = record {

@@ -20,7 +20,7 @@ any_here P x xs holds = (0, x, omega arith, refl, holds)
 any_next : {X : Type 0} (P : X → Type 0) (x : X) (xs : List X) → Any P xs → Any P (x ∷ xs)
 any_next P x xs (k, y, below, is, holds) = (suc k, y, omega (arith, below), is, holds)
 
--- each of these failures is one of those
+-- whatever is an error by `fails` is one by `fact`
 abbrev pub Blames : (ErrorKind → Type 0) → (ErrorKind → Type 0) → Type 0
 Blames fails fact = (kind : ErrorKind) → fails kind → fact kind
 
