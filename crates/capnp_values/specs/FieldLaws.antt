@@ -1,4 +1,4 @@
--- The trees of fields have room, and are as many as the number of fields (src/fields/).
+-- The trees of fields have room, and there is one for each field (src/fields/).
 use Rattle.std.specs.Prelude.{◌≡◌, ℕ, ◌+◌, refl}
 use Rattle.std.proofs.Common.{arith, sym, subst}
 use Rattle.capnp_layout.specs.Prelude.{Trees, none}

@@ -5,7 +5,7 @@ use Rattle.capnp_layout.specs.Tree.{is_null}
 use Rattle.capnp_layout.specs.Prelude.{Form, Trees, none, tree, count, total_words, cut_nulls, first, trim, run, output, AllHaveRoom, fill}
 use Rattle.capnp_wire.specs.Prelude.{HasWords, WordsError}
 
--- a value is this tree, which has room, and has fewer than 2 ^ 29 words as it is
+-- a value is this tree, which has room, and has fewer than 2 ^ 29 words untrimmed
 pub record IsPart (has_tree : Trees → Type 0) (form : Form) (children : Trees) : Type 0 where
   pub tree_is : has_tree (tree form children none)
   pub rooms : AllHaveRoom (tree form children none)
@@ -20,25 +20,24 @@ pub record IsValueInFront (has_tree has_trees : Trees → Type 0) (trees : Trees
   pub part : IsPart has_tree form children
   pub others : has_trees rest
 
--- its first value, or the first of the others that fails, has no tree, or one of too many words as
--- it is
+-- the first value that fails has no tree, or has one with too many words untrimmed
 abbrev pub FieldsError : (Trees → Type 0) → (ErrorKind → Type 0) → (ErrorKind → Type 0) → ErrorKind → Type 0
 FieldsError has_tree fails rest_fails kind =
     WordsError has_tree fails false kind
     ⊎ ((words : ℕ) × HasWords has_tree false words × rest_fails kind)
 
--- this many trees
+-- this many trees, each with room and of few words
 pub record IsSettled (size : ℕ) (trees : Trees) : Type 0 where
   pub many : count trees ≡ size
   pub rooms : AllHaveRoom trees
   pub few : total_words trees ≤ size * 2 ^ 29
 
--- the pointers that are kept of fields: in canonical form without nulls at the end
+-- the pointers of fields that are kept: in canonical form without nulls at the end
 abbrev pub kept_fields : Bool → Trees → Trees
 kept_fields true trees = cut_nulls (trim trees)
 kept_fields false trees = trees
 
--- A value is left out where n pointers are kept after it: in canonical form a null one, where it keeps none.
+-- A value in front of n kept pointers is left out: in canonical form, where it is null and n is 0.
 abbrev pub is_left_out : Bool → ℕ → Form → Bool
 is_left_out true zero form = is_null form
 is_left_out true (suc n) form = false
@@ -56,7 +55,7 @@ pub record CanWriteFields (has_trees : Trees → Type 0) (canonical : Bool) (n n
   pub fits : next + total_words (first n (output canonical trees)) ≤ room
 
 -- the first n pointers of fields are in the slots of a block from this one on, and what they point to
--- is in its words from `next` on, up to the first free one
+-- is in its words from `next` on, up to the first free word
 pub record AreFieldsWritten (has_trees : Trees → Type 0) (canonical : Bool) (slot n next : ℕ) (old new : List ℕ) (free : ℕ) : Type 0 where
   pub words_are : (trees : Trees) → has_trees trees → new ≡ fill (run slot n) next (first n (output canonical trees)) old
   pub next_is : (trees : Trees) → has_trees trees → free ≡ next + total_words (first n (output canonical trees))

@@ -8,6 +8,6 @@ use Rattle.capnp_layout.specs.Prelude.{numbers, Trees, none, tree}
 abbrev pub IsNumberList : ℕ → List ℕ → Trees → Type 0
 IsNumberList code bits trees = (length bits < 2 ^ 29) × (trees ≡ tree (numbers code bits) none none)
 
--- a pointer can't say that there are this many elements
+-- a pointer can't declare this many elements
 abbrev pub ManyNumbers : ℕ → ErrorKind → Type 0
 ManyNumbers n kind = (2 ^ 29 ≤ n) × (kind ≡ AllocationTooLarge (min n (2 ^ 32 - 1)))

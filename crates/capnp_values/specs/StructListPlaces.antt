@@ -4,7 +4,7 @@ use Rattle.capnp_layout.specs.Prelude.{Trees}
 use Rattle.capnp_values.specs.Fields.{CanWriteFields}
 use Rattle.capnp_values.specs.StructLists.{HasRoomForElements}
 
--- a pointer and a tag can say that there are n structs of d data words and p pointers
+-- a pointer and a tag can declare n structs of d data words and p pointers
 pub record AreDeclared (n d p : ℕ) : Type 0 where
   pub few_words : d < 2 ^ 16
   pub few_pointers : p < 2 ^ 16

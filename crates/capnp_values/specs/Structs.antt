@@ -13,7 +13,7 @@ pub record IsStructTree (words : List ℕ) (size : ℕ) (has_trees : Trees → T
   pub few_pointers : size < 2 ^ 16
   pub whole : trees ≡ tree (struct words) children none
 
--- a pointer can't say that there are this many words or pointers, or the fields fail
+-- a pointer can't declare this many words or pointers, or the fields fail
 abbrev pub StructError : ℕ → ℕ → (ErrorKind → Type 0) → ErrorKind → Type 0
 StructError words size fails kind =
     ((2 ^ 16 ≤ words ⊎ 2 ^ 16 ≤ size) × (kind ≡ AllocationTooLarge (2 ^ 16)))

@@ -1,4 +1,4 @@
-//! Values that are borrowed.
+//! Borrowed values.
 ghost use Rattle.std.specs.Prelude.{◌≡◌};
 
 mod sections;
@@ -6,7 +6,7 @@ mod sections;
 use capnp_frame::Result;
 use capnp_wire::traits::{Copied, SetterInput, TreeWords};
 
-/// A borrowed value, which can be set more than once, or be a part of more than one value.
+/// A borrowed value: it can be set more than once, and be a part of more than one value.
 #[derive(Clone, Copy)]
 pub struct Borrowed<'a, V> {
     /// The value.
@@ -22,7 +22,7 @@ impl<'a, V> Borrowed<'a, V> {
     }
 }
 
-// The tree of the value.
+// Has the tree of the value.
 impl<'a, T, V: SetterInput<T>> SetterInput<T> for Borrowed<'a, V> {
     ghost has_tree = { λ value trees. V.has_tree value.value.now trees };
 

@@ -1,4 +1,4 @@
-//! Fields of the data sections of structs that are values (encoding document, "Structs").
+//! The data sections of structs as values, and their fields (encoding document, "Structs").
 ghost use Rattle.std.specs.Prelude.{◌≡◌, ◌+◌, ◌*◌, ◌/◌, ◌%◌, ◌^◌, ◌<◌, ◌≤◌, bit_xor, length};
 ghost use Rattle.capnp_layout.specs.Prelude.{width};
 ghost use Rattle.capnp_values.specs.DataSections.{with_bits, with_field};
@@ -23,7 +23,7 @@ impl<const D: usize, F> StructValue<D, F> {
     }
 
     /// The struct with this number in a field that has a default, at an offset in units of the
-    /// field's own width. The data section gets the bits of the number XORed with those of the
+    /// field's own width. The data section gets the bits of the number XORed with the bits of the
     /// default.
     #[tactic(auto, using(std::proofs::lemmas::Nat::xor_lt))]
     #[inline(always)]
@@ -47,7 +47,7 @@ impl<const D: usize, F> StructValue<D, F> {
 
 /// Puts bits into a field of this width, which lies within one word.
 ///
-/// Speed: inlined, it is a few instructions where the offset is known.
+/// Speed: where the offset is known, inlining leaves a few instructions.
 #[inline(always)]
 pub fn put_field(words: &mut [u64], width: u64, offset: u32, bits: u64)
     requires within { width * (offset + 1) ≤ 64 * length words.old }
@@ -64,7 +64,7 @@ pub fn put_field(words: &mut [u64], width: u64, offset: u32, bits: u64)
     }
 }
 
-// A word with some of its bits replaced, from this bit on.
+// A word with `width` of its bits replaced, from the bit `start` on.
 #[inline(always)]
 fn put_bits(word: u64, start: u64, width: u64, bits: u64) -> u64
     requires some { 0 < width }

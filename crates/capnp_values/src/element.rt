@@ -4,13 +4,13 @@ ghost use Rattle.std.specs.Prelude.{◌≡◌, ℕ, ◌^◌, ◌<◌, List, All,
 /// A struct that can be an element of a list: its data words, in addition to its
 /// [`Fields`](crate::fields::Fields).
 pub trait Element {
-    /// How many data words each has, for contracts.
+    /// How many data words each element has, for contracts.
     ghost data_words: { ℕ };
 
     /// The words of its data section, for contracts.
     ghost words: { Self → List ℕ };
 
-    /// How many data words each has.
+    /// How many data words each element has.
     fn data_words() -> usize
         ensures { result ≡ data_words };
 

@@ -26,8 +26,8 @@ pub trait Fields {
     /// With which errors the fields fail: a value has no tree, or a tree of 2^29 words or more.
     ghost fails: { Self → ErrorKind → Type 0 };
 
-    /// The number of pointer fields; 2^16, more than a struct may have, where there are more than
-    /// that.
+    /// The number of pointer fields. Where there are more than 2^16 it is 2^16, which is more than
+    /// a struct may have.
     fn count() -> u32
         ensures { result ≡ min size (2 ^ 16) };
 
@@ -38,7 +38,7 @@ pub trait Fields {
         requires { size < 2 ^ 16 }
         ensures { MeasuresValue (has_trees self.now) (fails self.now) canonical result };
 
-    /// The number of words of all that the pointers point to, with each value as it is.
+    /// The number of words of all that the pointers point to, with each value untrimmed.
     ///
     /// Fails with a kind that `fails` names.
     fn untrimmed(&self) -> Result<u64>
@@ -54,15 +54,15 @@ pub trait Fields {
         Ok(words.untrimmed)
     }
 
-    /// How many pointers are kept, as they are or in canonical form.
+    /// How many pointers are kept, untrimmed or in canonical form.
     fn kept(&self, canonical: bool) -> u32
         requires { size < 2 ^ 16 }
         ensures kept { (trees : Trees) → has_trees self.now trees →
             result ≡ count (kept_fields canonical trees) }
         ensures bound { result ≤ size };
 
-    /// Writes the first of the pointers into a block, from this slot on, and what they point to
-    /// into the words from `next` on, which are zero. Returns the first word after that.
+    /// Writes the first `count` pointers into a block, from the word `slot` on, and what they point
+    /// to into the words from `next` on, which are zero. Returns the first word after that.
     fn write(
         &self,
         canonical: bool,

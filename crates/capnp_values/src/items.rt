@@ -1,4 +1,4 @@
-//! Values of one type, one after the other: how many words they have, and how they are written.
+//! Consecutive values of one type: how many words they have, and how they are written.
 ghost use Rattle.std.specs.Prelude.{◌≡◌, ◌+◌, ◌<◌, ◌≤◌, ◌^◌, false, length};
 ghost use Rattle.capnp_layout.specs.Prelude.{words_of};
 ghost use Rattle.capnp_wire.specs.Prelude.{IsFreeFrom};
@@ -11,9 +11,9 @@ use capnp_frame::Result;
 use capnp_layout::pointer_word::put_word;
 use capnp_wire::traits::{SetterInput, TreeWords};
 
-/// The number of words of all these values, as they are and in the form that is written.
+/// The number of words of all these values, untrimmed and in the form that is written.
 ///
-/// Fails as the first of them does that fails as it is.
+/// Fails as the first value does that fails untrimmed.
 pub(crate) fn measure_items<T, S: ValueSource<T>>(items: &S, canonical: bool) -> Result<TreeWords>
     requires { length (S.items items.now) < 2 ^ 29 }
     ensures { MeasuresValue (AreItems (S.has_tree items.now) (S.items items.now))
@@ -35,7 +35,7 @@ pub(crate) fn measure_items<T, S: ValueSource<T>>(items: &S, canonical: bool) ->
     Ok(words)
 }
 
-// The number of words of all these values, of which no canonical form is written.
+// The number of words of all these values, where no canonical form is written.
 // Speed: one sum serves for both numbers, and stays in a register (`tools/time-building`).
 fn untrimmed_items<T, S: ValueSource<T>>(items: &S) -> Result<TreeWords>
     requires { length (S.items items.now) < 2 ^ 29 }
@@ -55,8 +55,8 @@ fn untrimmed_items<T, S: ValueSource<T>>(items: &S) -> Result<TreeWords>
     })
 }
 
-/// Writes the pointers to some values into a block, from this word on, and the values after these
-/// pointers, where the block is zero. Returns the first word after the values.
+/// Writes pointers to these values into a block, from a word on, and the values themselves after
+/// them, where the block is zero. Returns the first word after the values.
 pub(crate) fn write_items<T, S: ValueSource<T>>(
     items: &S,
     canonical: bool,

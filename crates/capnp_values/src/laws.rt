@@ -3,7 +3,7 @@ ghost use Rattle.std.specs.Prelude.{◌≡◌, ◌⊎◌, ◌+◌, ◌*◌, ◌<
 ghost use Rattle.capnp_wire.specs.Prelude.{field};
 ghost use Rattle.capnp_values.specs.DataSections.{with_field};
 
-/// A field has the bits that it is set to.
+/// A field that is set has the bits that it was set to.
 pub fn field_is_what_was_set()
     ensures { (words : List ℕ) (width offset bits : ℕ) → All (λ word. word < 2 ^ 64) words →
         width * (offset + 1) ≤ 64 * length words → bits < 2 ^ width →
@@ -19,7 +19,7 @@ pub fn other_fields_stay()
         field (with_field words width offset bits) other at ≡ field words other at }
 {}
 
-/// Words in which a field is set are as many words as before.
+/// Setting a field of some words leaves as many words, each below 2^64.
 pub fn words_stay_words()
     ensures { (words : List ℕ) (width offset bits : ℕ) →
         (length (with_field words width offset bits) ≡ length words)

@@ -1,4 +1,4 @@
-//! Lists of pointers whose values are made only when they are needed.
+//! Lists of pointers to values that are made only when they are needed.
 ghost use Rattle.std.specs.Prelude.{◌≡◌};
 
 use crate::items::write_items;
@@ -12,8 +12,8 @@ use capnp_wire::list_list::Owned;
 use capnp_wire::traits::{Copied, SetterInput, TreeWords};
 use std::marker::PhantomData;
 
-/// A list whose elements are pointers, each set to a value that is made only when it is needed
-/// (encoding document, "Lists"), so no two of the values need be in memory at once.
+/// A list of pointers, each set to a value that is made only when it is needed, so that no two
+/// values need be in memory at once (encoding document, "Lists").
 #[derive(Drop)]
 pub struct LazyPointerList<T, S> {
     /// What makes the values.
@@ -35,7 +35,7 @@ impl<T, S> LazyPointerList<T, S> {
     }
 }
 
-// The trees of the source's values, in order. It fails as a list of these values in memory does.
+// Has the trees of the source's values, in order. Fails as a list of these values in memory does.
 impl<T, S: ValueSource<T>> SetterInput<Owned<T>> for LazyPointerList<T, S> {
     ghost use Rattle.capnp_layout.specs.Tree.{count};
     ghost use Rattle.capnp_values.specs.Lists.{IsPointerListTree, PointerListError};

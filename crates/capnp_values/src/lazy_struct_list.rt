@@ -1,4 +1,4 @@
-//! Lists of structs whose elements are made only when they are needed.
+//! Lists of structs that are made only when they are needed.
 ghost use Rattle.std.specs.Prelude.{◌≡◌};
 
 use crate::element::Element;
@@ -11,8 +11,8 @@ use capnp_layout::limits::checked_word_count;
 use capnp_wire::struct_list::Owned;
 use capnp_wire::traits::{Copied, SetterInput, TreeWords};
 
-/// A list whose elements are structs of one size, each made only when it is needed (encoding
-/// document, "Lists"), so no two of them need be in memory at once.
+/// A list of structs of one size, each made only when it is needed, so that no two of them need be
+/// in memory at once (encoding document, "Lists").
 #[derive(Drop)]
 pub struct LazyStructList<S> {
     /// What makes the structs.
@@ -28,7 +28,7 @@ impl<S> LazyStructList<S> {
     }
 }
 
-// The data words of the source's structs, with the trees of their fields, in order. It fails as a
+// Has the data words of the source's structs and the trees of their fields, in order. Fails as a
 // list of these structs in memory does.
 impl<S: StructSource> SetterInput<Owned> for LazyStructList<S> {
     ghost use Rattle.capnp_layout.specs.Tree.{count};

@@ -1,9 +1,9 @@
 //! Composed values: structs of data words and of further values.
 //!
 //! A [`StructValue`] has the words of a struct's data section, and [`Fields`] for its pointer
-//! section ([encoding document], "Structs"). Each is a
-//! [`SetterInput`](capnp_wire::traits::SetterInput), so the root of a message can be set to it as
-//! to any other value. A value borrows its parts, and takes no memory.
+//! section ([encoding document], "Structs"). Composed values are
+//! [`SetterInput`](capnp_wire::traits::SetterInput)s, so the root of a message can be set to one
+//! as to any other value. A value borrows its parts, and takes no memory.
 //!
 //! [encoding document]: https://capnproto.org/encoding.html
 #![tactic(auto)]

@@ -7,7 +7,7 @@ use capnp_frame::Result;
 use capnp_layout::limits::checked_word_count;
 use capnp_wire::traits::TreeWords;
 
-/// The words of some trees and of others.
+/// The words of some trees and others together.
 pub(crate) fn both(words: TreeWords, others: TreeWords) -> TreeWords
     requires untrimmed { words.untrimmed + others.untrimmed < 2 ^ 64 }
     requires output { words.output + others.output < 2 ^ 64 }
@@ -20,7 +20,7 @@ pub(crate) fn both(words: TreeWords, others: TreeWords) -> TreeWords
 }
 
 /// Returns the words of a part of a value. Fails with `AllocationTooLarge` where it has 2^29 words
-/// or more as it is.
+/// or more untrimmed.
 pub(crate) fn checked_part_words(words: TreeWords) -> Result<TreeWords>
     ensures { MatchResult result (λ part. (part ≡ words) × (words.untrimmed < 2 ^ 29))
         (λ error. (2 ^ 29 ≤ words.untrimmed) × (error.kind ≡ too_large false words.untrimmed)) }

@@ -25,7 +25,7 @@ impl<'a, N> NumberList<'a, N> {
     }
 }
 
-// The bits of each number, in order. 2^29 numbers and more fail with `AllocationTooLarge`.
+// Has the bits of each number, in order. Fails with `AllocationTooLarge` for 2^29 numbers or more.
 impl<'a, N: PrimitiveElement + Copy> SetterInput<Owned<N>> for NumberList<'a, N> {
     ghost use Rattle.capnp_layout.specs.Tree.{count};
     ghost use Rattle.capnp_values.specs.NumberLists.{IsNumberList, ManyNumbers};
@@ -72,7 +72,7 @@ fn words_of_list<N: PrimitiveElement>(count: u32) -> u32
     size.words_of_list(count) as u32
 }
 
-// Each number has no more bits than its type has.
+// No number has more bits than its type.
 fn numbers_fit<N: PrimitiveElement + Copy>(items: &[N])
     ensures { All (λ bits. bits < 2 ^ width N.code) (map N.bits_of items.now) }
 {
@@ -98,8 +98,8 @@ fn put_numbers<N: PrimitiveElement + Copy>(items: &[N], block: &mut [u8])
     }
     let each = 64 / size.bits() as usize;
     let full = items.len() / each;
-    // Speed: full words have a loop of their own, each of as many numbers, which the compiler
-    // unrolls (lists of ten numbers).
+    // Speed: full words have a loop of their own. Each has the same number of elements, so the
+    // compiler unrolls their loop (lists of ten numbers).
     for index in 0..full {
         let first = index * each;
         let word = word_of_numbers(&items[first..first + each]);
@@ -111,7 +111,7 @@ fn put_numbers<N: PrimitiveElement + Copy>(items: &[N], block: &mut [u8])
     }
 }
 
-// The word of some numbers, the first one in its lowest bits.
+// The word that these numbers make, the first one in its lowest bits.
 fn word_of_numbers<N: PrimitiveElement + Copy>(items: &[N]) -> u64
     requires { length items.now * width N.code ≤ 64 }
     ensures { result ≡ number_of (2 ^ width N.code) (map N.bits_of items.now) }
@@ -125,7 +125,7 @@ fn word_of_numbers<N: PrimitiveElement + Copy>(items: &[N]) -> u64
     word
 }
 
-// The bits of one number, below those of the others: it is prepended to their list.
+// Puts the bits of one number below the bits of the others: it is prepended to their list.
 fn prepend_bits(bits: u64, others: u64, each: u64) -> u64
     requires each { each < 65 }
     requires room { bits + 2 ^ each * others < 2 ^ 64 }

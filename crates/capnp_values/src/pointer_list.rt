@@ -13,11 +13,11 @@ use capnp_wire::list_list::Owned;
 use capnp_wire::traits::{Copied, SetterInput, TreeWords};
 use std::marker::PhantomData;
 
-/// A list whose elements are pointers, each set to a value (encoding document, "Lists"), for
-/// example of texts.
+/// A list of pointers, each set to a value, such as a list of texts (encoding document,
+/// "Lists").
 #[derive(Drop)]
 pub struct PointerList<'a, T, V> {
-    /// What they are set to.
+    /// The values that they are set to.
     pub items: &'a [V],
 
     /// The type of the elements in a schema.
@@ -36,8 +36,8 @@ impl<'a, T, V> PointerList<'a, T, V> {
     }
 }
 
-// The values' trees, in order. 2^29 values and more fail with `AllocationTooLarge`, and a value
-// that fails as it is fails here, too.
+// Has the values' trees, in order. Fails with `AllocationTooLarge` for 2^29 values or more, and as
+// the first value does that fails untrimmed.
 impl<'a, T, V: SetterInput<T>> SetterInput<Owned<T>> for PointerList<'a, T, V> {
     ghost use Rattle.capnp_layout.specs.Tree.{count};
     ghost use Rattle.capnp_values.specs.Lists.{IsPointerListTree, PointerListError};
@@ -73,7 +73,7 @@ impl<'a, T, V: SetterInput<T>> SetterInput<Owned<T>> for PointerList<'a, T, V> {
     }
 }
 
-/// The number of words of a list of pointers to some values.
+/// The number of words of a list of pointers to these values.
 pub(crate) fn measure_list<T, S: ValueSource<T>>(items: &S, canonical: bool) -> Result<TreeWords>
     ensures { MeasuresValue (IsPointerListTree (S.has_tree items.now) (S.items items.now))
         (PointerListError (S.has_tree items.now) (S.fails items.now) (S.items items.now))

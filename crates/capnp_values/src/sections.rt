@@ -1,4 +1,4 @@
-//! The sections of structs: their data words, and their pointers.
+//! The data sections and the pointer sections of structs.
 ghost use Rattle.std.specs.Prelude.{◌≡◌, ◌↔◌, ◌+◌, ◌*◌, ◌<◌, ◌≤◌, ◌^◌, ◌==◌, if◌then◌else◌, All, IsTrue, length, take};
 ghost use Rattle.capnp_layout.specs.Prelude.{words_of, cut_zeros, struct_pointer, minus_one, put};
 ghost use Rattle.capnp_wire.specs.Prelude.{IsFreeFrom};
@@ -11,7 +11,7 @@ use crate::fields::Fields;
 use capnp_layout::body_word::struct_pointer_word;
 use capnp_layout::pointer::StructSize;
 
-/// Whether a pointer can say that there are this many data words, and this many pointers.
+/// Whether a struct pointer can declare this many data words and this many pointers.
 pub(crate) fn fits(words: &[u64], fields: u32) -> bool
     ensures { IsTrue result ↔ ((length words.now < 2 ^ 16) × (fields < 2 ^ 16)) }
 {
@@ -23,7 +23,7 @@ pub fn words_fit(words: &[u64])
     ensures { All (λ word. word < 2 ^ 64) words.now }
 {}
 
-/// How many of these words are left without the zeros at their end.
+/// The number of these words without the zero words at their end.
 pub(crate) fn used(words: &[u64]) -> usize
     ensures { result ≡ length (cut_zeros words.now) }
 {
@@ -37,7 +37,7 @@ pub(crate) fn used(words: &[u64]) -> usize
     0
 }
 
-/// How many of these data words are kept.
+/// How many of these data words are kept, untrimmed or in canonical form.
 pub(crate) fn kept_data(words: &[u64], canonical: bool) -> usize
     ensures value { result ≡ length (kept_words canonical words.now) }
     ensures bound { result ≤ length words.now }
@@ -56,7 +56,7 @@ pub fn put_words(words: &[u64], block: &mut [u8])
     }
 }
 
-/// The word of the pointer to a struct that begins this many words after it.
+/// The pointer word to a struct that begins this many words after it.
 pub(crate) fn struct_word(words: usize, pointers: u32, gap: usize) -> u64
     requires words { words < 2 ^ 16 }
     requires pointers { pointers < 2 ^ 16 }
@@ -70,8 +70,8 @@ pub(crate) fn struct_word(words: usize, pointers: u32, gap: usize) -> u64
     struct_pointer_word(size, gap as u64)
 }
 
-/// What a struct keeps: all that it has, or in canonical form as much as it needs. Each element of a
-/// list keeps as much as the others.
+/// What a struct keeps: all that it has, or in canonical form as much as it needs. The elements of
+/// a list all keep the same.
 #[derive(Clone, Copy)]
 pub struct KeptWords {
     /// Its data words.

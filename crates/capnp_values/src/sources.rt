@@ -1,4 +1,4 @@
-//! Sources of the elements of lists, which make each of them only when it is needed.
+//! Sources of the elements of lists, which make each element only when it is needed.
 ghost use Rattle.std.specs.Prelude.{◌≡◌, ℕ, ◌<◌, List, length, get_or};
 ghost use Rattle.capnp_frame.specs.declared.error.ErrorKind.{ErrorKind};
 ghost use Rattle.capnp_layout.specs.Prelude.{Trees};
@@ -10,7 +10,7 @@ use crate::element::Element;
 use crate::fields::Fields;
 use capnp_wire::traits::SetterInput;
 
-/// Values in order, each made only when it is needed: once to be measured, and once more to be
+/// Values in order, each made only when it is needed: once to be measured, and again to be
 /// written.
 pub trait ValueSource<T> {
     /// Identifies a value: its index, or what it is made of.
@@ -25,7 +25,7 @@ pub trait ValueSource<T> {
     /// The value of an item has this tree.
     ghost has_tree: { Self → Self.Item → Trees → Type 0 };
 
-    /// With which errors an item's value fails, which then has no tree.
+    /// With which errors an item's value fails. It then has no tree.
     ghost fails: { Self → Self.Item → ErrorKind → Type 0 };
 
     /// How many values there are.
@@ -40,8 +40,8 @@ pub trait ValueSource<T> {
             (Self.Value.fails result) (fails self.now item) };
 }
 
-/// Structs of one size in order, each made only when it is needed: once to be measured, and once
-/// more to be written, in canonical form twice for either.
+/// Structs of one size in order, each made only when it is needed: once to be measured, and again
+/// to be written; in canonical form twice for each.
 pub trait StructSource {
     /// Identifies a struct: its index, or what it is made of.
     type Item;

@@ -1,4 +1,4 @@
-//! The elements of lists of structs: the words of what they point to, and what is written of them.
+//! The elements of lists of structs: how many words they point to, and how they are written.
 ghost use Rattle.std.specs.Prelude.{◌≡◌, ◌+◌, ◌*◌, ◌<◌, ◌^◌, false, map, length};
 ghost use Rattle.capnp_layout.specs.Prelude.{words_of, Trees};
 ghost use Rattle.capnp_wire.specs.Prelude.{IsFreeFrom};
@@ -12,10 +12,10 @@ use crate::sources::StructSource;
 use capnp_frame::Result;
 use capnp_wire::traits::TreeWords;
 
-/// The number of words of all that some structs point to, as they are and in the form that is
+/// The number of words of all that these structs point to, untrimmed and in the form that is
 /// written.
 ///
-/// Fails as the first of them does that fails as it is.
+/// Fails as the first struct does that fails untrimmed.
 pub(crate) fn measure_elements<S: StructSource>(items: &S, canonical: bool) -> Result<TreeWords>
     requires pointers { S.Value.size < 2 ^ 16 }
     requires few { length (S.items items.now) * (S.Value.data_words + S.Value.size) < 2 ^ 29 }
@@ -40,7 +40,7 @@ pub(crate) fn measure_elements<S: StructSource>(items: &S, canonical: bool) -> R
     Ok(words)
 }
 
-// The number of words of all that some structs point to, of which no canonical form is written.
+// The number of words of all that these structs point to, where no canonical form is written.
 // Speed: one sum serves for both numbers, and stays in a register (`tools/time-building`).
 fn untrimmed_elements<S: StructSource>(items: &S) -> Result<TreeWords>
     requires pointers { S.Value.size < 2 ^ 16 }
@@ -63,7 +63,7 @@ fn untrimmed_elements<S: StructSource>(items: &S) -> Result<TreeWords>
     })
 }
 
-/// What each of some structs keeps.
+/// What each of these structs keeps.
 pub(crate) fn kept_by_each<S: StructSource>(items: &S, canonical: bool) -> KeptWords
     requires { S.Value.size < 2 ^ 16 }
     ensures words { (children : Trees) → AreElements (S.has_trees items.now) (S.items items.now) children →
@@ -94,8 +94,8 @@ pub(crate) fn kept_by_each<S: StructSource>(items: &S, canonical: bool) -> KeptW
     kept
 }
 
-/// Writes some structs into a block from the word `first` on: the data words and the pointers that
-/// each keeps, one struct after the other. What they point to is written after the last of them,
+/// Writes these structs into a block from the word `first` on: the data words and the pointers that
+/// each keeps, one struct after the other. What they point to is written after the last struct,
 /// where the block is zero. Returns the first word after that.
 pub(crate) fn write_elements<S: StructSource>(
     items: &S,

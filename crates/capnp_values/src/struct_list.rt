@@ -26,9 +26,9 @@ impl<'a, E> StructList<'a, E> {
     }
 }
 
-// The data words of each element, with the trees of their fields, in order. 2^16 data words or
-// fields and more, and 2^29 elements or words of elements and more, fail with `AllocationTooLarge`;
-// a field that fails as it is fails here, too.
+// Has the data words of the elements and the trees of their fields, in order. Fails with
+// `AllocationTooLarge` for 2^16 data words or fields or more, and for 2^29 elements, or words of
+// elements, or more. Else it fails as the first field does that fails untrimmed.
 impl<'a, E: Fields + Element> SetterInput<Owned> for StructList<'a, E> {
     ghost use Rattle.capnp_layout.specs.Tree.{count};
     ghost use Rattle.capnp_values.specs.StructLists.{IsStructListTree, StructListError};

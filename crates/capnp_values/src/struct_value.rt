@@ -32,8 +32,8 @@ impl<const D: usize, F> StructValue<D, F> {
     }
 }
 
-// The data words, with the trees of the fields. 2^16 data words or fields and more fail with
-// `AllocationTooLarge`; a field that fails as it is fails here, too.
+// Has the data words and the trees of the fields. Fails with `AllocationTooLarge` for 2^16 data
+// words or fields or more, and as the first field does that fails untrimmed.
 impl<const D: usize, F: Fields> SetterInput<Owned> for StructValue<D, F> {
     ghost use Rattle.std.specs.Prelude.{length};
     ghost use Rattle.capnp_layout.specs.Tree.{count};
@@ -95,7 +95,7 @@ fn measure_struct<F: Fields>(words: &[u64], fields: &F, canonical: bool) -> Resu
     Ok(TreeWords { untrimmed, output })
 }
 
-// Only its fields.
+// Has the fields alone.
 impl<const D: usize, F: Fields> Fields for StructValue<D, F> {
     ghost size = { F.size };
 

@@ -1,4 +1,4 @@
-//! Lists of the structs of any source, with the tag in front of them (encoding document, "Lists").
+//! Lists of structs of any source, with the tag in front of them (encoding document, "Lists").
 ghost use Rattle.std.specs.Prelude.{◌≡◌, ◌+◌, ◌-◌, ◌*◌, ◌^◌, ◌<◌, ◌≤◌, ◌∷◌, [], length, MatchResult};
 ghost use Rattle.capnp_layout.specs.Prelude.{words_of, Trees, total_words, body, output, list_pointer, struct_pointer, put};
 ghost use Rattle.capnp_wire.specs.Prelude.{IsCopied, HasRoomAt, IsFreeFrom};
@@ -16,7 +16,7 @@ use capnp_layout::limits::{MAX_ELEMENTS, MAX_WORDS, allocation_too_large};
 use capnp_layout::pointer_word::{STRUCT_LIST, list_word, put_word, struct_word};
 use capnp_wire::traits::{Copied, TreeWords};
 
-/// The number of words of a list of some structs.
+/// The number of words of a list of these structs.
 pub(crate) fn measure_list<S: StructSource>(items: &S, canonical: bool) -> Result<TreeWords>
     ensures { MeasuresValue (IsStructListTree (S.words items.now) (S.has_trees items.now)
         S.Value.data_words S.Value.size (S.items items.now))
@@ -32,8 +32,8 @@ pub(crate) fn measure_list<S: StructSource>(items: &S, canonical: bool) -> Resul
     Ok(with_tag(count, data_words, pointers, kept, children))
 }
 
-// Fails with `AllocationTooLarge` where a pointer and a tag can't say that there are this many
-// structs of this size.
+// Fails with `AllocationTooLarge` where a pointer and a tag can't declare this many structs of this
+// size.
 fn elements_fit(count: usize, data_words: usize, pointers: u32) -> Result<()>
     ensures { MatchResult result
         (λ _. (data_words < 2 ^ 16) × (pointers < 2 ^ 16) × (count < 2 ^ 29)
@@ -53,7 +53,7 @@ fn elements_fit(count: usize, data_words: usize, pointers: u32) -> Result<()>
     Ok(())
 }
 
-// The number of words of the tag, of the elements, and of all that these point to.
+// The number of words of the tag, the elements, and all that these point to.
 fn with_tag(
     count: usize,
     data_words: usize,
@@ -75,7 +75,7 @@ fn with_tag(
     TreeWords { untrimmed, output }
 }
 
-/// Writes a list of some structs into a block, as a value is written.
+/// Writes a list of these structs into a block, as a value is written.
 pub(crate) fn write_list<S: StructSource>(
     items: &S,
     canonical: bool,

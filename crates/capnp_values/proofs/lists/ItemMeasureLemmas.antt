@@ -1,4 +1,4 @@
--- Values of one type, one after the other: what is measured of them.
+-- What is measured of consecutive values of one type.
 use Rattle.std.proofs.Common.{◌≡◌, ℕ, zero, suc, ◌+◌, ◌*◌, ◌<◌, ◌≤◌, ◌^◌, Bool, true, false, List, [], ◌∷◌, length, drop, Result, Ok, Err, inl, inr, refl, sym, ◌∙◌, ap, subst, arith, get_or}
 use Rattle.std.specs.Result.{IsErrAnd}
 use Rattle.capnp_frame.specs.declared.error.Error.{Error}
@@ -35,7 +35,7 @@ pub output_small : (c : Bool) (size : ℕ) (t : Trees) → IsSettled size t → 
 output_small true size t s = omega (arith, total-trim t s.rooms, s.few)
 output_small false size t s = s.few
 
--- words of trees, and those of others
+-- the words of trees, and of others after them
 abbrev pub onto : TreeWords → Result TreeWords Error → Result TreeWords Error
 onto words (Ok more) = Ok (both_words words more)
 onto words (Err error) = Err error
@@ -58,7 +58,7 @@ measured_few h c size words settled a =
     let s = settled a.0 a.1 in
     (omega (arith, ap (λ (w : TreeWords). w.untrimmed) a.3, s.few), omega (arith, ap (λ (w : TreeWords). w.output) a.3, output_small c size a.0 s))
 
--- a value in front of others: it fails, or is measured, and what is after it, too
+-- a value in front of others: it fails, or it is measured, and so are the others
 abbrev MeasuresFront : (Trees → Type 0) → (Trees → Type 0) → (ErrorKind → Type 0) → (ErrorKind → Type 0) → Bool → Result TreeWords Error → Type 0
 MeasuresFront h hs r rs c res = MeasuresValue (λ t. IsValueInFront h hs t) (λ k. FieldsError h r rs k) c res
 
@@ -109,7 +109,7 @@ pub value_front : (h hs : Trees → Type 0) (r rs : ErrorKind → Type 0) (c : B
 value_front h hs r rs c returned own (Ok words) was has one found exact m = fields_measured h hs r rs c returned own words was has one found exact m
 value_front h hs r rs c returned own (Err error) was has one found exact m = rest_error h hs r rs c returned own error was has exact m
 
--- how far the measuring of some values has come: with what is measured of those that are left, all are measured
+-- how far the measuring of values has come: once the values that are left are measured, all are
 pub record ItemsMeasured {V : Type 0} (h : V → Trees → Type 0) (r : V → ErrorKind → Type 0) (c : Bool) (items : List V) (i : ℕ) (words : TreeWords) : Type 0 where
   pub untrimmed_few : words.untrimmed ≤ i * 2 ^ 29
   pub output_few : words.output ≤ i * 2 ^ 29

@@ -1,4 +1,4 @@
--- Values of one type, one after the other: what is written of them.
+-- What is written of consecutive values of one type.
 use Rattle.std.proofs.Common.{◌≡◌, ℕ, suc, ◌+◌, ◌-◌, ◌/◌, ◌<◌, ◌≤◌, Bool, List, [], ◌∷◌, length, drop, refl, sym, ◌∙◌, ap, subst, arith, get_or}
 use Rattle.capnp_layout.specs.Prelude.{words_of, Form, Trees, none, tree, total_words, pointer_to, run, body, output, put, fill}
 use Rattle.capnp_wire.specs.Prelude.{IsCopied, HasRoomAt, IsFreeFrom}
@@ -12,7 +12,8 @@ use Rattle.capnp_values.specs.Lists.{AreItems, HasRoomForItems, AreItemsWritten}
 use Rattle.capnp_values.proofs.values.ValuePartLemmas.{part_total, more_total}
 use Rattle.capnp_values.proofs.lists.ItemMeasureLemmas.{from_here, no_item_left}
 
--- The first i of some values are written: what is left to be put into the block, with which all are written, and the room for it.
+-- The first i values are written: what is left to be put into the block so that all are written, and the
+-- room for it.
 pub record ItemsLeft {V : Type 0} (h : V → Trees → Type 0) (c : Bool) (items : List V) (first i free : ℕ) (old block : List ℕ) (trees : Trees) : Type 0 where
   pub rest : Trees
   pub rest_is : AreItems h (drop i items) rest
@@ -61,7 +62,7 @@ item_room {V = V} h c items first i free v old block within is w =
       fits = omega (arith, r.2, ap (λ (t : Trees). total_words (output c t)) front.whole, more_total c front.form front.children front.rest);
     }
 
--- one more is written
+-- one more value is written
 pub record PutNext (c : Bool) (slot free : ℕ) (trees : Trees) (block mid new : List ℕ) (copied : Copied) : Type 0 where
   pub mid_long : length mid ≡ length block
   pub new_long : length new ≡ length mid

@@ -28,7 +28,7 @@ pointer_list_total c children =
     let whole : total_words (output c (tree pointers children none)) ≡ count (output c children) + total_words (output c children) + 0 = ap total_words (list_output c children) in
     omega (arith, whole, count_output c children)
 
--- the words of the list of some values, which has room
+-- the words of the list of these values, which has room
 pub values_total : {V : Type 0} (h : V → Trees → Type 0) (vs : List V) (c : Bool) (t : Trees) (is : IsPointerListTree h vs t) → total_words (output c t) ≡ length vs + total_words (output c is.children)
 values_total h vs c t is =
     let whole : total_words (output c t) ≡ total_words (output c (tree pointers is.children none)) = ap (λ (a : Trees). total_words (output c a)) is.whole in
@@ -44,7 +44,7 @@ pub values_begin : {V : Type 0} (h : V → Trees → Type 0) (vs : List V) (c : 
 values_begin h vs c next room w =
     record { trees = w.tree_is.children; trees_are = w.tree_is.children_is; fits = omega (arith, w.fits, values_total h vs c w.trees w.tree_is) }
 
--- what is measured of the list of some values
+-- what is measured of the list of these values
 list_words : (c : Bool) (n : ℕ) (children trees : Trees) (words : TreeWords) → trees ≡ tree pointers children none → count children ≡ n → words ≡ tree_words c children
     → record { untrimmed = n + words.untrimmed; output = n + words.output } ≡ tree_words c trees
 list_words c n children trees words whole many is =

@@ -1,4 +1,4 @@
--- Fields of data sections that are set, and those that stay.
+-- Fields of data sections that are set, and fields that stay the same.
 use Rattle.std.proofs.Math.Nat.{div-add-mod, pow-suc, mod-le, mul-div-le, mul-le-mul_left}
 use native.Mathlib.Nat.{pow-zero}
 use Rattle.std.proofs.Math.Pow.{mod-mod-pow}
@@ -14,11 +14,11 @@ use Rattle.capnp_wire.proofs.words.BitLemmas.{field_in_word}
 use Rattle.capnp_layout.proofs.words.DigitLemmas.{length-digits, digits-number_of, number-digits, number_below, pow-mul}
 use Rattle.capnp_values.specs.DataSections.{with_bits, with_field}
 
--- the bits above some are those of the bits above fewer
+-- the bits above a field are the bits from its start on without its own
 high_again : (number start width : ℕ) → number / 2 ^ (start + width) ≡ number / 2 ^ start / 2 ^ width
 high_again number start width = sym (shr-shr number start width)
 
--- bits go, and others come
+-- bits are replaced
 pub exchanged : (number start width bits : ℕ) → with_bits number start width bits + 2 ^ start * (number / 2 ^ start % 2 ^ width) ≡ number + 2 ^ start * bits
 unfolding with_bits
 exchanged number start width bits =
@@ -81,7 +81,7 @@ set_in_word words width offset q r bits small inside at within few =
     let all : All (λ word. word < 2 ^ 64) made = All-set (λ (w : ℕ). w < 2 ^ 64) words q put (with_bits_below word r width bits 64 word_small (omega arith) few) small in
     sym (digits-number_of (2 ^ 64) made all) ∙ ap (λ (k : ℕ). digits (2 ^ 64) k (number_of (2 ^ 64) made)) (length-set words q put) ∙ ap (digits (2 ^ 64) (length words)) whole
 
--- a word in which bits go and others come
+-- a word in which bits are replaced
 pub put_in_word : (word start width bits : ℕ) → word < 2 ^ 64 → width + start ≤ 64 → width < 64 → bits < 2 ^ width
     → word - word / 2 ^ start % (1 * 2 ^ width % 2 ^ 64) * 2 ^ start % 2 ^ 64 + bits * 2 ^ start % 2 ^ 64 ≡ with_bits word start width bits
 put_in_word word start width bits small within less few =
@@ -183,7 +183,7 @@ field_set words width offset bits small within few =
     ap (λ (k : ℕ). k / 2 ^ (width * offset) % 2 ^ width) (number_of-with_field words width offset bits small within few)
     ∙ bits_set (number_of (2 ^ 64) words) (width * offset) width bits few
 
--- and others stay
+-- and other fields stay the same
 pub field_stays : (words : List ℕ) (width offset bits other at : ℕ) → All (λ word. word < 2 ^ 64) words → width * (offset + 1) ≤ 64 * length words → bits < 2 ^ width
     → (width * (offset + 1) ≤ other * at) ⊎ (other * (at + 1) ≤ width * offset) → field (with_field words width offset bits) other at ≡ field words other at
 field_stays words width offset bits other at small within few apart =

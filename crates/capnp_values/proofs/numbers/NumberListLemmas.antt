@@ -80,7 +80,7 @@ digit_is base k big (suc m) (suc i) ds positive fit power within =
     ∙ digit_is base k big m i (drop k ds) positive (All-drop (λ d. d < base) k ds fit) power (omega (arith, within))
     ∙ ap (λ (l : List ℕ). Some (number_of base (take k l))) (drop-drop (i * k) k ds ∙ ap (λ (n : ℕ). drop n ds) there)
 
--- of the elements that a word holds some may be missing
+-- a word may hold fewer elements than it has room for
 take_min : {V : Type 0} (k n : ℕ) (xs : List V) → n ≡ min k (length xs) → take n xs ≡ take k xs
 take_min zero n xs is = ap (λ (m : ℕ). take m xs) (let none : n ≡ 0 = omega (arith, is) in none)
 take_min (suc k) zero [] is = refl
@@ -148,7 +148,7 @@ front_small f w items i left v left_is within is small others room =
     let area : w * length (map f (drop i items)) ≤ w * length items = mul-le-mul_left w some in
     omega (arith, number_front f (2 ^ w) items i left v left_is within is, word_small w (map f (drop i items)) fit (omega (arith, area, room)))
 
--- a word of a list is that of its elements
+-- a word of a list is the word that its elements make
 positive_base : (w : ℕ) → 0 < 2 ^ w
 positive_base w =
     let positive : 0 < 2 = omega arith in

@@ -6,7 +6,8 @@ use Rattle.capnp_values.specs.StructLists.{AreElements}
 use Rattle.capnp_values.proofs.lists.ItemMeasureLemmas.{from_here, no_item_left}
 use Rattle.capnp_values.proofs.struct_lists.ElementTreeLemmas.{pointers_front}
 
--- The first i of some structs need a number of data words and of pointers, and all of them what these or those after them do.
+-- The first i structs need a number of data words and of pointers. All structs need as much as these or the
+-- ones after them do.
 pub record NeededSoFar {V : Type 0} (w : V → List ℕ) (h : V → Trees → Type 0) (p : ℕ) (items : List V) (i data_words pointers : ℕ) : Type 0 where
   pub least_is : least_data (map w items) ≡ max data_words (least_data (map w (drop i items)))
   pub left : (children : Trees) → AreElements h items children

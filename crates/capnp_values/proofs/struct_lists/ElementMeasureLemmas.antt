@@ -15,7 +15,7 @@ use Rattle.capnp_values.specs.StructLists.{AreElements, ElementsError, AreEven, 
 use Rattle.capnp_values.proofs.lists.ItemMeasureLemmas.{from_here, measured_few, no_item_left, onto, onto_none, onto_both, nothing_after}
 use Rattle.capnp_values.proofs.struct_lists.ElementTreeLemmas.{rooms_before, total_front}
 
--- what is measured of some structs, one in front
+-- what is measured of a struct in front of others
 abbrev MeasuresTrees : {V : Type 0} → (V → Trees → Type 0) → (V → ErrorKind → Type 0) → List V → Bool → Result TreeWords Error → Type 0
 MeasuresTrees h r vs c res = MeasuresValue (λ t. AreElements h vs t) (λ k. ElementsError h r vs k) c res
 
@@ -76,7 +76,7 @@ first_error h r c v vs error first = record {
   ];
 }
 
--- How far the measuring has come: with what is measured of the structs that are left, all are measured.
+-- How far the measuring has come: once the structs that are left are measured, all are.
 pub record ElementsMeasured {V : Type 0} (w : V → List ℕ) (h : V → Trees → Type 0) (r : V → ErrorKind → Type 0) (c : Bool) (d p : ℕ) (items : List V) (i : ℕ) (words : TreeWords) : Type 0 where
   pub untrimmed_few : words.untrimmed ≤ i * p * 2 ^ 29
   pub output_few : words.output ≤ i * p * 2 ^ 29
@@ -92,7 +92,7 @@ structs_measuring_begins w h r c d p items = record {
   ends = λ rest m. subst (λ (x : Result TreeWords Error). MeasuresTrees h r items c x) (sym (onto_none rest)) m;
 }
 
--- there is room for one more number of words
+-- the sum of the words has room for one more struct
 pub sum_few : {V : Type 0} (w : V → List ℕ) (h : V → Trees → Type 0) (r : V → ErrorKind → Type 0) (c : Bool) (d p : ℕ) → ((v : V) (t : Trees) → h v t → IsSettled p t) → (items : List V) (i : ℕ)
     (words own : TreeWords) (v : V) → i < length items → length items * (d + p) < 2 ^ 29 → p < 2 ^ 16 → MeasuresValue (h v) (r v) c (Ok own) → ElementsMeasured w h r c d p items i words
     → (words.untrimmed + own.untrimmed < 2 ^ 64) × (words.output + own.output < 2 ^ 64)

@@ -1,4 +1,4 @@
--- Lists of structs: the trees of their elements' fields, as they are or in canonical form, and the words of these.
+-- Lists of structs: the trees of their elements' fields, untrimmed or in canonical form, and their words.
 use Rattle.std.proofs.Common.{◌≡◌, ℕ, suc, ◌+◌, ◌*◌, ◌<◌, ◌^◌, Bool, true, false, max, List, [], ◌∷◌, length, map, take, refl, sym, ◌∙◌, ap, subst, arith}
 use Rattle.std.specs.Prelude.{All}
 use Rattle.std.proofs.lemmas.List.{take_all, length-map}

@@ -22,7 +22,7 @@ pub pointers_within : (c : Bool) (p : ℕ) (elements : List (List ℕ)) (childre
 pointers_within true p elements children = least_pointers_within p elements (trim children)
 pointers_within false p elements children = omega arith
 
--- the words and the pointers of one element, put into a block in front of those of others
+-- the words and the pointers of one element, put into a block in front of other elements
 elements_next : (c : Bool) (d m p at free : ℕ) (words : List ℕ) (elements : List (List ℕ)) (fields rest children : Trees) (block : List ℕ) → children ≡ before fields rest → count fields ≡ p → m ≤ p → d ≤ length words
     → fill_elements m at (map (take d) (words ∷ elements)) free (output_children c m p (words ∷ elements) children) block
     ≡ fill_elements m (at + (d + m)) (map (take d) elements) (free + total_words (first m (output c fields))) (output_children c m p elements rest)
@@ -43,7 +43,8 @@ elements_next c d m p at free words elements fields rest children block whole ma
     ∙ ap (λ (k : ℕ). next a b k (at + k + m)) long
     ∙ ap (λ (e : ℕ). next a b d e) on
 
--- The first i of some structs are written: what is left to be put into the block, with which all are written, and the room for it.
+-- The first i structs are written: what is left to be put into the block so that all are written, and the
+-- room for it.
 pub record StructsLeft {V : Type 0} (w : V → List ℕ) (h : V → Trees → Type 0) (c : Bool) (d m p : ℕ) (items : List V) (start begin i at free : ℕ) (old block : List ℕ) (children : Trees) : Type 0 where
   pub rest : Trees
   pub rest_is : AreElements h (drop i items) rest
@@ -99,7 +100,7 @@ next_struct_room {V = V} w h c d m most p s items start begin i at free room v o
       before_it = omega (arith, so_far.at_is, so_far.after, spread (length items) i (d + m) within);
     }
 
--- one more is written
+-- one more struct is written
 pub structs_writing_goes_on : {V : Type 0} (w : V → List ℕ) (h : V → Trees → Type 0) (c : Bool) (d m most p : ℕ) → ((v : V) (t : Trees) → h v t → IsSettled p t) → (items : List V)
     (start begin i at free next room : ℕ) (v : V) (old block new : List ℕ) → HasRoomForElements w h c d m most p items begin room → d ≤ length (w v) → i < length items → v ≡ get_or items i v → length new ≡ length block
     → length (words_of new) ≡ length (words_of block) → IsFreeFrom next new

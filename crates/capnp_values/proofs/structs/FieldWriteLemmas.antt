@@ -1,4 +1,4 @@
--- Fields that are written: the first value, and those after it.
+-- Fields that are written: the first value, and the fields after it.
 use Rattle.std.proofs.Common.{◌≡◌, ℕ, suc, ◌+◌, ◌-◌, ◌/◌, ◌<◌, ◌≤◌, Bool, true, false, List, [], ◌∷◌, length, sym, ◌∙◌, ap, arith}
 use Rattle.capnp_layout.specs.Prelude.{words_of, Form, Trees, none, tree, count, total_words, first, trim, trim_form, trim_children, pointer_to, run, body, output, put, fill}
 use Rattle.capnp_wire.specs.Prelude.{IsCopied, HasRoomAt, IsFreeFrom}
@@ -10,7 +10,7 @@ use Rattle.capnp_wire.proofs.layouts.CopyPlanLemmas.{room_output}
 use Rattle.capnp_values.specs.Fields.{IsPart, IsValueInFront, CanWriteFields, AreFieldsWritten}
 use Rattle.capnp_values.proofs.values.ValuePartLemmas.{part_total}
 
--- fields that are written: the first value, and those after it
+-- fields that are written: the first value, and the fields after it
 pub record FieldsSplit (h hs : Trees → Type 0) (c : Bool) (n next room : ℕ) : Type 0 where
   pub form : Form
   pub children : Trees
@@ -82,7 +82,7 @@ fields_step h hs c slot n m next old mid copied n_is r f before_it own long =
       free_from = λ new put_is new_long. free_after slot copied.next copied.next (copied.pointer ∷ []) mid new put_is new_long after (omega arith) room mid_free;
     }
 
--- the first pointer, with what it points to, and those after it
+-- the first pointer, with what it points to, and the pointers after it
 fill_first : (c : Bool) (slot m next : ℕ) (form : Form) (children rest : Trees) (block : List ℕ)
     → fill (run slot (suc m)) next (first (suc m) (output c (tree form children rest))) block
     ≡ fill (run (slot + 1) m) (next + part_total c form children) (first m (output c rest))
@@ -90,7 +90,7 @@ fill_first : (c : Bool) (slot m next : ℕ) (form : Form) (children rest : Trees
 fill_first true slot m next form children rest block = fill_step false slot (run (slot + 1) m) next (trim_form form (trim children)) (trim_children form (trim children)) (first m (trim rest)) block
 fill_first false slot m next form children rest block = fill_step false slot (run (slot + 1) m) next form children (first m rest) block
 
--- fields are written where the first value is, and those after it
+-- fields are written where the first value is, and the fields after it
 pub fields_written : (h hs : Trees → Type 0) (c : Bool) (slot n m next free : ℕ) (old mid new last : List ℕ) (copied : Copied) → n ≡ suc m
     → ((t : Trees) → h t → IsCopied (output c t) (next - (slot + 1)) next old mid copied) → new ≡ put slot (copied.pointer ∷ []) mid
     → AreFieldsWritten hs c (slot + 1) m copied.next new last free → AreFieldsWritten (λ t. IsValueInFront h hs t) c slot n next old last free

@@ -87,7 +87,7 @@ struct_value_measured c words size hs rs returned fields kept untrimmed output_w
       ];
     }
 
--- it fails: a pointer can't say its size, or its fields fail
+-- it fails: a pointer can't declare its size, or its fields fail
 pub struct_too_large : (c : Bool) (words : List ℕ) (size : ℕ) (hs : Trees → Type 0) (rs : ErrorKind → Type 0) (error : Error) → (2 ^ 16 ≤ length words ⊎ 2 ^ 16 ≤ size)
     → error.kind ≡ AllocationTooLarge (2 ^ 16) → MeasuresValue (λ t. IsStructTree words size hs t) (λ k. StructError (length words) size rs k) c (Err error)
 struct_too_large c words size hs rs error many is = record {
@@ -112,7 +112,7 @@ struct_error c words size hs rs returned error was m few_words few_pointers =
       ];
     }
 
--- a pointer can't say a size for which it fails
+-- a pointer can't declare a size for which it fails
 pub not_fitting : (a b size : ℕ) (fits : Bool) → (IsTrue fits ↔ ((a < 2 ^ 16) × (b < 2 ^ 16))) → fits ≡ false → b ≡ min size (2 ^ 16) → (2 ^ 16 ≤ a ⊎ 2 ^ 16 ≤ size)
 not_fitting a b size fits told unfit b_is = elim (cases_lt a (2 ^ 16)) [
   | inl few ↦ (elim (cases_lt size (2 ^ 16)) [

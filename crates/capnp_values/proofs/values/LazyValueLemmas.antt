@@ -1,4 +1,4 @@
--- Values that are made only when they are needed: their trees are those that the source declares,
+-- Values that are made only when they are needed: their trees are the trees that the source declares,
 -- and the other way round.
 use Rattle.std.proofs.Common.{◌≡◌, ℕ, Bool, List, Result, Ok, Err, inl, inr, sym, subst, get_or}
 use Rattle.capnp_frame.specs.declared.error.Error.{Error}

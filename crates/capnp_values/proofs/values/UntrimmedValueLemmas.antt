@@ -1,4 +1,4 @@
--- Values that are measured as they are: in that form their words are the same.
+-- Values that are measured untrimmed: both numbers of words are the same.
 use Rattle.std.proofs.Common.{◌≡◌, ℕ, ◌+◌, false, Result, Ok, Err, MatchResult, refl, sym, ◌∙◌, ap, arith}
 use Rattle.std.specs.Result.{IsErrAnd}
 use Rattle.capnp_frame.specs.declared.error.Error.{Error}

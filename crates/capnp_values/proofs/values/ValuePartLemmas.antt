@@ -1,4 +1,4 @@
--- Values as parts of structs and lists: their trees as they are or in canonical form, and their words.
+-- Values as parts of structs and lists: their trees untrimmed or in canonical form, and their words.
 use Rattle.std.proofs.Common.{◌≡◌, ℕ, ◌+◌, ◌≤◌, Bool, true, false, refl, ◌∙◌, ap, subst, arith}
 use Rattle.capnp_layout.specs.Prelude.{Form, Trees, none, tree, count, total_words, trim, trim_form, trim_children, output, AllHaveRoom}
 use Rattle.capnp_wire.specs.Prelude.{HasPart}
@@ -7,7 +7,7 @@ use Rattle.capnp_layout.proofs.trees.TrimmedTreeLemmas.{total-trim}
 use Rattle.capnp_values.specs.Measured.{tree_words}
 use Rattle.capnp_values.specs.Fields.{IsPart}
 
--- a tree as it is, or in canonical form, in two parts
+-- a tree untrimmed, or in canonical form, in two parts
 abbrev pub own_form : Bool → Form → Trees → Form
 own_form true form children = trim_form form (trim children)
 own_form false form children = form

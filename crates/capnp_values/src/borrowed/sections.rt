@@ -1,11 +1,11 @@
-//! Structs that are borrowed.
+//! Borrowed structs.
 use crate::borrowed::Borrowed;
 use crate::element::Element;
 use crate::fields::Fields;
 use capnp_frame::Result;
 use capnp_wire::traits::TreeWords;
 
-// The fields of the struct.
+// Has the fields of the struct.
 impl<'a, F: Fields> Fields for Borrowed<'a, F> {
     ghost size = { F.size };
 
@@ -43,7 +43,7 @@ impl<'a, F: Fields> Fields for Borrowed<'a, F> {
     }
 }
 
-// The data words of the struct.
+// Has the data words of the struct.
 impl<'a, E: Element> Element for Borrowed<'a, E> {
     ghost data_words = { E.data_words };
 

@@ -10,7 +10,7 @@ use capnp_layout::pointer_word::put_word;
 use capnp_wire::traits::{SetterInput, TreeWords};
 use std::marker::PhantomData;
 
-/// A field of a type of a schema that is set to a value, in front of further fields.
+/// A field that is set to a value, in front of further fields. `T` is its type in a schema.
 #[derive(Drop)]
 pub struct Field<T, V, F> {
     /// What it is set to.
@@ -96,7 +96,7 @@ impl<T, V: SetterInput<T>, F: Fields> Fields for Field<T, V, F> {
     }
 }
 
-// Whether a value is left out in front of fields that keep this many pointers.
+// Whether a value is left out, where the fields after it keep this many pointers.
 fn is_left_out<T, V: SetterInput<T>>(value: &V, canonical: bool, after: u32) -> bool
     ensures { (form : Form) (children : Trees) → IsPart (V.has_tree value.now) form children →
         result ≡ is_left_out canonical after form }

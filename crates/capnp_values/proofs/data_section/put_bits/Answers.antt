@@ -1,4 +1,4 @@
--- The old bits go, and the others come.
+-- The old bits are taken out, and the new ones put in.
 use Rattle.std.proofs.Common.{arith}
 use Rattle.capnp_values.proofs.numbers.DataSectionLemmas.{put_in_word, set_whole_word, with_bits_below}
 use Rattle.capnp_values.proofs.data_section.put_bits.Goals as goal

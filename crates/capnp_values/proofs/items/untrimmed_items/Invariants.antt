@@ -1,4 +1,4 @@
--- What is measured of the values so far.
+-- What is measured of the values so far, untrimmed.
 use Rattle.std.proofs.Common.{false}
 use Rattle.capnp_values.proofs.lists.ItemMeasureLemmas.{ItemsMeasured}
 use Rattle.capnp_values.proofs.items.untrimmed_items.Given as goal

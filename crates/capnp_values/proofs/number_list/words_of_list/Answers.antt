@@ -1,4 +1,4 @@
--- The elements of a list of numbers are of code 0 to 5, and take no more words than there are.
+-- The elements of a list of numbers are of code 0 to 5, and the list has no more words than elements.
 use Rattle.std.proofs.Common.{◌<◌, ◌≤◌, ◌≡◌, ℕ, subst, arith}
 use Rattle.capnp_layout.specs.Prelude.{code_of, width, words_for}
 use Rattle.capnp_layout.specs.declared.element_size.ElementSize.{ElementSize}

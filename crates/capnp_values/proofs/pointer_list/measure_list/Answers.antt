@@ -1,4 +1,4 @@
--- A list of pointers has a word for each, and those of the values.
+-- A list of pointers has a word for each value, and the words of the values.
 use Rattle.std.proofs.Common.{rules, ◌≡◌, ◌+◌, ◌-◌, ◌^◌, ◌∙◌, ℕ, min, length, Ok, Err, Result, subst, sym, ap, arith}
 use Rattle.capnp_frame.specs.declared.error.Error.{Error}
 use Rattle.capnp_frame.specs.declared.error.ErrorKind.TheVariants.{AllocationTooLarge}

@@ -1,4 +1,4 @@
--- No more are kept than there are.
+-- No more data words are kept than there are.
 use Rattle.std.proofs.Common.{arith}
 use Rattle.capnp_layout.proofs.words.ZeroCutLemmas.{length-cut_zeros}
 use Rattle.capnp_values.proofs.sections.kept_data.Goals as goal

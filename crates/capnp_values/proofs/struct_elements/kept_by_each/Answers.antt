@@ -1,4 +1,4 @@
--- As the structs are, all is kept; in canonical form, as much as one of them needs.
+-- Untrimmed, all is kept; in canonical form, as much as some struct needs.
 use Rattle.std.proofs.Common.{◌∙◌, Bool, List, ℕ, length, map, ap, sym, arith}
 use Rattle.capnp_layout.specs.Prelude.{cut_zeros}
 use Rattle.capnp_values.specs.StructLists.{element_data, element_pointers}

@@ -1,4 +1,4 @@
--- A struct has the words that are kept of it, a word for each pointer, and those of its fields.
+-- A struct has the data words that it keeps, a word for each pointer, and the words of its fields.
 use Rattle.std.proofs.Common.{rules, ◌≡◌, false, Err, IsTrue, Result, length, subst, sym, arith}
 use Rattle.capnp_frame.specs.declared.error.Error.{Error}
 use Rattle.capnp_values.specs.Measured.{MeasuresValue}

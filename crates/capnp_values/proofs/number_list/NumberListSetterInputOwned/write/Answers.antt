@@ -1,4 +1,4 @@
--- The numbers, in just their words.
+-- The numbers, in exactly their words.
 use Rattle.std.proofs.Common.{◌≡◌, ◌+◌, ◌-◌, ◌*◌, ◌∙◌, ℕ, List, map, length, ap, sym, arith}
 use Rattle.std.proofs.lemmas.List.{length-map}
 use Rattle.capnp_layout.specs.Prelude.{width, words_for, list_pointer}

@@ -1,4 +1,4 @@
--- The words of a list are those of its tree.
+-- The words of a list are the words of its tree.
 use Rattle.std.specs.Prelude.{MatchResult}
 use Rattle.std.proofs.Common.{rules, ◌≡◌, Err, Result, false, inl, sym, subst}
 use Rattle.capnp_frame.specs.declared.error.Error.{Error}

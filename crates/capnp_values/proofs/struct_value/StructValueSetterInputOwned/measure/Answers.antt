@@ -1,4 +1,4 @@
--- The words of a struct are those of its tree.
+-- The words of a struct are the words of its tree.
 use Rattle.std.proofs.Common.{length}
 use Rattle.capnp_values.specs.Structs.{IsStructTree, StructError}
 use Rattle.capnp_values.proofs.values.ValueWordLemmas.{whole_returned, whole_found, whole_exact}

@@ -1,4 +1,4 @@
--- The words of fields are those of the first value and of what is after it.
+-- The words of fields are the words of the first value and of the fields after it.
 use Rattle.std.proofs.Common.{rules, ◌≡◌, Ok, Err, Result, sym, subst, arith}
 use Rattle.capnp_frame.specs.declared.error.Error.{Error}
 use Rattle.capnp_wire.specs.declared.traits.TreeWords.{TreeWords}

@@ -1,4 +1,4 @@
--- The words of fields are those of the first value and of what is after it.
+-- The words of fields are the words of the first value and of the fields after it.
 use Rattle.std.proofs.Common.{rules, ◌≡◌, ap, Ok, Err, ℕ, false}
 use Rattle.capnp_layout.specs.Prelude.{tree, none, total_words}
 use Rattle.capnp_wire.proofs.views.PartWordLemmas.{untrimmed_words}

@@ -1,4 +1,4 @@
--- The first value is written, and its pointer put, and then those after it.
+-- The first value is written, its pointer is put, and then the fields after it are written.
 use Rattle.std.proofs.Common.{◌≡◌, suc, ◌-◌, arith}
 use Rattle.capnp_values.proofs.structs.FieldWriteLemmas.{first_room, fields_step, fields_written, none_fields_written}
 use Rattle.capnp_values.proofs.fields.field.FieldFields.write.Goals as goal
