@@ -1,4 +1,4 @@
--- What is said of a segment once an object is written, or the root is set.
+-- Segments in which an object is written, or the root is set.
 use Rattle.std.proofs.Common.{◌≡◌, ℕ, ◌+◌, ◌*◌, ◌/◌, ◌^◌, ◌<◌, ◌≤◌, List, [], ◌∷◌, ◌++◌, length, take, drop, Some, None, Ok, refl, sym, ◌∙◌, ap, subst, arith, length-append, length-take, length-drop}
 use Rattle.std.proofs.Math.Seq.{take-append_seam}
 use Rattle.std.proofs.lemmas.List.{append-nil}
@@ -14,7 +14,7 @@ drop_front : (xs ys : List ℕ) → 0 < length xs → drop 1 (xs ++ ys) ≡ drop
 drop_front [] ys some = absurd (omega (arith, some))
 drop_front (x ∷ xs) ys some = refl
 
--- the words after those of a segment
+-- the words after a segment's own words
 pub body_after : (segment : Segment) (block : List ℕ) (new : List ℕ) → IsSegment segment → new ≡ segment.bytes ++ block → drop 1 (words_of new) ≡ body_of segment ++ words_of block
 body_after segment block new is new_is =
     let k : ℕ = length segment.bytes / 8 in
@@ -25,13 +25,13 @@ body_after segment block new is new_is =
 pub length-body_of : (segment : Segment) → IsSegment segment → length segment.bytes / 8 ≡ 1 + length (body_of segment)
 length-body_of segment is = omega (arith, length-words_of segment.bytes, length-drop 1 (words_of segment.bytes), is.rooted)
 
--- all orphans hold what they held
+-- all orphans keep their trees
 pub keeps_after : (old new : Segment) (words : ℕ) → IsSegment old → Appends words old new → Keeps old new
 keeps_after old new words is appends word form children h =
     subst (λ (l : List ℕ). IsOrphan l word form children) (sym appends.body_is)
     (still_orphan (body_of old) (words_of appends.block) word form children h)
 
--- a segment that an object is appended to is one
+-- a segment that an object is appended to is still a segment
 pub still_segment : (old new : Segment) (words : ℕ) → IsSegment old → length old.bytes / 8 + words < 2 ^ 29 → Appends words old new → IsSegment new
 still_segment old new words is few appends =
     let long : length new.bytes ≡ length old.bytes + 8 * words =
@@ -52,7 +52,7 @@ sets_root_orphan old new word is = record {
   memory = is.memory;
 }
 
--- what is held then
+-- the orphan of an object that is appended
 pub adds_one : {T : Type 0} (holds : List ℕ → List ℕ → ℕ → Type 0) (words : ℕ) (old new : Segment) (word : T → ℕ) (number : ℕ) (object : T) → IsSegment old → AppendsObject holds words old new (Ok number)
     → word object ≡ number → AddsOrphan (holds (body_of old)) old new word (Ok object)
 adds_one holds words old new word number object is appends same = record {
@@ -76,7 +76,7 @@ appended holds words old new block word is bytes_are len most room memory fits h
   within_memory = fits;
 }
 
--- over the bytes after the used ones
+-- it is written over the bytes after the used ones
 pub over_appended : (holds : List ℕ → List ℕ → ℕ → Type 0) (words used : ℕ) (old new : Segment) (bytes over : List ℕ) (word : ℕ) → IsSegment old → take used bytes ≡ old.bytes → used ≤ length bytes
     → IsWrittenOver used words holds word bytes over → new.bytes ≡ take (used + 8 * words) over → new.most ≡ old.most → ¬ (IsPastMost words old) → old.capacity ≤ new.capacity
     → length bytes ≤ new.capacity → AppendsObject holds words old new (Ok word)
@@ -87,11 +87,11 @@ over_appended holds words used old new bytes over word is old_is within written 
     appended holds words old new written.block word is whole written.block_long most room memory (omega (arith, short, fits))
     (λ body start. written.holds_is body (ap (λ (n : ℕ). n / 8) (sym used_long) ∙ start))
 
--- a region of which the first bytes are used
+-- a region whose first bytes are used
 abbrev pub grown_region : ℕ → List ℕ → Segment
 grown_region used region = record { bytes = take used region; most = Some (length region); capacity = length region }
 
--- to the used bytes of a region
+-- an object is appended to the used bytes of a region
 pub region_appended : (holds : List ℕ → List ℕ → ℕ → Type 0) (words used : ℕ) (old : Segment) (region new : List ℕ) (word : ℕ) → IsSegment old → grown_region used region ≡ old
     → used + 8 * words ≤ length region → IsWrittenOver used words holds word region new → AppendsObject holds words old (grown_region (used + 8 * words) new) (Ok word)
 region_appended holds words used old region new word is old_is within written =
@@ -100,11 +100,11 @@ region_appended holds words used old region new word is old_is within written =
     over_appended holds words used old (grown_region (used + 8 * words) new) region new word is (ap (λ (s : Segment). s.bytes) old_is) (omega (arith, within)) written refl
     (ap (λ (n : ℕ). Some n) written.len ∙ ap (λ (s : Segment). s.most) old_is) room (omega (arith, capacity_is, written.len)) (omega (arith, written.len))
 
--- a vector of which the first bytes are used
+-- a vector whose first bytes are used
 abbrev pub grown_heap : ℕ → List ℕ → ℕ → Segment
 grown_heap used bytes capacity = record { bytes = take used bytes; most = None; capacity = capacity }
 
--- to the used bytes of a vector, to which zeros were added
+-- an object is appended to the used bytes of a vector, after zeros were added to it
 pub heap_appended : (holds : List ℕ → List ℕ → ℕ → Type 0) (words used size capacity more : ℕ) (old : Segment) (bytes longer seen new : List ℕ) (word : ℕ) → IsSegment old
     → grown_heap used bytes capacity ≡ old → take used longer ≡ take used bytes → used ≤ length longer → length longer ≤ more → capacity ≤ more → seen ≡ longer → size ≡ length seen
     → IsWrittenOver used words holds word seen new → AppendsObject holds words old (grown_heap (used + 8 * words) (take size (new ++ drop (length new) longer)) more) (Ok word)

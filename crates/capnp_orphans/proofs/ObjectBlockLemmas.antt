@@ -37,7 +37,7 @@ middle_part m n xs w within long =
     ap (λ (l : List ℕ). take (m + n) l) (sym (append_assoc (take m xs) w (drop n (drop m xs)))) ∙ ap (λ (k : ℕ). take k ((take m xs ++ w) ++ drop n (drop m xs))) all_long
     ∙ take-append_seam (take m xs ++ w) (drop n (drop m xs))
 
--- with zeros, of which the first are zero
+-- it is written over with zeros, and its first ones are then zero
 pub middle_zero : (m n k : ℕ) (xs w : List ℕ) → m ≤ length xs → n ≤ k → w ≡ replicate k 0 → take n (drop m (take m xs ++ (w ++ drop k (drop m xs)))) ≡ replicate n 0
 middle_zero m n k xs w within fits zero =
     let rest : List ℕ = drop k (drop m xs) in
@@ -66,7 +66,7 @@ head_is x y xs ys e = cc
 tail_is : (x y : ℕ) (xs ys : List ℕ) → x ∷ xs ≡ y ∷ ys → xs ≡ ys
 tail_is x y xs ys e = cc
 
--- a value over a block of its words
+-- a value is written over a block of its words
 pub record ValueWritten (has_tree : Trees → Type 0) (number : ℕ) (block : List ℕ) (words : ℕ) : Type 0 where
   pub form : Form
   pub children : Trees

@@ -1,5 +1,5 @@
--- Copies of what a reader shows (src/copied.rt): their words, and a pointer that is copied, or
--- can't be.
+-- Copies of what a reader shows (src/copied.rt): their words, and a pointer that is copied, or can't be
+-- copied.
 use Rattle.std.proofs.Common.{◌≡◌, ℕ, zero, suc, ◌+◌, ◌*◌, ◌/◌, ◌^◌, ◌<◌, ◌≤◌, ◌⊎◌, inl, inr, length, take, List, [], ◌∷◌, ◌++◌, Option, Some, MatchOption, Result, refl, sym, ◌∙◌, ap, subst, arith, append_assoc, length-append}
 use Rattle.std.specs.Prelude.{slice_set, slice_index, replicate, true, false, ◌-◌, ◌%◌, ◌==◌, if◌then◌else◌}
 use Rattle.std.specs.Result.{IsErrAnd}
@@ -23,7 +23,7 @@ use Rattle.capnp_orphans.specs.Holds.{HoldsValue}
 use Rattle.capnp_orphans.specs.Adding.{FailsToAdd}
 use Rattle.capnp_orphans.specs.Copied.{TakesCopy, CopyError, TakesCopies}
 
--- a word of what is filled up with zeros
+-- a word among words that are filled up with zeros
 zero_word : (count i : ℕ) → slice_index (replicate count 0) i ≡ 0
 zero_word zero i = refl
 zero_word (suc count) zero = refl
@@ -34,7 +34,7 @@ filled_word [] count i = zero_word count i
 filled_word (w ∷ words) count zero = refl
 filled_word (w ∷ words) count (suc i) = filled_word words count i
 
--- one data word more
+-- one more data word
 pub next_word : (shown words : List ℕ) (count i v : ℕ) → i < length words → i < count → take i words ≡ take i (shown ++ replicate count 0) → v ≡ slice_index shown i
     → take (i + 1) (slice_set words i v) ≡ take (i + 1) (shown ++ replicate count 0)
 next_word shown words count i v within few is same =
@@ -43,7 +43,7 @@ next_word shown words count i v within few is same =
     ∙ ap (λ (w : ℕ). take i (shown ++ replicate count 0) ++ w ∷ []) (same ∙ sym (filled_word shown count i))
     ∙ sym (take_more (shown ++ replicate count 0) i 0 there)
 
--- the words of a copy are of one number, and so are those of copies
+-- a copy has only one number of words, and so have several copies
 pub one_copy : (pointer : Pointer) (a b : ℕ) → TakesCopy pointer a → TakesCopy pointer b → a ≡ b
 one_copy pointer a b x y =
     x.words_are ∙ ap (λ (t : Trees). total_words t) (ap (λ (t : Trees). output false t) ((one_of_pointer pointer).same_tree x.trees y.trees x.tree_is y.tree_is)) ∙ sym y.words_are
@@ -55,7 +55,7 @@ same_copies fields (suc count) a b x y =
     let last : x.1 ≡ y.1 = one_copy (pointer_in fields count) x.1 y.1 x.3 y.3 in
     omega (arith, front, last, x.4, y.4)
 
--- one of some copies
+-- one copy among others
 pub record IsCopyAt (fields : Struct) (index words : ℕ) : Type 0 where
   pub before : ℕ
   pub last : ℕ
@@ -94,13 +94,13 @@ pub length-appended : (words : ℕ) (old new : Segment) → Appends words old ne
 length-appended words old new appends =
     ap (λ (l : List ℕ). length l) appends.bytes_are ∙ length-append old.bytes appends.block ∙ ap (λ (n : ℕ). length old.bytes + n) appends.len
 
--- a pointer that can't be copied after some words
+-- a pointer that can't be copied after some words, with this error
 abbrev pub PointerCopyError : Pointer → ℕ → Segment → ErrorKind → Type 0
 PointerCopyError pointer before segment kind = CopyError pointer kind
     ⊎ ((words : ℕ) × TakesCopy pointer words × (kind ≡ AllocationTooLarge words)
     × ((2 ^ 29 ≤ length segment.bytes / 8 + before + words) ⊎ IsPastMost (before + words) segment))
 
--- it can't be
+-- copying it fails
 pub copy_fails : {T : Type 0} (pointer : Pointer) (before : ℕ) (kind : ErrorKind) (old between : Segment) (result : Result T Error) → Appends before old between → between.most ≡ old.most
     → FailsToAdd (TakesCopy pointer) (CopyError pointer) between result → PointerCopyError pointer before old kind → IsErrAnd result (λ error. error.kind ≡ kind)
 copy_fails pointer before kind old between result appends most fails (inl errors) = fails.exact kind errors

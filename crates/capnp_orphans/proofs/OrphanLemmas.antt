@@ -1,4 +1,4 @@
--- An object that holds orphans, and is written after them, is one orphan more.
+-- An object that has adopted orphans, and is written after them, is one more orphan.
 use Rattle.std.proofs.Common.{◌≡◌, ℕ, ◌+◌, ◌^◌, ◌<◌, ◌≤◌, List, [], ◌∷◌, ◌++◌, length, Some, slice_get, refl, sym, ◌∙◌, ap, subst, arith, append_assoc}
 use Rattle.std.specs.Prelude.{All}
 use Rattle.std.proofs.lemmas.Option.{slice_get_within}
@@ -16,7 +16,7 @@ use Rattle.capnp_orphans.proofs.OrphanPointerLemmas.{length-orphan_links, read_l
 pub null_is_orphan : (body : List ℕ) → IsOrphan body 0 null none
 null_is_orphan body = record { points_to = λ first more place low link_is_at. (0 + 0 + 0, at (is_null link_is_at) nowhere nowhere) }
 
--- the orphans stand for their trees where the pointers to them are
+-- the pointers to the orphans point to their trees
 pub orphans_are_at : (first : ℕ) (body more words : List ℕ) (trees : Trees) (place : ℕ) → AreOrphans body words trees → place + length words ≤ 2 ^ 29
     → Holds (first ∷ (body ++ more)) place (links words place) → (traversed : ℕ) × At ((first ∷ (body ++ more)) ∷ []) (places 0 place (length words)) trees traversed
 orphans_are_at first body more [] trees place are room h = (0, subst (λ (t : Trees). At ((first ∷ (body ++ more)) ∷ []) [] t 0) (sym are) nowhere)
@@ -38,7 +38,7 @@ words_appended first body object_size more start is = record {
   begins = omega (arith, is);
 }
 
--- a struct of some words that holds orphans is one orphan more
+-- a struct of some words that has adopted orphans is one more orphan
 pub struct_is_orphan : (body words ps : List ℕ) (children : Trees) (start : ℕ) → start ≡ 1 + length body → length words < 2 ^ 16 → length ps < 2 ^ 16 → All (λ w. w < 2 ^ 64) words
     → start + length words + length ps < 2 ^ 29 → AreOrphans body ps children
     → IsOrphan (body ++ (words ++ links ps (start + length words))) (pointer (struct words) (length ps) start) (struct words) children
@@ -83,7 +83,7 @@ pointers_are_orphan body words children start is room are = record {
       (read.traversed + children_there.0 + 0, at read.object (subst (λ (there : List Place). At (segment ∷ []) there children children_there.0) (sym run_is) children_here) nowhere);
 }
 
--- a tree whose body is appended is one orphan more
+-- a tree whose body is appended is one more orphan
 pub value_is_orphan : (body : List ℕ) (form : Form) (children : Trees) (start : ℕ) → start ≡ 1 + length body → AllHaveRoom (tree form children none) → start + total_words (tree form children none) < 2 ^ 29
     → IsOrphan (body ++ body_of (tree form children none)) (pointer form (count children) start) form children
 value_is_orphan body form children start is rooms room = record {

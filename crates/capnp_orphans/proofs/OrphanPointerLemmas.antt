@@ -8,7 +8,7 @@ use Rattle.capnp_layout.proofs.layouts.LayoutSizeLemmas.{elements_even}
 use Rattle.capnp_layout.proofs.layouts.FormReadBackLemmas.{Read, Points, read_struct, read_pointers, read_numbers, read_structs}
 use Rattle.capnp_orphans.specs.Orphans.{link, links}
 
--- the offset of a pointer that points to a start
+-- the offset of a pointer to a given word
 abbrev pub offset_to : ℕ → ℕ → ℕ
 offset_to start place = (start + 2 ^ 30 - (place + 1)) % 2 ^ 30
 

@@ -1,4 +1,4 @@
--- Lists of structs that hold orphans.
+-- Lists of structs that have adopted orphans.
 use Rattle.std.proofs.Common.{◌≡◌, ℕ, suc, ◌+◌, ◌*◌, ◌^◌, ◌<◌, ◌≤◌, List, [], ◌∷◌, ◌++◌, length, take, drop, Some, slice_get, slice_index_or, refl, sym, ◌∙◌, ap, subst, arith, append_assoc, length-append}
 use Rattle.std.specs.Prelude.{All}
 use Rattle.std.proofs.lemmas.List.{append-nil, length-take, take_all, take_more}
@@ -23,7 +23,7 @@ pub length-words_of_each : {T : Type 0} {D P : ℕ} (xs : List (StructDraft T D 
 length-words_of_each [] = refl
 length-words_of_each (x ∷ xs) = ap (λ (n : ℕ). suc n) (length-words_of_each xs)
 
--- where a further struct comes
+-- where the next struct comes
 more_size : (n place d p : ℕ) → place + d + p + n * (d + p) + d ≡ place + suc n * (d + p) + d
 more_size n place d p = omega arith
 
@@ -50,7 +50,7 @@ length-element_words {T} {D} {P} (x ∷ xs) place sized =
       length-element_words xs (place + D + P) sized.1,
     )
 
--- one struct more
+-- one more struct
 sized_append : {T : Type 0} {D P : ℕ} (xs : List (StructDraft T D P)) (x : StructDraft T D P) → AreSized xs → length x.words ≡ D → length x.pointers ≡ P → All (λ w. w < 2 ^ 64) x.words
     → AreSized (xs ++ x ∷ [])
 sized_append [] x sized words pointers small = ((words, pointers, small), tt)
@@ -65,7 +65,7 @@ sized_more {T} {D} {P} xs i x within is sized words pointers small =
 pub all_sized : {T : Type 0} {D P : ℕ} (xs : List (StructDraft T D P)) (i : ℕ) → length xs ≤ i → AreSized (take i xs) → AreSized xs
 all_sized {T} {D} {P} xs i past sized = subst (λ (l : List (StructDraft T D P)). AreSized l) (take_all i xs past) sized
 
--- a further struct is put
+-- the next struct is put
 pub element_put : {T : Type 0} {D P : ℕ} (xs : List (StructDraft T D P)) (i from k place : ℕ) (x : StructDraft T D P) (block part old : List ℕ) → i < length xs → from ≡ i * (D + P) → x ≡ slice_index_or xs i x → AreSized (take i xs)
     → k ≡ 8 * (D + P) → length part ≡ 8 * (D + P) → words_of part ≡ x.words ++ links x.pointers (place + from + D) → length x.words + length x.pointers ≡ D + P
     → from + (D + P) ≤ length old → length (words_of block) ≡ length old → words_of block ≡ put 0 (element_words (take i xs) place) old
@@ -159,7 +159,7 @@ drafts_are_at {T} {D} {P} first body more (x ∷ xs) trees place sized are room 
           (at_both (segment ∷ []) (places 0 (place + D) P) (pointer_places 0 (place + D + P) D P (length xs)) s.front s.rest one.0 two.0 one_here two.1),
     )
 
--- a list of structs that hold orphans is one orphan more
+-- a list of structs that have adopted orphans is one more orphan
 pub structs_are_orphan : {T : Type 0} {D P : ℕ} (body : List ℕ) (xs : List (StructDraft T D P)) (children : Trees) (start : ℕ) → start ≡ 1 + length body → D < 2 ^ 16 → P < 2 ^ 16 → length xs < 2 ^ 29
     → start + 1 + length xs * (D + P) < 2 ^ 29 → AreSized xs → AreOrphans body (adopted_by xs) children
     → IsOrphan (body ++ (struct_pointer (length xs) D P ∷ element_words xs (start + 1))) (list_pointer start 7 (length xs * (D + P))) (structs D P (words_of_each xs)) children

@@ -30,7 +30,7 @@ pub record ArePointersCopied (fields : Struct) (count : ℕ) (old new : Segment)
   pub within_memory : 0 < count → length new.bytes ≤ new.capacity
   pub stays_within : length old.bytes ≤ old.capacity → length new.bytes ≤ new.capacity
 
--- none is
+-- no pointer is copied yet
 pub none_copied : (fields : Struct) (old : Segment) (pointers : List ℕ) → ArePointersCopied fields 0 old old pointers
 none_copied fields old pointers = record {
   words = 0;
@@ -46,7 +46,7 @@ none_copied fields old pointers = record {
   stays_within = λ within. within;
 }
 
--- one more is
+-- one more pointer is copied
 pub one_copied : {T : Type 0} (fields : Struct) (count : ℕ) (old between new : Segment) (pointers : List ℕ) (pointer : Pointer) (word : T → ℕ) (object : T) → pointer ≡ pointer_in fields count
     → count < length pointers → ArePointersCopied fields count old between pointers → AddsOrphan (HoldsValue (PointsToTree pointer)) between new word (Ok object)
     → Writes (TakesCopy pointer) (CopyError pointer) between new (Ok object) → ArePointersCopied fields (count + 1) old new (slice_set pointers count (word object))
@@ -91,7 +91,7 @@ IsLargeCopy pointer kind = (trees : Trees) × PointsToTree pointer trees × (2 ^
 large_copy : (pointer : Pointer) (trees : Trees) → PointsToTree pointer trees → 2 ^ 29 ≤ total_words trees → IsLargeCopy pointer (AllocationTooLarge (min (total_words trees) (2 ^ 32 - 1)))
 large_copy pointer trees points_to many = (trees, points_to, many, refl)
 
--- all are
+-- all pointers are copied
 pub all_copied : {T : Type 0} (fields : Struct) (count : ℕ) (old new : Segment) (pointers : List ℕ) (made : T → List ℕ) (object : T) → length pointers ≡ count → made object ≡ pointers
     → ArePointersCopied fields count old new pointers → CopiesPointers fields count old new made (Ok object)
 all_copied fields count old new pointers made object long same so = record {
@@ -116,7 +116,7 @@ room_at : (words before last : ℕ) (old between : Segment) → SegmentHasRoom w
 room_at words before last old between room appends memory fits =
     (omega (arith, room.0, length-appended before old between appends, fits), omega (arith, room.1, length-appended before old between appends, fits, memory))
 
--- it fails before a pointer that can't be copied only where that is the one
+-- copying fails at the first pointer that can't be copied, and at no other one
 error_there : {T : Type 0} (fields : Struct) (at_index : ℕ) (old between : Segment) (pointers : List ℕ) (error : Error) (index before : ℕ) (kind : ErrorKind)
     → ArePointersCopied fields at_index old between pointers → FailsToAdd {T = T} (TakesCopy (pointer_in fields at_index)) (CopyError (pointer_in fields at_index)) between (Err error)
     → TakesCopies fields index before → SegmentHasRoom before old → PointerCopyError (pointer_in fields index) before old kind → error.kind ≡ kind
@@ -136,7 +136,7 @@ error_there {T} fields at_index old between pointers error index before kind so 
       ]
     ]
 
--- one of them is not
+-- one of the pointers is not copied
 pub copy_failed : {T U : Type 0} (fields : Struct) (count index : ℕ) (old between new : Segment) (pointers : List ℕ) (pointer : Pointer) (made : U → List ℕ) (error : Error)
     (result : Result U Error) → result ≡ Err error → pointer ≡ pointer_in fields index → index < count → ArePointersCopied fields index old between pointers → Keeps between new
     → Writes {T = T} (TakesCopy pointer) (CopyError pointer) between new (Err error) → CopiesPointers {T = U} fields count old new made result
@@ -175,7 +175,7 @@ copy_failed {T} {U} fields count index old between new pointers pointer made err
       stays_within = λ within. subst (λ (s : Segment). length s.bytes ≤ s.capacity) stays (so.stays_within within);
     })
 
--- what is said of the pointers is said of what has them
+-- what is true of the pointers is true of the draft that has them
 pub copies_of : {T U : Type 0} (fields : Struct) (count : ℕ) (old new : Segment) (pointers : List ℕ) (made : U → List ℕ) (object : T) (other : U) → made other ≡ pointers
     → CopiesPointers fields count old new (λ (o : T). pointers) (Ok object) → CopiesPointers fields count old new made (Ok other)
 copies_of {T} {U} fields count old new pointers made object other same so = record {

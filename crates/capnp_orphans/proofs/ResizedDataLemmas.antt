@@ -18,7 +18,7 @@ filled_number : (words : List ℕ) (count : ℕ) → number_of (2 ^ 64) (words +
 filled_number [] count = zeros_number count
 filled_number (w ∷ words) count = ap (λ (n : ℕ). w + 2 ^ 64 * n) (filled_number words count)
 
--- the words, by those that are left and the rest
+-- the words: the ones that are left, and the rest
 cut_number : (words : List ℕ) (count : ℕ) → number_of (2 ^ 64) words
     ≡ number_of (2 ^ 64) (take count (words ++ replicate count 0)) + 2 ^ (64 * count) * number_of (2 ^ 64) (drop count (words ++ replicate count 0))
 cut_number words count =
@@ -31,7 +31,7 @@ cut_number words count =
     ∙ number-append (2 ^ 64) (take count (words ++ replicate count 0)) (drop count (words ++ replicate count 0))
     ∙ ap (λ (p : ℕ). number_of (2 ^ 64) (take count (words ++ replicate count 0)) + p * number_of (2 ^ 64) (drop count (words ++ replicate count 0))) power
 
--- bits below some do not see those above
+-- the bits below a bit do not depend on the bits above it
 low_bits : (number low high start width all : ℕ) → number ≡ low + 2 ^ all * high → start + width ≤ all → low / 2 ^ start % 2 ^ width ≡ number / 2 ^ start % 2 ^ width
 low_bits number low high start width all is within =
     let above : ℕ = all - (start + width) in

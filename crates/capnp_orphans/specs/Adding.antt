@@ -1,5 +1,5 @@
--- What the calls keep that write objects (src/orphanage.rt). In each record `old` and `new` are the
--- segment before the call and after it.
+-- What calls that write objects do (src/orphanage.rt). In each record `old` and `new` are the segment before
+-- the call and after it.
 use Rattle.std.specs.Prelude.{◌≡◌, ◌⊎◌, ℕ, ◌+◌, ◌*◌, ◌/◌, ◌^◌, ◌<◌, ◌≤◌, [], ◌∷◌, ◌++◌, List, length, Result, IfOk, IfErr, IsOk, OnOk, OnErr}
 use Rattle.std.specs.Result.{IsErrAnd}
 use Rattle.capnp_frame.specs.declared.error.Error.{Error}
@@ -13,15 +13,15 @@ use Rattle.capnp_orphans.specs.Segments.{Segment, body_of, Appends, GrantsWords,
 abbrev pub Keeps : Segment → Segment → Type 0
 Keeps old new = (word : ℕ) (form : Form) (children : Trees) → IsOrphan (body_of old) word form children → IsOrphan (body_of new) word form children
 
--- What a call, or several, have added: an orphan, of which `holds` says by the body and its word
--- what it is.
+-- What one call, or several, have added: an orphan. `holds` says what it is, given the body and the orphan's
+-- word.
 pub record AddsOrphan {T : Type 0} (holds : List ℕ → ℕ → Type 0) (old new : Segment) (word : T → ℕ) (result : Result T Error) : Type 0 where
   -- all orphans keep their trees, also after a failure
   pub keeps : Keeps old new
   -- what the new orphan is
   pub orphan : IfOk result (λ object. holds (body_of new) (word object))
 
--- there is no room for this many words: a segment has fewer than 2 ^ 29, or no memory for as many
+-- there is no room for this many words: the segment would have 2 ^ 29 or more, or has no memory for them
 abbrev pub RoomError : ℕ → Segment → ErrorKind → Type 0
 RoomError words segment kind = ((2 ^ 29 ≤ length segment.bytes / 8 + words) × (kind ≡ AllocationTooLarge words))
     ⊎ ((length segment.bytes / 8 + words < 2 ^ 29) × AppendingError words segment kind)
@@ -30,20 +30,20 @@ RoomError words segment kind = ((2 ^ 29 ≤ length segment.bytes / 8 + words) ×
 abbrev pub SegmentHasRoom : ℕ → Segment → Type 0
 SegmentHasRoom words segment = (length segment.bytes / 8 + words < 2 ^ 29) × GrantsWords words segment
 
--- When a call fails that writes an object: `takes` says how many words it has, and `fails` with
+-- When a call that writes an object fails: `takes` says how many words the object has, and `fails` with
 -- which kinds it fails.
 pub record FailsToAdd {T : Type 0} (takes : ℕ → Type 0) (fails : ErrorKind → Type 0) (old : Segment) (result : Result T Error) : Type 0 where
-  -- it fails with a kind of the object, or for want of room for its words
+  -- it fails with a kind of the object, or because there is no room for its words
   pub kind : IfErr result (λ error. fails error.kind ⊎ ((words : ℕ) × takes words × RoomError words old error.kind))
   -- an object that fails is not written
   pub exact : (kind : ErrorKind) → fails kind → IsErrAnd result (λ error. error.kind ≡ kind)
-  -- an object is written where there is room in the memory that is there
+  -- an object is written where the memory that is there has room
   pub fits : (words : ℕ) → takes words → SegmentHasRoom words old → IsOk result
-  -- it fails by its words where a segment would have 2 ^ 29, or a region more than it has room for
+  -- it fails with its words where a segment would have 2 ^ 29 words, or a region more than it has room for
   pub long : (words : ℕ) → takes words → 2 ^ 29 ≤ length old.bytes / 8 + words → IsErrAnd result (λ error. error.kind ≡ AllocationTooLarge words)
   pub full : (words : ℕ) → takes words → IsPastMost words old → IsErrAnd result (λ error. error.kind ≡ AllocationTooLarge words)
 
--- What one call writes that adds an object.
+-- What one call that adds an object writes.
 pub record Writes {T : Type 0} (takes : ℕ → Type 0) (fails : ErrorKind → Type 0) (old new : Segment) (result : Result T Error) : Type 0 where
   -- exactly the object's words are appended, and no other word changes
   pub appended : OnOk result ((words : ℕ) × takes words × Appends words old new)
@@ -55,11 +55,11 @@ pub record Writes {T : Type 0} (takes : ℕ → Type 0) (fails : ErrorKind → T
   pub memory : old.capacity ≤ new.capacity
   pub within_memory : OnOk result (length new.bytes ≤ new.capacity)
 
--- What setting the root to the orphan of this word keeps.
+-- What setting the root to the orphan of this word does.
 pub record SetsRootOrphan (word : ℕ) (old new : Segment) : Type 0 where
   -- all words except the root's stay, so all orphans keep their trees
   pub body_is : body_of new ≡ body_of old
-  -- the root's word is the pointer to the orphan, whatever that is
+  -- the root's word is the pointer to the orphan, whatever the orphan is
   pub words_are : words_of new.bytes ≡ link word 0 ∷ body_of old
   -- the root is the orphan's tree
   pub root_is : (form : Form) (children : Trees) → IsOrphan (body_of old) word form children
@@ -68,19 +68,19 @@ pub record SetsRootOrphan (word : ℕ) (old new : Segment) : Type 0 where
   pub most : new.most ≡ old.most
   pub memory : new.capacity ≡ old.capacity
 
--- What adding an object as the root keeps; `takes` says how many words it has.
+-- What adding an object as the root does; `takes` says how many words it has.
 pub record AddsRoot (takes : ℕ → Type 0) (holds : List ℕ → ℕ → Type 0) (old new : Segment) (result : Result (Unit {0}) Error) : Type 0 where
   -- all orphans keep their trees, also after a failure
   pub keeps : Keeps old new
-  -- the root is the tree of an orphan of which `holds` holds, and its word is the pointer to it,
-  -- whatever that is
+  -- the root is the tree of an orphan that `holds` describes, and its word is the pointer to the orphan,
+  -- whatever the orphan is
   pub root_is : OnOk result ((word : ℕ) × holds (body_of new) word
       × ((form : Form) (children : Trees) → IsOrphan (body_of new) word form children → (traversed : ℕ) × Root (message_of (new.bytes ∷ [])) form children traversed)
       × (words_of new.bytes ≡ link word 0 ∷ body_of new))
-  -- exactly the object's words are appended, and of the others only the root's may change
+  -- exactly the object's words are appended, and among the others only the root's may change
   pub appended : OnOk result ((words : ℕ) × takes words × ((block : List ℕ) × (length block ≡ words) × (body_of new ≡ body_of old ++ block)))
   pub long : OnOk result ((words : ℕ) × takes words × (length new.bytes ≡ length old.bytes + 8 * words))
-  -- after a failure nothing has changed, and the root is as it was
+  -- after a failure nothing has changed, not even the root
   pub unchanged : OnErr result (new ≡ old)
   pub most : new.most ≡ old.most
   -- the memory stays, and the bytes are in it

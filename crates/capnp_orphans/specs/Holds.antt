@@ -1,4 +1,4 @@
--- What orphans are (src/draft.rt, src/orphanage.rt). In each fact `body` is the body of the
+-- What orphans hold (src/draft.rt, src/orphanage.rt). In each fact `body` is the body of the
 -- segment, `old` the body before the orphan was written, and `word` the orphan's word.
 use Rattle.std.specs.Prelude.{◌≡◌, ◌⊎◌, ⊤, ℕ, ◌+◌, ◌-◌, ◌*◌, ◌^◌, ◌<◌, ◌≤◌, min, List, [], ◌∷◌, ◌++◌, length, All}
 use Rattle.capnp_frame.specs.declared.error.ErrorKind.{ErrorKind}
@@ -11,11 +11,12 @@ use Rattle.capnp_orphans.specs.Orphans.{links, IsOrphan, AreOrphans}
 abbrev pub word_of : {T : Type 0} → Orphan T → ℕ
 word_of orphan = orphan.word
 
--- it is the tree of a value
+-- it holds the tree of a value
 abbrev pub HoldsValue : (Trees → Type 0) → List ℕ → ℕ → Type 0
 HoldsValue has_tree body word = (form : Form) × (children : Trees) × has_tree (tree form children none) × IsOrphan body word form children
 
--- It is a struct of these data words, written right after the old body, which has adopted the orphans of these words.
+-- It is a struct of these data words that has adopted the orphans with these words, written right after the
+-- old body.
 pub record HoldsStruct (old words adopted body : List ℕ) (word : ℕ) : Type 0 where
   -- its tree has the trees of these orphans
   pub tree_is : (children : Trees) → AreOrphans old adopted children → IsOrphan body word (struct words) children
@@ -23,7 +24,7 @@ pub record HoldsStruct (old words adopted body : List ℕ) (word : ℕ) : Type 0
   pub words_are : body ≡ old ++ (words ++ links adopted (1 + length old + length words))
   pub word_is : word ≡ pointer (struct words) (length adopted) (1 + length old)
 
--- It is a list of the pointers to these orphans, written right after the old body.
+-- It is a list of pointers to these orphans, written right after the old body.
 pub record HoldsPointers (old adopted body : List ℕ) (word : ℕ) : Type 0 where
   -- its tree has the trees of these orphans
   pub tree_is : (children : Trees) → AreOrphans old adopted children → IsOrphan body word pointers children
@@ -31,7 +32,7 @@ pub record HoldsPointers (old adopted body : List ℕ) (word : ℕ) : Type 0 whe
   pub words_are : body ≡ old ++ links adopted (1 + length old)
   pub word_is : word ≡ list_pointer (1 + length old) 6 (length adopted)
 
--- a struct of these data words, which has adopted the orphans of these words
+-- a struct of these data words that has adopted the orphans with these words
 abbrev pub draft_of : {T : Type 0} {D P : ℕ} → List ℕ → List ℕ → StructDraft T D P
 draft_of words adopted = record { words = words; pointers = adopted; schema = record {} }
 
@@ -63,14 +64,14 @@ abbrev pub AreSized : {T : Type 0} {D P : ℕ} → List (StructDraft T D P) → 
 AreSized [] = ⊤
 AreSized {D = D} {P = P} (draft ∷ drafts) = ((length draft.words ≡ D) × (length draft.pointers ≡ P) × All (λ w. w < 2 ^ 64) draft.words) × AreSized drafts
 
--- Orphans in order are those of these values, each of which is such a tree.
+-- Orphans in order are the orphans of these values: each holds a tree that its value has.
 abbrev pub AreValues : {A : Type 0} → (A → Trees → Type 0) → List ℕ → List A → List ℕ → Type 0
 AreValues has_tree body [] [] = ⊤
 AreValues has_tree body [] (word ∷ words) = ⊥
 AreValues has_tree body (value ∷ values) [] = ⊥
 AreValues has_tree body (value ∷ values) (word ∷ words) = HoldsValue (has_tree value) body word × AreValues has_tree body values words
 
--- trees in order are those of these values
+-- trees in order are the trees of these values
 abbrev pub AreTrees : {A : Type 0} → (A → Trees → Type 0) → List A → Trees → Type 0
 AreTrees has_tree [] trees = trees ≡ none
 AreTrees has_tree (value ∷ values) none = ⊥

@@ -10,7 +10,7 @@ use Rattle.capnp_orphans.specs.Segments.{Segment, body_of}
 use Rattle.capnp_orphans.specs.Holds.{HoldsValue, HoldsStruct, HoldsPointers, HoldsStructs, words_of_each, adopted_by, AreValues, AreTrees}
 use Rattle.capnp_orphans.specs.Adding.{Keeps, SetsRootOrphan}
 
--- an orphan is still one of the same tree when words are appended
+-- an orphan still has the same tree when words are appended
 pub still_orphan : (body more : List ℕ) (word : ℕ) (form : Form) (children : Trees) → IsOrphan body word form children → IsOrphan (body ++ more) word form children
 still_orphan body more word form children h = record {
   points_to = λ first others place low link_is_at.
@@ -24,7 +24,7 @@ still_orphan body more word form children h = record {
 pub keeps_on : (first second third : Segment) → Keeps first second → Keeps second third → Keeps first third
 keeps_on first second third one two = λ word form children h. two word form children (one word form children h)
 
--- orphans in order stay, where each stays
+-- orphans in order keep their trees, where each orphan keeps its tree
 pub kept_orphans : (old new : Segment) (words : List ℕ) (trees : Trees) → Keeps old new → AreOrphans (body_of old) words trees → AreOrphans (body_of new) words trees
 kept_orphans old new [] trees keeps is = is
 kept_orphans old new (word ∷ words) none keeps is = is
@@ -41,7 +41,7 @@ kept_values has_tree old new (value ∷ values) [] keeps are = absurd are
 kept_values has_tree old new (value ∷ values) (word ∷ words) keeps are =
     (kept_value (has_tree value) old new word keeps are.0, kept_values has_tree old new values words keeps are.1)
 
--- one value more
+-- orphans of one more value
 pub one_more : {A : Type 0} (has_tree : A → Trees → Type 0) (body : List ℕ) (values : List A) (words : List ℕ) (value : A) (word : ℕ) → AreValues has_tree body values words
     → HoldsValue (has_tree value) body word → AreValues has_tree body (values ++ value ∷ []) (words ++ word ∷ [])
 one_more has_tree body [] [] value word are is = (is, tt)
@@ -54,7 +54,7 @@ pub one_value_more : {A : Type 0} (has_tree : A → Trees → Type 0) (old new :
 one_value_more has_tree old new values words value word keeps are is =
     one_more has_tree (body_of new) values words value word (kept_values has_tree old new values words keeps are) is
 
--- The next value of a list, whose orphan is pushed: the step of a loop.
+-- The orphan of a list's next value is pushed: the step of a loop.
 pub pushed_value : {A B : Type 0} (has_tree : A → Trees → Type 0) (old new : Segment) (values : List A) (i : ℕ) (d : A) (word : B → ℕ) (items pushed : List B) (object : B) → i < length values
     → Keeps old new → pushed ≡ items ++ object ∷ [] → AreValues has_tree (body_of old) (take i values) (map word items) → HoldsValue (has_tree (slice_index_or values i d)) (body_of new) (word object)
     → AreValues has_tree (body_of new) (take (i + 1) values) (map word pushed)
@@ -75,8 +75,8 @@ their_trees has_tree body (value ∷ values) (word ∷ words) are =
     let r = their_trees has_tree body values words are.1 in
     (tree are.0.0 are.0.1 r.0, (are.0.3, r.1), (are.0.2, r.2))
 
--- what is added is a value, once the trees of the orphans are known that it has adopted: a struct,
--- a list of pointers, a list of structs
+-- what is added is a value, once the trees of the orphans that it has adopted are known: a struct, a list of
+-- pointers, a list of structs
 pub struct_value : {T : Type 0} (old new words adopted : List ℕ) (children : Trees) (has_tree : Trees → Type 0) (word : T → ℕ) (result : Result T Error) → AreOrphans old adopted children
     → has_tree (tree (struct words) children none) → IfOk result (λ object. HoldsStruct old words adopted new (word object)) → IfOk result (λ object. HoldsValue has_tree new (word object))
 struct_value old new words adopted children has_tree word (Ok object) are is h = (struct words, children, is, h.tree_is children are)

@@ -1,4 +1,4 @@
-//! Structs that are read, as drafts: to be changed, and written again.
+//! Drafts of structs that are read, to be changed and written again.
 ghost use Rattle.std.specs.Prelude.{◌≡◌, length, replicate, slice_index, IfOk};
 ghost use Rattle.capnp_wire.specs.Prelude.{struct_of, pointer_of, pointer_in};
 ghost use Rattle.capnp_orphans.specs.Copied.{data_up_to, CopiesPointers};
@@ -12,9 +12,9 @@ use capnp_wire::any_pointer;
 use capnp_wire::any_struct::StructReader;
 
 impl<T, const D: usize, const P: usize> StructDraft<T, D, P> {
-    /// A struct with the data words of a struct that is read: cut to as many as the draft has, or
-    /// filled up with zeros, as a reader of the type reads them (encoding document, "Structs"). All
-    /// its pointers are null.
+    /// A struct with the data words of a struct that is read, and with null pointers. The words are
+    /// cut to as many as the draft has, or filled up with zeros, as a reader of the type reads them
+    /// (encoding document, "Structs").
     pub fn from_data_section<R: ReaderSegments>(
         fields: &StructReader<'_, R>,
     ) -> StructDraft<T, D, P>
@@ -27,11 +27,11 @@ impl<T, const D: usize, const P: usize> StructDraft<T, D, P> {
     }
 
     /// A struct with the data words of a struct that is read, and with copies of what its pointers
-    /// point to, each written as `Orphanage::set` of that pointer writes it. Pointers beyond those
-    /// of the draft are left out; past the last one that is read they are null.
+    /// point to, each written as `Orphanage::set` of that pointer writes it. Pointers that the
+    /// draft has no room for are left out; pointers past the last one that is read are null.
     ///
-    /// Fails as `Orphanage::set` does of the first pointer that can't be copied. What was copied
-    /// before that stays in the segment, and no pointer points to it.
+    /// Fails as `Orphanage::set` does for the first pointer that can't be copied. What was copied
+    /// before it stays in the segment, and no pointer points to that.
     pub fn from_reader<R: ReaderSegments, S: GrowingSegment>(
         fields: &StructReader<'_, R>,
         objects: &mut Orphanage<S>,

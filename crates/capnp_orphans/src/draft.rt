@@ -11,11 +11,11 @@ use capnp_values::{put_field, words_fit};
 use capnp_wire::primitive_element::PrimitiveElement;
 use std::marker::PhantomData;
 
-/// A struct of a type of a schema, of this many data words and pointers, that is not written yet
+/// A struct of a schema's type that is not written yet, of `D` data words and `P` pointers
 /// (encoding document, "Structs").
 ///
-/// It may be written more than once. Then each of the structs that are written has pointers to what
-/// it has adopted.
+/// It may be written more than once. Then each struct that is written has pointers to the orphans
+/// that the draft has adopted.
 ///
 /// ```
 /// let mut phone = StructDraft::<any_struct::Owned, 1, 1>::new();
@@ -29,7 +29,7 @@ pub struct StructDraft<T, const D: usize, const P: usize> {
     pub words: [u64; D],
 
     /// The words of the orphans that it has adopted, 0 for null. A word that no call returned does
-    /// no more harm than that of an orphan of another orphanage.
+    /// no more harm than an orphan of another orphanage.
     pub pointers: [u64; P],
 
     /// Its type in a schema.
@@ -50,7 +50,7 @@ impl<T, const D: usize, const P: usize> StructDraft<T, D, P> {
         }
     }
 
-    /// A struct of these data words, which has adopted the orphans of these words.
+    /// A struct of these data words that has adopted the orphans with these words.
     #[inline(always)]
     pub(crate) fn of_words(words: [u64; D], pointers: [u64; P]) -> StructDraft<T, D, P>
         ensures words { result.words ≡ words.entry }
@@ -75,7 +75,7 @@ impl<T, const D: usize, const P: usize> StructDraft<T, D, P> {
     }
 
     /// Sets a field that has a default, at an offset in units of the field's own width. The data
-    /// section gets the bits of the number XORed with those of the default (encoding document,
+    /// section gets the bits of the number XORed with the bits of the default (encoding document,
     /// "Default Values").
     #[tactic(auto, using(std::proofs::lemmas::Nat::xor_lt))]
     #[inline(always)]
@@ -89,8 +89,8 @@ impl<T, const D: usize, const P: usize> StructDraft<T, D, P> {
         put_field(&mut self.words, N::size().bits(), offset, bits);
     }
 
-    /// A field of the data section, at an offset in units of its own width. It is zero past the end
-    /// of the section.
+    /// A field of the data section, at an offset in units of its own width; zero past the end of
+    /// the section.
     #[inline(always)]
     pub fn get_data_field<N: PrimitiveElement>(&self, offset: u32) -> N
         ensures { result ≡ N.value_of (field self.now.words (width N.code) offset) }
@@ -98,8 +98,8 @@ impl<T, const D: usize, const P: usize> StructDraft<T, D, P> {
         N::from_bits(field_bits(&self.words, N::size().bits(), offset))
     }
 
-    /// A field that has a default, at an offset in units of its own width. It is the default past
-    /// the end of the section.
+    /// A field that has a default, at an offset in units of its own width; the default past the end
+    /// of the section.
     #[tactic(auto, using(std::proofs::lemmas::Nat::xor_lt))]
     #[inline(always)]
     pub fn get_data_field_mask<N: PrimitiveElement>(&self, offset: u32, default: N) -> N
@@ -110,7 +110,7 @@ impl<T, const D: usize, const P: usize> StructDraft<T, D, P> {
         N::from_bits(field_bits(&self.words, N::size().bits(), offset) ^ default_bits)
     }
 
-    /// Whether the pointer at this index is not null. Past the last one all are null.
+    /// Whether the pointer at this index is not null. Past the last one it is null.
     #[inline(always)]
     pub fn has_pointer(&self, index: usize) -> bool
         ensures { IsTrue result ↔ (slice_index_or self.now.pointers index 0 ≢ 0) }
@@ -153,7 +153,7 @@ fn field_bits(words: &[u64], width: u64, offset: u32) -> u64
     in_word(word_at(words, start / 64), width, start % 64)
 }
 
-// Some bits of a word, from this bit on.
+// `width` bits of a word, from the bit `start` on.
 #[inline(always)]
 fn in_word(word: u64, bits: u64, start: u64) -> u64
     requires within { bits + start ≤ 64 }

@@ -4,7 +4,7 @@ ghost use Rattle.capnp_orphans.specs.declared.draft.StructDraft.{StructDraft};
 
 use crate::draft::StructDraft;
 
-/// Structs of one size in order, each made when the list is written.
+/// Structs of one size in order, each made when the list of them is written.
 pub trait DraftSource<T, const D: usize, const P: usize> {
     /// The structs.
     ghost drafts: { Self → List (StructDraft T D P) };

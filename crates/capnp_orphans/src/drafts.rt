@@ -1,4 +1,4 @@
-//! Structs of a schema's own types, in lists.
+//! Lists of structs of a schema's own types.
 ghost use Rattle.std.specs.Prelude.{◌≡◌, ◌<◌, List, length, map, get_or};
 ghost use Rattle.capnp_orphans.specs.declared.draft.StructDraft.{StructDraft};
 
@@ -10,7 +10,7 @@ use crate::segment::GrowingSegment;
 use crate::struct_list::StructList;
 use capnp_frame::Result;
 
-/// A type that is written as a draft: a builder that the schema compiler makes.
+/// A type that is written as a draft, such as a builder that the schema compiler makes.
 pub trait Draft<T, const D: usize, const P: usize> {
     /// The draft.
     ghost draft: { Self → StructDraft T D P };
@@ -55,8 +55,8 @@ impl<S: GrowingSegment> Orphanage<S> {
     ghost use Rattle.capnp_orphans.specs.Holds.{word_of, HoldsStructs, TakesStructsWords, ManyStructs};
     ghost use Rattle.capnp_orphans.specs.Segments.{body_of};
 
-    /// Writes a list of structs of a schema's own type, by their builders, as an orphan of the type
-    /// that the schema gives the list. It fails as `struct_list` does.
+    /// Writes a list of the structs of these builders, as an orphan of the type that the schema
+    /// gives the list. Fails as `struct_list` does.
     pub fn draft_list<T, U, const D: usize, const P: usize, B: Draft<T, D, P>>(
         &mut self,
         builders: &[B],

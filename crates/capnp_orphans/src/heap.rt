@@ -1,4 +1,4 @@
-//! A segment on the heap that grows.
+//! A growing segment on the heap.
 ghost use Rattle.std.specs.Prelude.{◌≡◌, ◌<◌, ◌≤◌, ◌^◌, ◌++◌, ℕ, IsTrue, false, length, replicate, None, MatchResult};
 ghost use Rattle.capnp_frame.specs.declared.error.ErrorKind.TheVariants.{OutOfMemory};
 
@@ -8,13 +8,13 @@ use capnp_frame::{Error, ErrorKind, Result};
 use std::alloc::Global;
 use std::marker::Model;
 
-// How many bytes are asked for at first: as many as `HeapAllocator` asks for.
+// The bytes that are asked for at first: as many as `HeapAllocator` asks for.
 //
 // Speed: most messages have fewer, and need no further request (`tools/time-classic`, in new
 // memory).
 const FIRST_BYTES: usize = 8192;
 
-/// A segment on the heap, of whose bytes the first ones are used.
+/// A segment on the heap. The first bytes of its vector are used.
 ///
 /// Speed: the bytes after these have been written or made zero before, so an object is written over
 /// them, and `clear` is one store (`tools/time-building built`, `tree` and `table`).
@@ -94,11 +94,10 @@ impl GrowingSegment for Heap {
     }
 }
 
-// Adds zeros to a vector, so that it has at least this many bytes. Returns whether it has; changes
-// nothing where no more memory can be had.
+// Adds zeros to a vector, so that it has at least this many bytes, and returns true. When out of
+// memory it changes nothing and returns false.
 //
-// Speed: further zeros are added where the memory has room for them, so the next objects need no
-// call.
+// Speed: it adds more zeros where the memory has room for them, so the next objects need no call.
 #[inline(never)]
 fn grown(bytes: &mut Vec<u8>, end: usize) -> bool
     requires longer { length bytes.old.items ≤ end }

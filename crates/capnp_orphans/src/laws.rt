@@ -1,5 +1,5 @@
-//! Facts about orphans. `specs/OrphanLaws.antt` has facts about the trees of values of any kind,
-//! for proofs.
+//! Facts about orphans, each the contract of a function that does nothing. `specs/OrphanLaws.antt`
+//! has facts for proofs, about the trees of values of any kind.
 ghost use Rattle.std.specs.Prelude.{◌≡◌, ◌+◌, ◌*◌, ◌≤◌, ℕ, List, [], ◌∷◌, ◌++◌};
 ghost use Rattle.capnp_layout.specs.Prelude.{Form, Trees, null, none};
 ghost use Rattle.capnp_orphans.specs.Orphans.{AreOrphans, IsOrphan};
@@ -22,19 +22,19 @@ pub fn null_is_an_orphan()
     ensures { (body : List ℕ) → IsOrphan body 0 null none }
 {}
 
-/// What each of two steps keeps, both together keep.
+/// Orphans that each of two steps keeps are kept by both together.
 pub fn steps_keep_orphans()
     ensures { (first second third : Segment) → Keeps first second → Keeps second third →
         Keeps first third }
 {}
 
-/// Orphans in order stay, where each orphan stays.
+/// Orphans in order keep their trees in order, where each orphan keeps its tree.
 pub fn orphans_in_order_stay()
     ensures { (old new : Segment) (words : List ℕ) (trees : Trees) → Keeps old new →
         AreOrphans (body_of old) words trees → AreOrphans (body_of new) words trees }
 {}
 
-/// Orphans of values in order are still orphans of these values, where each orphan stays.
+/// Orphans of values in order are still orphans of these values, where each orphan keeps its tree.
 pub fn values_stay<T, V: SetterInput<T>>()
     ensures { (old new : Segment) (values : List V) (words : List ℕ) → Keeps old new →
         AreValues V.has_tree (body_of old) values words →
@@ -49,7 +49,7 @@ pub fn next_value<T, V: SetterInput<T>>()
         AreValues V.has_tree (body_of new) (values ++ value ∷ []) (words ++ word ∷ []) }
 {}
 
-/// The trees of orphans of values are those of the values.
+/// The trees of orphans of values are the trees of the values.
 pub fn values_are_trees<T, V: SetterInput<T>>()
     ensures { (body : List ℕ) (values : List V) (words : List ℕ) →
         AreValues V.has_tree body values words →

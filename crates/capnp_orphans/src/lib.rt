@@ -1,13 +1,13 @@
 //! Messages of one segment that are built from the bottom up.
 //!
 //! An [`Orphanage`] is a segment that grows at its end. Each object is written once, when
-//! everything below it is there, and is an [`Orphan`] until a pointer points to it: that of another
-//! object, which adopts it, or the root. So pointers lead back ([encoding document], "Structs" and
-//! "Lists"; an offset may be negative), and no word except the root's is changed once it is
-//! written.
+//! everything below it is there, and is an [`Orphan`] until a pointer points to it: a pointer of
+//! another object, which adopts it, or the root. So pointers point backwards, with negative offsets
+//! ([encoding document], "Structs" and "Lists"), and no word except the root's is changed once it
+//! is written.
 //!
 //! Whether a pointer is null, which member of a union is set, how long a list is and how deep a
-//! tree may be known only at run time. Types are known at compile time.
+//! tree is may be decided at run time. Types are known at compile time.
 //!
 //! [encoding document]: https://capnproto.org/encoding.html
 #![tactic(auto)]

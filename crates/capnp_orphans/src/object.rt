@@ -8,17 +8,17 @@ use capnp_frame::Result;
 
 /// An object that is written after the words of a segment.
 pub trait Object {
-    /// What is true of the object once it is written, by the words after the root's before and
-    /// after that, and by its word as an orphan.
+    /// What is true of the object once it is written: of the segment's body before that and after
+    /// it, and of its word as an orphan.
     ghost holds: { Self → List ℕ → List ℕ → ℕ → Type 0 };
 
     /// How many words it has, for contracts.
     ghost takes: { Self → ℕ → Type 0 };
 
-    /// Why it can't be written: this is the error.
+    /// With which errors it can't be written.
     ghost fails: { Self → ErrorKind → Type 0 };
 
-    /// It has to be written over zeros, and not over any bytes.
+    /// Whether it has to be written over zeros, for contracts.
     ghost wants_zeros: { Self → Bool };
 
     /// How many words it has. Fails with a kind that `fails` names.

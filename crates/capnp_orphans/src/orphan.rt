@@ -1,21 +1,21 @@
-//! Objects to which no pointer leads yet.
+//! Objects that no pointer points to yet.
 ghost use Rattle.std.specs.Prelude.{◌≡◌, ◌<◌, ◌^◌, ℕ};
 
 use std::marker::PhantomData;
 
-/// An object of an orphanage, of a type of a schema; or null.
+/// An object of an orphanage, of a schema's type; or null.
 ///
 /// It may be adopted more than once, and become the root as well: then several pointers point to
-/// it, and a reader counts its words once for each of them. One that is not adopted stays in the
-/// message. In the C++ library an `Orphan` is adopted once at most, and one that is dropped is made
-/// zero.
+/// it, and a reader counts its words once for each of them. An orphan that is not adopted stays in
+/// the message. In the C++ library an `Orphan` is adopted once at most, and one that is dropped is
+/// made zero.
 ///
-/// An orphan of another orphanage, or of before the last `clear`, does no harm: its pointer points
-/// to whatever is there, or to nothing, and a reader shows that or fails.
+/// An orphan of another orphanage, or from before the last `clear`, does no harm: its pointer
+/// points to whatever is there, or out of bounds, and a reader shows that object or fails.
 #[derive_where(Clone, Copy)]
 pub struct Orphan<T> {
     /// The pointer to it, with the index of the word at which it begins in place of the offset. A
-    /// word that no call returned does no more harm than that of an orphan of another orphanage.
+    /// word that no call returned does no more harm than an orphan of another orphanage.
     pub word: u64,
 
     /// Its type in a schema.
@@ -52,7 +52,7 @@ impl<T> Orphan<T> {
     }
 }
 
-/// A type that has the word of an orphan.
+/// A type with the word of an orphan.
 pub(crate) trait OrphanWord {
     /// The word.
     ghost word: { Self → ℕ };

@@ -31,19 +31,19 @@ use std::alloc::Global;
 use std::marker::Model;
 
 /// A message of one segment, whose objects are written one after the other, each once. Its first
-/// word is the root's, which is null until it is set. So an orphanage is the whole message here; in
-/// the C++ library `Orphanage` allocates in a message that its `MessageBuilder` holds.
+/// word is the root, which is null until it is set. An orphanage is the whole message here; in the
+/// C++ library `Orphanage` allocates in a message that its `MessageBuilder` holds.
 ///
 /// A call that writes an object returns its orphan, or fails and changes nothing. All orphans keep
 /// their trees, whatever is written later.
 ///
 /// A segment has fewer than 2^29 words, so it needs no far pointer. A call whose object does not
-/// fit into the segment, or into the region, fails with `AllocationTooLarge` of the object's words;
-/// on the heap a call fails with `OutOfMemory` where the memory has no room and no more can be had.
+/// fit into the segment, or into the region, fails with `AllocationTooLarge` of the object's words.
+/// On the heap a call fails with `OutOfMemory` where the memory has no room and can't grow.
 ///
 /// The message is read in place, and written framed or packed by `write_message`, which takes the
-/// orphanage as it is. Once the orphanage is cleared it serves for the next message, and no call
-/// fails for want of memory as long as the memory that it has is enough.
+/// orphanage itself. Once cleared, an orphanage serves for the next message, and no call runs out
+/// of memory as long as the memory that it has is enough.
 ///
 /// ```
 /// let mut objects = Orphanage::new(alloc)?;
@@ -60,7 +60,7 @@ pub struct Orphanage<S: GrowingSegment = Heap> {
     segment: S,
 }
 
-// Clauses see what they see of the segment.
+// Contracts see the state of the segment.
 impl<S: GrowingSegment> Model for Orphanage<S> {
     ghost use Rattle.capnp_orphans.specs.Segments.{Segment, IsSegment};
 
@@ -106,8 +106,8 @@ impl<'a> Orphanage<Region<'a>> {
 }
 
 impl<S: GrowingSegment> Orphanage<S> {
-    /// Discards all objects, and keeps the memory. The root is null, and each orphan that was made
-    /// before counts as one of another orphanage.
+    /// Discards all objects, and keeps the memory. The root is then null, and each orphan that was
+    /// made before is like one of another orphanage.
     pub fn clear(&mut self)
         ensures { self.new ≡ with_root_alone self.old }
     {
@@ -123,8 +123,8 @@ impl<S: GrowingSegment> Orphanage<S> {
 
     // Writes an object.
     //
-    // Speed: where the memory needs no preparation the call can't fail, so no result goes by memory
-    // (`tools/time-building built`, `table`).
+    // Speed: where the memory needs no preparation the call can't fail, so no result is returned
+    // through memory (`tools/time-building built`, `table`).
     #[inline(always)]
     pub(crate) fn write<T, O: Object>(&mut self, object: &O) -> Result<Orphan<T>>
         ensures adds { AddsOrphan (O.holds object.now (body_of self.old)) self.old self.new
@@ -139,7 +139,7 @@ impl<S: GrowingSegment> Orphanage<S> {
         self.write_anew(object)
     }
 
-    // Writes an object, for which the memory may need preparation.
+    // Writes an object, and first prepares the memory for it.
     #[cold]
     #[inline(never)]
     fn write_anew<T, O: Object>(&mut self, object: &O) -> Result<Orphan<T>>
@@ -159,13 +159,13 @@ impl<S: GrowingSegment> Orphanage<S> {
 
     /// Adds an orphan: the object of a value that a pointer can be set to. The value is composed
     /// (`capnp_values`), or it is what a view of another message shows: a text, data, a struct, a
-    /// list of any kind. What a pointer points to there is copied, as it is, when it is given as the
-    /// view `any_pointer::Reader`.
+    /// list of any kind. Given as an `any_pointer::Reader`, whatever a pointer of that message
+    /// points to is copied untrimmed.
     ///
-    /// It is what `newOrphanCopy` is in the C++ library, where `set` sets a field of a builder.
+    /// This is `newOrphanCopy` of the C++ library, where `set` sets a field of a builder.
     ///
-    /// Fails for 2^29 words and more with `AllocationTooLarge` of the value's words, at most
-    /// 2^32 - 1; as its view does for what can't be read; and for want of room as `Orphanage` says.
+    /// Fails for 2^29 words or more with `AllocationTooLarge` of the value's words, at most
+    /// 2^32 - 1; as the view does for what can't be read; and without room as `Orphanage` says.
     #[inline(always)]
     pub fn set<T, V: SetterInput<T>>(&mut self, value: &V) -> Result<Orphan<T>>
         ensures adds { AddsOrphan (HoldsValue (V.has_tree value.now)) self.old self.new word_of result }
@@ -178,8 +178,8 @@ impl<S: GrowingSegment> Orphanage<S> {
 
     /// Writes a `Text`, with a zero byte at its end ("Blobs").
     ///
-    /// Fails for 2^29 - 1 bytes and more with `AllocationTooLarge` of its words, at most 2^32 - 1,
-    /// and for want of room as `Orphanage` says.
+    /// Fails for 2^29 - 1 bytes or more with `AllocationTooLarge` of its words, at most 2^32 - 1,
+    /// and without room as `Orphanage` says.
     #[inline(always)]
     pub fn text(&mut self, text: &str) -> Result<Orphan<text::Owned>>
         ensures adds { AddsOrphan (HoldsValue (IsTextTree text.now)) self.old self.new word_of result }
@@ -191,8 +191,8 @@ impl<S: GrowingSegment> Orphanage<S> {
 
     /// Writes a `Data` ("Blobs").
     ///
-    /// Fails for 2^29 bytes and more with `AllocationTooLarge` of their words, at most 2^32 - 1,
-    /// and for want of room as `Orphanage` says.
+    /// Fails for 2^29 bytes or more with `AllocationTooLarge` of their words, at most 2^32 - 1,
+    /// and without room as `Orphanage` says.
     pub fn data(&mut self, bytes: &[u8]) -> Result<Orphan<data::Owned>>
         ensures adds { AddsOrphan (HoldsValue (IsBytes bytes.now)) self.old self.new word_of result }
         ensures writes { Writes (HasWords (IsBytes bytes.now) false)
@@ -203,8 +203,8 @@ impl<S: GrowingSegment> Orphanage<S> {
 
     /// Writes a list of numbers of any width, or of bools ("Lists").
     ///
-    /// Fails for 2^29 numbers and more with `AllocationTooLarge` of their number, at most 2^32 - 1,
-    /// and for want of room as `Orphanage` says.
+    /// Fails for 2^29 numbers or more with `AllocationTooLarge` of their count, at most 2^32 - 1,
+    /// and without room as `Orphanage` says.
     pub fn numbers<N: PrimitiveElement + Copy>(
         &mut self,
         items: &[N],
@@ -222,8 +222,8 @@ impl<S: GrowingSegment> Orphanage<S> {
     /// Adds an orphan: the struct of this draft ("Structs"). The pointer to an orphan of another
     /// orphanage is written, too.
     ///
-    /// Fails for 2^16 data words or pointers and more with `AllocationTooLarge(65536)`, and for
-    /// want of room as `Orphanage` says.
+    /// Fails for 2^16 data words or pointers or more with `AllocationTooLarge(65536)`, and without
+    /// room as `Orphanage` says.
     pub fn add<T, const D: usize, const P: usize>(
         &mut self,
         draft: &StructDraft<T, D, P>,
@@ -232,8 +232,8 @@ impl<S: GrowingSegment> Orphanage<S> {
             self.old self.new word_of result }
         ensures writes { Writes (TakesStructWords D P) (StructSizeError D P) self.old self.new result }
     {
-        // Speed: as `write`. For all else the draft is copied, so that it need not be in memory itself
-        // (`tools/time-building built`, `tree`).
+        // Speed: as in `write`. The other calls get a copy of the draft, so that the draft itself
+        // need not be in memory (`tools/time-building built`, `tree`).
         let words = draft.measure()?;
         if let Some(word) = self.segment.append_within(draft, words) {
             return Ok(Orphan::of_word(word));
@@ -241,11 +241,11 @@ impl<S: GrowingSegment> Orphanage<S> {
         self.write_anew(&StructDraft::<T, D, P>::of_words(draft.words, draft.pointers))
     }
 
-    /// Writes a list of the pointers to some orphans ("Lists"): of texts, of data, of lists, or of
-    /// structs that are written one by one.
+    /// Writes a list of pointers to these orphans ("Lists"): a list of texts, of data, of lists, or
+    /// of structs that are written one by one.
     ///
-    /// Fails for 2^29 orphans and more with `AllocationTooLarge` of their number, at most 2^32 - 1,
-    /// and for want of room as `Orphanage` says.
+    /// Fails for 2^29 orphans or more with `AllocationTooLarge` of their count, at most 2^32 - 1,
+    /// and without room as `Orphanage` says.
     pub fn pointer_list<T>(&mut self, items: &[Orphan<T>]) -> Result<Orphan<list_list::Owned<T>>>
         ensures adds { AddsOrphan (HoldsPointers (body_of self.old) (map word_of items.now))
             self.old self.new word_of result }
@@ -257,9 +257,10 @@ impl<S: GrowingSegment> Orphanage<S> {
 
     /// Writes a list of structs, one after the other ("Lists").
     ///
-    /// Fails with `AllocationTooLarge`: of 65536 as `add` does; of the number of structs where
-    /// there are 2^29 or more; and of the words of the list, with its tag, where there are 2^29 or
-    /// more; at most of 2^32 - 1. For want of room it fails as `Orphanage` says.
+    /// Fails with `AllocationTooLarge(65536)` as `add` does. Fails for 2^29 structs or more with
+    /// `AllocationTooLarge` of their count, and for 2^29 words or more of the list, with its tag,
+    /// with `AllocationTooLarge` of these; at most of 2^32 - 1. Without room it fails as
+    /// `Orphanage` says.
     pub fn struct_list<T, const D: usize, const P: usize>(
         &mut self,
         items: &[StructDraft<T, D, P>],
@@ -272,7 +273,7 @@ impl<S: GrowingSegment> Orphanage<S> {
         self.lazy_struct_list::<T, D, P, &[StructDraft<T, D, P>]>(&items)
     }
 
-    /// Writes a list of structs that a source makes, one by one. It fails as `struct_list` does.
+    /// Writes a list of structs that a source makes, one by one. Fails as `struct_list` does.
     pub fn lazy_struct_list<T, const D: usize, const P: usize, M: DraftSource<T, D, P>>(
         &mut self,
         source: &M,
@@ -292,8 +293,7 @@ impl<S: GrowingSegment> Orphanage<S> {
         self.segment.set_root_word(link(root.word, 0));
     }
 
-    /// Adds a struct and makes it the root. Fails as `add` does, and the root then stays as it
-    /// was.
+    /// Adds a struct and makes it the root. Fails as `add` does, and the root then stays the same.
     pub fn add_root<T, const D: usize, const P: usize>(
         &mut self,
         draft: &StructDraft<T, D, P>,

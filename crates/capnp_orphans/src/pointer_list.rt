@@ -8,14 +8,14 @@ use capnp_frame::Result;
 use capnp_layout::limits::{MAX_ELEMENTS, allocation_too_large};
 use capnp_layout::pointer_word::{POINTER_LIST, list_word};
 
-/// A list of the pointers to some orphans (encoding document, "Lists").
+/// A list of pointers to some orphans (encoding document, "Lists").
 #[derive(Drop)]
 pub(crate) struct PointerList<'a, T> {
     items: &'a [Orphan<T>],
 }
 
 impl<'a, T> PointerList<'a, T> {
-    /// The list of the pointers to these orphans.
+    /// The list of pointers to these orphans.
     pub(crate) fn new(items: &'a [Orphan<T>]) -> PointerList<'a, T>
         ensures { result.items.now ≡ items.now }
     {
@@ -23,7 +23,7 @@ impl<'a, T> PointerList<'a, T> {
     }
 }
 
-// 2^29 pointers and more fail with `AllocationTooLarge` of their number.
+// Fails for 2^29 pointers or more with `AllocationTooLarge` of their count.
 impl<'a, T> Object for PointerList<'a, T> {
     ghost use Rattle.std.specs.Prelude.{false, length, map};
     ghost use Rattle.capnp_orphans.specs.Holds.{HoldsPointers, TakesPointersWords, ManyPointers, word_of};
@@ -49,7 +49,7 @@ impl<'a, T> Object for PointerList<'a, T> {
         false
     }
 
-    // Speed: a call, so that the loop that makes the list's orphans has the registers (`texts`).
+    // Speed: a call leaves the registers to the loop that makes the list's orphans (`texts`).
     #[inline(never)]
     fn write(&self, start: u32, block: &mut [u8]) -> u64 {
         put_links(self.items, start, block);

@@ -1,4 +1,4 @@
-//! A caller-provided region, as a segment that grows.
+//! A caller-provided region, as a growing segment.
 ghost use Rattle.std.specs.Prelude.{◌≡◌, ◌<◌, ◌≤◌, take, length, replicate, Some, MatchResult};
 ghost use Rattle.capnp_frame.specs.declared.error.ErrorKind.TheVariants.{AllocationTooLarge};
 
@@ -7,11 +7,11 @@ use crate::segment::{GrowingSegment, put_first, write_over, zero_first};
 use capnp_frame::{Error, ErrorKind, Result};
 use std::marker::Model;
 
-/// A caller-provided region, of which the first bytes are used. It takes no memory, and it does not
-/// matter which bytes the region had before.
+/// A caller-provided region. Its first bytes are used, and it does not matter what the others are.
+/// It takes no memory.
 ///
-/// Speed: how many bytes a segment can have there is kept, so one test tells whether an object fits
-/// (`tools/time-building built`, `records` in a region).
+/// Speed: it keeps how many bytes a segment can have there, so one test tells whether an object
+/// fits (`tools/time-building built`, `records` in a region).
 #[derive(Drop)]
 pub struct Region<'a> {
     bytes: &'a mut [u8],

@@ -1,4 +1,4 @@
-//! Segments that grow at their end.
+//! Segments that grow at the end.
 ghost use Rattle.std.specs.Prelude.{◌≡◌, ◌+◌, ◌*◌, ◌/◌, ◌%◌, ◌^◌, ◌<◌, ◌≤◌, IsTrue, length, take, drop, replicate, ◌∷◌, Ok, MatchOption};
 ghost use Rattle.capnp_layout.specs.Prelude.{words_of};
 ghost use Rattle.capnp_orphans.specs.Segments.{Segment, IsSegment, AppendsObject, PutsRoot, IsWrittenOver, with_root_alone};
@@ -10,7 +10,7 @@ use capnp_layout::pointer_word::put_word;
 /// The bytes of a segment, to which objects are appended. None of its words except the root's
 /// changes.
 pub trait GrowingSegment: Drop {
-    /// What contracts see of it.
+    /// The segment that contracts see.
     ghost state: { Self → Segment };
 
     /// The bytes.
@@ -20,7 +20,7 @@ pub trait GrowingSegment: Drop {
     /// Writes an object of this many words after the bytes, and returns its word as an orphan.
     ///
     /// Fails where there is no room: on the heap with `OutOfMemory`, in a region with
-    /// `AllocationTooLarge` of these words. Nothing is changed then.
+    /// `AllocationTooLarge` of these words. Then nothing is changed.
     fn append<O: Object>(&mut self, object: &O, words: u32) -> Result<u64>
         requires segment { IsSegment (state self.old) }
         requires takes { O.takes object.now words }
@@ -28,8 +28,8 @@ pub trait GrowingSegment: Drop {
         ensures { AppendsObject (O.holds object.now) words (state self.old) (state self.new)
             result };
 
-    /// Writes an object as `append` does, where the memory that is there needs no preparation for it.
-    /// Where it does, nothing is written.
+    /// Writes an object as `append` does, where the memory needs no preparation for it. Returns
+    /// `None` and writes nothing where it does.
     fn append_within<O: Object>(&mut self, object: &O, words: u32) -> Option<u64>
         requires segment { IsSegment (state self.old) }
         requires takes { O.takes object.now words }
@@ -64,9 +64,9 @@ pub(crate) fn write_over<O: Object>(bytes: &mut [u8], from: usize, words: u32, o
     object.write((from / 8) as u32, &mut bytes[from..from + added])
 }
 
-// Makes some bytes zero, if that is asked for.
+// Makes `added` bytes zero, from the byte `from` on, if `zeros` says so.
 //
-// Speed: up to 64 bytes are made zero by stores of a constant size, so a short object needs no call
+// Speed: up to 64 bytes are made zero by stores of a constant size. So a short object needs no call
 // whose branches depend on the size (`tools/time-building built`, `texts`).
 #[inline(always)]
 fn prepare(bytes: &mut [u8], from: usize, added: usize, zeros: bool)
@@ -95,7 +95,7 @@ fn put_root(bytes: &mut [u8], word: u64)
     put_word(bytes, 0, word);
 }
 
-/// Puts a word at the start of a segment, whose first bytes these are.
+/// Puts a word at the start of a segment, which is the first `used` of these bytes.
 #[inline(always)]
 pub(crate) fn put_first(bytes: &mut [u8], used: usize, word: u64)
     requires rooted { 8 ≤ used }

@@ -32,8 +32,8 @@ impl<'a, T, const D: usize, const P: usize, S: DraftSource<T, D, P>> StructList<
     }
 }
 
-// 2^29 structs or words and more fail with `AllocationTooLarge` of their number, and structs too
-// large for a pointer with `AllocationTooLarge(65536)`.
+// Fails for 2^29 structs or words or more with `AllocationTooLarge` of their count, and for structs
+// too large for a pointer with `AllocationTooLarge(65536)`.
 impl<'a, T, const D: usize, const P: usize, S: DraftSource<T, D, P>> Object
     for StructList<'a, T, D, P, S> {
     ghost use Rattle.std.specs.Prelude.{false, length};

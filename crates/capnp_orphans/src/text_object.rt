@@ -9,8 +9,8 @@ use capnp_wire::traits::SetterInput;
 
 /// A text, as an object that writes all its words.
 ///
-/// Speed: its last word alone is made zero before the bytes are put, where a value's whole block is
-/// (`tools/time-building built`, `table` and `texts`).
+/// Speed: before the bytes are put its last word alone is made zero, where for other values it is
+/// the whole block (`tools/time-building built`, `table` and `texts`).
 #[derive(Drop)]
 pub(crate) struct TextObject<'a> {
     text: &'a str,
@@ -57,7 +57,7 @@ impl<'a> Object for TextObject<'a> {
     }
 }
 
-// Puts the bytes of a text into a block of just its words, and zeros after them.
+// Puts the bytes of a text into a block of exactly its words, and zeros after them.
 #[inline(always)]
 fn put_text(bytes: &[u8], block: &mut [u8])
     requires whole { length block.old % 8 ≡ 0 }

@@ -1,4 +1,4 @@
-//! Words that are put into blocks.
+//! Putting pointers and structs into blocks.
 ghost use Rattle.std.specs.Prelude.{◌≡◌, ◌+◌, ◌*◌, ◌^◌, ◌<◌, ◌++◌, length, map};
 ghost use Rattle.capnp_layout.specs.Prelude.{words_of};
 ghost use Rattle.capnp_orphans.specs.Orphans.{links};
@@ -7,8 +7,8 @@ use crate::orphan::OrphanWord;
 use capnp_layout::pointer_word::{link, put_word};
 use capnp_values::put_words;
 
-/// Puts the pointers to orphans into a block of exactly these, which begins at this word of the
-/// segment.
+/// Puts the pointers to orphans into a block of exactly as many words, which begins at this word of
+/// the segment.
 #[inline(always)]
 pub(crate) fn put_links<W: OrphanWord>(items: &[W], place: u32, block: &mut [u8])
     requires room { length block.old ≡ 8 * length items.now }

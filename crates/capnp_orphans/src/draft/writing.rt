@@ -1,4 +1,4 @@
-//! Structs as objects.
+//! Drafts of structs as objects.
 ghost use Rattle.std.specs.Prelude.{◌≡◌, ◌+◌, ◌<◌, ◌^◌, ◌==◌, if◌then◌else◌, length, All};
 ghost use Rattle.capnp_layout.specs.Prelude.{struct_pointer, minus_one};
 
@@ -10,7 +10,8 @@ use capnp_layout::body_word::struct_pointer_word;
 use capnp_layout::pointer::StructSize;
 use capnp_values::words_fit;
 
-// The data words, and then the pointers. 2^16 or more of either fail with `AllocationTooLarge`.
+// Writes the data words, and then the pointers. Fails with `AllocationTooLarge` for 2^16 or more of
+// either.
 impl<T, const D: usize, const P: usize> Object for StructDraft<T, D, P> {
     ghost use Rattle.std.specs.Prelude.{false};
     ghost use Rattle.capnp_orphans.specs.Holds.{HoldsStruct, TakesStructWords, StructSizeError};
@@ -45,7 +46,7 @@ impl<T, const D: usize, const P: usize> Object for StructDraft<T, D, P> {
     }
 }
 
-/// The data words and pointers of a draft are as many as its type says.
+/// A draft has as many data words and pointers as its type says.
 #[inline(always)]
 pub(crate) fn draft_fits<T, const D: usize, const P: usize>(draft: &StructDraft<T, D, P>)
     ensures words { length draft.now.words ≡ D }

@@ -1,4 +1,4 @@
-//! An orphanage as a message that is built: it is read in place, and written as it is.
+//! An orphanage as a message that is built: it can be read in place, and written.
 use crate::orphanage::Orphanage;
 use crate::segment::GrowingSegment;
 use capnp_frame::message::{BuiltMessage, ReaderSegments};

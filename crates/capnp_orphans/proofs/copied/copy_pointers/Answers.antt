@@ -1,4 +1,4 @@
--- One pointer more, or the one that is not copied.
+-- One more pointer is copied, or it is the one that can't be.
 use Rattle.std.proofs.Common.{◌≡◌, ℕ, length, arith, refl, sym, subst}
 use Rattle.capnp_wire.specs.Prelude.{struct_of, pointer_of}
 use Rattle.capnp_orphans.specs.Holds.{word_of}

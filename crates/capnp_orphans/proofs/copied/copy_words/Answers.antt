@@ -1,4 +1,4 @@
--- One word more.
+-- One more word is copied.
 use Rattle.std.proofs.Common.{length, arith}
 use Rattle.capnp_wire.specs.Prelude.{struct_of}
 use Rattle.capnp_orphans.proofs.OnePointerCopyLemmas.{next_word}

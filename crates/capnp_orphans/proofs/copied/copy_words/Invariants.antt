@@ -1,4 +1,4 @@
--- The words so far are those of the struct.
+-- The words so far are the words of the struct.
 use Rattle.std.proofs.Common.{◌≡◌, ◌++◌, length, take, replicate}
 use Rattle.capnp_wire.specs.Prelude.{struct_of}
 use Rattle.capnp_orphans.proofs.copied.copy_words.Given as goal

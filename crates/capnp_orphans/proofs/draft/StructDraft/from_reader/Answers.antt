@@ -1,4 +1,4 @@
--- The pointers are those of the draft.
+-- The pointers are the pointers of the draft.
 use Rattle.std.proofs.Common.{ℕ}
 use Rattle.std.proofs.lemmas.List.{length-replicate}
 use Rattle.capnp_orphans.proofs.PointersCopyLemmas.{copies_of, copies_not, as_many_pointers, same_failure}
