@@ -14,7 +14,7 @@ use Rattle.capnp_message.specs.Seen.{ReadMessage, root_of}
 use Rattle.capnp_frame.specs.declared.message.options.ReaderOptions.{ReaderOptions}
 use Rattle.capnp_layout.proofs.trees.TrimmedFrontLemmas.{null_trimmed}
 
--- what trimming keeps of trees is as deep at most
+-- trimming makes no tree deeper
 kept_shallow : (nesting : ℕ) (rest : Trees) (form : Form) (children : Trees) → depth rest ≤ nesting → (if is_null form then 0 else depth children + 1) ≤ nesting → depth (keep_tree rest form children) ≤ nesting
 kept_shallow nesting (tree f h r) form children p q = omega arith
 kept_shallow nesting none null children p q = omega arith
@@ -65,7 +65,7 @@ points_at q place t there is = subst (λ (o : Option Place). MatchOption o (t �
 no_limit : (limit : Option ℕ) (traversed : ℕ) → limit ≡ None → Within limit traversed
 no_limit limit traversed e = subst (λ (o : Option ℕ). Within o traversed) (sym e) tt
 
--- a canonical form, read as the one segment of a message without a traversal limit, is its own
+-- a canonical form, read as the one segment of a message without a traversal limit, is its own canonical form
 pub is_its_own_form : (p q : Pointer) (words : List ℕ) → IsCanonicalForm p words → q.message ≡ words ∷ [] → q.place ≡ Some root → q.limit ≡ None → p.nesting ≤ q.nesting → IsCanonicalForm q words
 is_its_own_form p q words a message there unlimited deep =
     let x = single a.trees (one_value p a.trees a.tree_is) in

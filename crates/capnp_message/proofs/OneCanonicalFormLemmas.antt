@@ -1,4 +1,4 @@
--- A message has a canonical form, or lacks it for one reason.
+-- A message has a canonical form, or there is one error that says why not.
 use Rattle.std.proofs.Common.{◌≡◌, ◌⊎◌, ℕ, Bool, List, [], ◌∷◌, Option, Some, Result, Ok, Err, IsOk, IfErr, MatchResult, inl, inr, refl, sym, ◌∙◌, ap, subst, arith}
 use Rattle.std.specs.Result.{IsErrAnd}
 use Rattle.capnp_frame.specs.declared.error.Error.{Error}
@@ -15,7 +15,7 @@ use Rattle.capnp_message.specs.Seen.{ReadMessage, root_of}
 root_form_error : (p : Pointer) (kind : ErrorKind) → p.place ≡ Some root → NoWord p.message root kind → CanonicalFormError p kind
 root_form_error p kind there none = inl (root, there, at_pointer (no_word none))
 
--- a message without a form has none
+-- a message with such an error has no form
 error_or_has : (p : Pointer) (kind : ErrorKind) → CanonicalFormError p kind → HasForm p → ⊥
 error_or_has p kind (inl walk_error) has = (one_of_pointer p).apart kind has.trees walk_error has.tree_is
 error_or_has p kind (inr many) has =
@@ -23,14 +23,14 @@ error_or_has p kind (inr many) has =
     ap (λ (t : Trees). total_words (trim t)) ((one_of_pointer p).same_tree has.trees many.0 has.tree_is many.1) in
     omega (arith, has.few, many.2, same)
 
--- the reason is one
+-- there is only one such error
 form_error_once : (p : Pointer) (a b : ErrorKind) → CanonicalFormError p a → CanonicalFormError p b → a ≡ b
 form_error_once p a b (inl x) (inl y) = (one_of_pointer p).same_error a b x y
 form_error_once p a b (inl x) (inr y) = absurd ((one_of_pointer p).apart a y.0 x y.1)
 form_error_once p a b (inr x) (inl y) = absurd ((one_of_pointer p).apart b x.0 y x.1)
 form_error_once p a b (inr x) (inr y) = x.3 ∙ sym y.3
 
--- where there is a form, memory alone is wanting
+-- where there is a form, a call fails only when out of memory
 form_found : {T : Type 0} (p : Pointer) (r : Result T Error) (P : T → Type 0)
     → MatchResult r P (λ error. CanonicalFormError p error.kind ⊎ (error.kind ≡ OutOfMemory)) → HasForm p → IfErr r (λ error. error.kind ≡ OutOfMemory)
 form_found p (Ok x) P returned has = tt
@@ -54,7 +54,7 @@ no_root_no_form {S} segments inside message words {error} (Err e) same is none =
     let form_error : CanonicalFormError p e.kind = root_form_error p e.kind refl own in
     record { returned = inl form_error; found = λ has. absurd (error_or_has p e.kind form_error has); exact = λ kind other. form_error_once p e.kind kind form_error other }
 
--- the form of the root's pointer is that of the message
+-- the form of the root's pointer is the form of the message
 pub root_form : {S T : Type 0} (segments : S → List (List ℕ)) (inside message : ReadMessage S) (pointer : Pointer) (words : T → List ℕ) (r : Result T Error) → inside ≡ message
     → pointer ≡ root_of segments inside
     → MatchResult r (λ form. IsCanonicalForm pointer (words form)) (λ error. CanonicalFormError pointer error.kind ⊎ (error.kind ≡ OutOfMemory))

@@ -12,11 +12,11 @@ use Rattle.capnp_layout.proofs.pointers.InvalidPointerLemmas.{no_word_there}
 use Rattle.capnp_message.specs.Seen.{ReadMessage, root_of, HasRoot}
 use Rattle.capnp_message.specs.Roots.{ReadsRoot}
 
--- for a word that is not there, there is one error
+-- for a word that is not there, there is only one error
 pub no_word_once : (m : List (List ℕ)) (place : Place) (own kind : ErrorKind) → NoWord m place own → NoWord m place kind → own ≡ kind
 no_word_once m place own kind p q = one_error m place 0 own kind (no_word p) (no_word q)
 
--- and that is the error of the pointer there
+-- and it is the error of the pointer there
 pub invalid_pointer_once : (m : List (List ℕ)) (own kind : ErrorKind) {nesting : ℕ} → NoWord m root own → (place : Place) × (Some root ≡ Some place) × PointerError m place nesting kind → own ≡ kind
 invalid_pointer_once m own kind {nesting} none (place, is_at, invalid) =
     let same : root ≡ place = cc in

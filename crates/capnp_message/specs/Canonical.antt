@@ -14,13 +14,13 @@ pub record HasForm (pointer : Pointer) : Type 0 where
   pub tree_is : PointsToTree pointer trees
   pub few : 1 + total_words (trim trees) ≤ 2 ^ 29
 
--- It has none: a walk over its root tree stops with this error, or the form has more words.
+-- It has no canonical form: a walk over its root tree stops with this error, or the form has more words.
 abbrev pub CanonicalFormError : Pointer → ErrorKind → Type 0
 CanonicalFormError pointer kind = WordsError (PointsToTree pointer) (WalkErrorFrom pointer) true kind
 
--- What each call keeps that returns the canonical form; `words` is how its words are seen. The form
--- is returned, or the call fails because there is none, with the one error, or because memory is
--- lacking.
+-- What a call that returns the canonical form does; `words` is how contracts see the words of the form. The
+-- form is returned, or the call fails with the one error that says why there is no form, or when out of
+-- memory.
 pub record ReturnsForm {T : Type 0} (pointer : Pointer) (words : T → List ℕ) (result : Result T Error) : Type 0 where
   pub returned : MatchResult result (λ form. IsCanonicalForm pointer (words form))
       (λ error. CanonicalFormError pointer error.kind ⊎ (error.kind ≡ OutOfMemory))

@@ -12,29 +12,29 @@ pub record IsHeapOf (size : ℕ) (grows : AllocationStrategy) (most : ℕ) (heap
   pub strategy : heap.allocation_strategy ≡ grows
   pub maximum : heap.max_segment_words ≡ most
 
--- the heap after the region is this one, and the region stays as it is
+-- the heap after the region is this one, and the region stays the same
 pub record WithHeap (old : ScratchSpaceHeapAllocator) (words : ℕ) (grows : AllocationStrategy) (new : ScratchSpaceHeapAllocator) : Type 0 where
   pub region : new.region ≡ old.region
   pub size : new.size ≡ old.size
   pub next : new.heap.next_size ≡ words
   pub strategy : new.heap.allocation_strategy ≡ grows
 
--- the heap stays as it was
+-- the heap stays the same
 abbrev pub KeepsHeap : HeapAllocator → HeapAllocator → Type 0
 KeepsHeap old new = IsHeapOf old.next_size old.allocation_strategy old.max_segment_words new
 
--- the heap after a segment came back: the next size is the suggested first one again, or the maximum
+-- the heap after a segment came back: the next size is the suggested first size again, or the maximum
 abbrev pub StartsAnew : HeapAllocator → HeapAllocator → Type 0
 StartsAnew old new = IsHeapOf (min 1024 old.max_segment_words) old.allocation_strategy old.max_segment_words new
 
--- a segment came back: the caller-provided one is the region, which is available again; any other
--- one went to the heap
+-- a segment came back: the caller-provided one is the region, which is available again; any other one goes
+-- to the heap
 abbrev pub ReturnsTo : Bool → ScratchSpaceHeapAllocator → ScratchSpaceHeapAllocator → Type 0
 ReturnsTo true old new = IsAvailable new.region old.size × KeepsHeap old.heap new.heap
 ReturnsTo false old new = (new.region ≡ old.region) × StartsAnew old.heap new.heap
 
--- the heap after it handed out a segment for a request of this many words: the caller-provided
--- region leaves the heap as it was, a segment of the heap is counted
+-- the heap after a segment was handed out for a request of this many words: the caller-provided region
+-- leaves the heap the same, and a segment of the heap is counted
 abbrev pub CountsHeapSegment : Bool → ℕ → HeapAllocator → HeapAllocator → Type 0
 CountsHeapSegment true asked old new = KeepsHeap old new
 CountsHeapSegment false asked old new =

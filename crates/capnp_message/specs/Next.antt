@@ -3,11 +3,11 @@ use Rattle.std.specs.Prelude.{ℕ, zero, suc, ◌+◌, ◌-◌, max, if◌then�
 use Rattle.capnp_message.specs.declared.heap_allocator.AllocationStrategy.{AllocationStrategy}
 use Rattle.capnp_message.specs.declared.heap_allocator.AllocationStrategy.TheVariants.{FixedSize, GrowHeuristically}
 
--- the words of a segment, by the words that are asked for
+-- the words of a segment, given the next size and the words that are asked for
 abbrev pub size_of : ℕ → ℕ → ℕ
 size_of next asked = max asked next
 
--- the next size after a segment of this many words: it grows by these up to the maximum
+-- the next size after a segment of this many words: it grows by these, up to the maximum
 abbrev pub grown : ℕ → ℕ → ℕ → ℕ
 grown next maximum size = if nat_lt size (maximum - next) then next + size else maximum
 

@@ -1,4 +1,4 @@
--- Segments that are a region, or from the heap (src/scratch_space.rt).
+-- Segments that are the region, or from the heap (src/scratch_space.rt).
 use Rattle.std.specs.Prelude.{ℕ, Bool, true, false, List}
 use Rattle.capnp_message.specs.declared.scratch_space.ScratchSegment.{ScratchSegment}
 use Rattle.capnp_message.specs.declared.scratch_space.ScratchSegment.TheVariants.{Lent, Owned}

@@ -19,7 +19,7 @@ use capnp_wire::traits::{FromPointerReader, SetterInput};
 use std::alloc::Global;
 use std::marker::Model;
 
-/// A message that is built, in segments that an allocator hands out. When it is dropped, each
+/// A message that is built in segments that an allocator hands out. When it is dropped, each
 /// segment goes back to the allocator.
 ///
 /// ```
@@ -43,8 +43,8 @@ impl<A: Allocator> Model for Builder<A> {
 }
 
 impl<A: Allocator> Builder<A> {
-    /// A message of no segments, whose root is null. `alloc` serves the list of its segments from
-    /// the second on.
+    /// A message of no segments, whose root is null. From the second segment on, `alloc` serves the
+    /// list of its segments.
     pub fn new(alloc: Global, allocator: A) -> Builder<A>
         ensures { IsNewMessage (λ own. own ≡ allocator) result }
     {
@@ -55,15 +55,18 @@ impl<A: Allocator> Builder<A> {
 
     /// Sets the root to a value.
     ///
-    /// The value is written as one block: after the used words of the first segment where these
-    /// leave room for it, else with its landing pad in another segment that has room, else in a new
-    /// one.
+    /// The value is written as one block, after the used words of the first segment where these
+    /// leave room for it. Else the block goes, with its landing pad, into another segment that has
+    /// room, or into a new one.
     ///
-    /// Fails with the first of these: as the allocator does to hand out the first segment
-    /// (`OutOfMemory`, `AllocationTooLarge` or `SegmentTaken`), as `measure` of the value does, and
-    /// where no segment has room with `AllocationTooLarge` at 2^32 - 1 segments, with `OutOfMemory`
-    /// where the list of segments can't grow, and as the allocator does to hand out a further one.
-    /// The root is then null.
+    /// Fails with the first of these errors, and the root is then null:
+    ///
+    /// - as the allocator does to hand out the first segment: with `OutOfMemory`,
+    ///   `AllocationTooLarge` or `SegmentTaken`;
+    /// - as `measure` of the value does;
+    /// - where no segment has room: with `AllocationTooLarge` at 2^32 - 1 segments, with
+    ///   `OutOfMemory` where the list of segments can't grow, and as the allocator does to hand out
+    ///   a new segment.
     pub fn set_root<T, V: SetterInput<T> + Drop>(&mut self, value: V) -> Result<()>
         ensures { SetsRoot A.Allocator (V.has_tree value) (V.fails value)
             self.old self.new result }
@@ -74,9 +77,12 @@ impl<A: Allocator> Builder<A> {
     /// Sets the root to a value in canonical form, in the first segment. If this is the first
     /// action on the message, its one segment is then the canonical form.
     ///
-    /// Fails with the first of these: as the allocator does to hand out the first segment, with
-    /// `NotOneSegment` where there are more segments, as `measure` of the value does, and with
-    /// `NotOneSegment` where the segment has no room. The root is then null.
+    /// Fails with the first of these errors, and the root is then null:
+    ///
+    /// - as the allocator does to hand out the first segment;
+    /// - with `NotOneSegment` where there are more segments;
+    /// - as `measure` of the value does;
+    /// - with `NotOneSegment` where the segment has no room.
     pub fn set_root_canonical<T, V: SetterInput<T> + Drop>(&mut self, value: V) -> Result<()>
         ensures { SetsRootCanonical A.Allocator (V.has_tree value) (V.fails value)
             self.old self.new result }
@@ -84,10 +90,10 @@ impl<A: Allocator> Builder<A> {
         self.arena.set_root_canonical::<T, V>(&value)
     }
 
-    /// The root as a view to read, which borrows it from the segments; null where there is no
-    /// segment. It has no traversal limit, and no segment is allocated.
+    /// The root as a view to read, which borrows from the segments; null where there is no segment.
+    /// It has no traversal limit, and no segment is allocated.
     ///
-    /// Fails as `any_pointer::Reader::get_as` of `capnp_wire` does of the root.
+    /// Fails as `any_pointer::Reader::get_as` of `capnp_wire` does for the root.
     pub fn get_root_as_reader<'a, T: FromPointerReader<'a, BuilderArena<A>>>(&'a self) -> Result<T>
         ensures { let pointer = unlimited_root (map used_of self.now.spaces) in
             IsViewOf pointer (T.shows pointer) (T.accepts pointer) (T.fails pointer)
@@ -96,8 +102,8 @@ impl<A: Allocator> Builder<A> {
         self.arena.get_root_as_reader().get_as()
     }
 
-    /// The used words of each segment, for writing the message. Once there is a segment, they can
-    /// be written.
+    /// The used words of each segment, for writing the message. They can be written once there is
+    /// a segment.
     pub fn get_segments_for_output(&self) -> OutputSegments<'_, A>
         ensures segments { result ≡ map used_of self.now.spaces }
         ensures writable { 0 < length self.now.spaces → IsWritable result }
@@ -105,15 +111,15 @@ impl<A: Allocator> Builder<A> {
         OutputSegments::new(&self.arena)
     }
 
-    /// The number of used words of all segments.
+    /// The number of used words in all segments.
     pub fn size_in_words(&self) -> usize
         ensures { result ≡ size_in_words self.now.spaces }
     {
         self.arena.size_in_words()
     }
 
-    /// The message as one to be read, without a traversal limit and with objects nested up to 2^31
-    /// - 1 deep.
+    /// The message as one to be read, without a traversal limit and with objects nested up to
+    /// 2^31 - 1 deep.
     pub fn into_reader(self) -> Reader<Builder<A>>
         ensures { IsReadUnlimited self result }
     {
@@ -126,14 +132,14 @@ impl<A: Allocator> Builder<A> {
         )
     }
 
-    /// The same message, whose root is of this type.
+    /// The same message, with a root of this type.
     pub fn into_typed<T>(self) -> TypedBuilder<T, A>
         ensures { result ≡ self }
     {
         TypedBuilder::new(self)
     }
 
-    /// The allocator, after each segment went back to it with its used words.
+    /// The allocator, once each segment has gone back to it with its number of used words.
     pub fn into_allocator(self) -> A
         ensures { GivesBack A.Allocator (state_of self) result }
     {
@@ -151,7 +157,7 @@ impl Builder<HeapAllocator> {
     }
 }
 
-// Segment `id` is the used words of the builder's segment.
+// Segment `id` is the used words of the builder's segment `id`.
 impl<A: Allocator> ReaderSegments for Builder<A> {
     ghost segments = { λ message. map used_of message.spaces };
 
@@ -161,7 +167,7 @@ impl<A: Allocator> ReaderSegments for Builder<A> {
 
     fn is_empty(&self) -> bool
         ensures empty { IsTrue result ↔ (map used_of self.now.spaces ≡ []) }
-        // So where this returns false, the message can be written.
+        // Where this returns false, the message can be written.
         ensures some { result ≡ false → 0 < length self.now.spaces }
     {
         self.arena.is_empty()

@@ -10,10 +10,10 @@ use capnp_frame::{Error, ErrorKind, Result};
 use capnp_layout::limits::MAX_SEGMENT_WORDS;
 use std::alloc::Global;
 
-/// How large the segments from the heap are, one after the other.
+/// How the sizes of segments from the heap grow.
 #[derive(Clone, Copy, Debug)]
 pub enum AllocationStrategy {
-    /// Each has as many words as the first, or as many as are asked for if that is more.
+    /// Each segment has as many words as the first, or as many as are asked for if that is more.
     FixedSize,
     /// The next size grows by the words of each segment, up to the maximum.
     GrowHeuristically,
@@ -22,7 +22,7 @@ pub enum AllocationStrategy {
 /// The number of words of the first segment.
 pub const SUGGESTED_FIRST_SEGMENT_WORDS: u32 = 1024;
 
-/// How segments grow.
+/// How segments grow by default.
 pub const SUGGESTED_ALLOCATION_STRATEGY: AllocationStrategy = AllocationStrategy::GrowHeuristically;
 
 /// Allocates segments from the heap. Each has as many words as are asked for, or the next size
@@ -39,7 +39,7 @@ pub struct HeapAllocator {
 impl HeapAllocator {
     ghost use Rattle.capnp_message.specs.Heaps.{IsHeapOf};
 
-    /// A first segment of 1,024 words, and segments that grow up to 2^29.
+    /// A first segment of 1,024 words, and then segments that grow up to 2^29 words.
     pub fn new(alloc: Global) -> HeapAllocator
         ensures { IsHeapOf 1024 GrowHeuristically (2 ^ 29) result }
     {
@@ -65,7 +65,7 @@ impl HeapAllocator {
     }
 
     /// Sets the maximum segment size in words, at least the next size. A larger request still gets
-    /// as many words as it asks for.
+    /// the words that it asks for.
     pub fn max_segment_words(self, words: u32) -> HeapAllocator
         requires { self.next_size ≤ words }
         ensures { IsHeapOf self.next_size self.allocation_strategy words result }
@@ -122,12 +122,12 @@ impl Allocator for HeapAllocator {
 
     ghost same = { λ old new. ⊤ };
 
-    // Memory is never sure to be there.
+    // No request is sure to be granted.
     ghost grants = { λ allocator asked words. ⊥ };
 
     ghost fails = { λ allocator asked kind. kind ≡ OutOfMemory };
 
-    // The next size is then the suggested first one again, or the maximum.
+    // The next size is then the suggested first size again, or the maximum.
     ghost returns = { λ old segment words new. StartsAnew old new };
 
     // In addition to what any allocator ensures: how many words there are, and what the next size

@@ -1,4 +1,4 @@
-//! Facts about the canonical forms of messages, and about regions that come back.
+//! Facts about the canonical forms of messages, and about regions that come back to an allocator.
 ghost use Rattle.std.specs.Prelude.{◌≡◌, ◌≤◌, ◌⊎◌, ℕ, List, [], ◌∷◌, Some, None, true, IfOk, IfErr};
 ghost use Rattle.capnp_frame.specs.declared.error.ErrorKind.TheVariants.{OutOfMemory};
 ghost use Rattle.capnp_layout.specs.Prelude.{words_of, root, word_numbers};
@@ -22,8 +22,8 @@ pub fn a_canonical_form_is_its_own()
         pointer.nesting ≤ other.nesting → IsCanonicalForm other words }
 {}
 
-/// The canonical words of a message, whether they are canonical as the one segment of a message,
-/// and the canonical words of that message.
+/// The canonical words of a message, whether a message with these words as its one segment is
+/// canonical, and the canonical words of that message.
 #[derive(Drop)]
 pub struct Canonicalized {
     pub words: Vec<Word>,
@@ -31,7 +31,7 @@ pub struct Canonicalized {
     pub again: Vec<Word>,
 }
 
-/// Canonicalizes a message, and its canonical form once more: this is canonical, and its own
+/// Canonicalizes a message, and then its canonical form. This form is canonical, and is its own
 /// canonical form.
 ///
 /// Fails as `Reader::canonicalize` does.
@@ -60,7 +60,7 @@ pub fn canonicalize_twice<S: ReaderSegments + Drop>(
     })
 }
 
-// Whether a canonical form of a pointer is canonical, and its own canonical words.
+// Whether the canonical form of a pointer is canonical, and its own canonical words.
 fn canonicalize_form(
     alloc: Global,
     form: &[u8],
@@ -80,13 +80,13 @@ fn canonicalize_form(
     Ok((is_canonical, words))
 }
 
-/// A single region of which nothing is out is available: whole, and all zero.
+/// Where no segment is out, a single region is available: whole, and all zero.
 pub fn a_single_region_comes_home(allocator: &SingleSegmentAllocator<'_>)
     ensures { IsOutAlone allocator.now.region allocator.now.size [] →
         IsAvailable allocator.now.region allocator.now.size }
 {}
 
-/// The region of a scratch-space allocator is available where nothing caller-provided is out.
+/// Where no caller-provided segment is out, the region of a scratch-space allocator is available.
 pub fn a_scratch_region_comes_home(allocator: &ScratchSpaceHeapAllocator<'_>)
     ensures { IsProvidedAlone allocator.now.region allocator.now.size [] →
         IsAvailable allocator.now.region allocator.now.size }

@@ -1,9 +1,9 @@
-//! Messages that are read, and what messages are built from.
+//! Messages that are read and built, and the allocators of their segments.
 //!
 //! A [`Reader`](reader::Reader) holds the segments of a message and returns its root as a view, or
 //! an error that says what is wrong there by the [encoding document]. A
-//! [`TypedReader`](typed_reader::TypedReader) is one whose root has a type. Allocators hand out the
-//! segments of messages that are built.
+//! [`TypedReader`](typed_reader::TypedReader) is a reader whose root has a type. A
+//! [`Builder`](builder::Builder) builds a message in segments that an allocator hands out.
 //!
 //! [encoding document]: https://capnproto.org/encoding.html
 #![tactic(auto)]

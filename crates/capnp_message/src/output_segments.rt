@@ -14,7 +14,7 @@ pub struct OutputSegments<'a, A: Allocator> {
     arena: &'a BuilderArena<A>,
 }
 
-// Clauses see the segments, each its used bytes.
+// Clauses see the segments: the used bytes of each.
 impl<'a, A: Allocator> Model for OutputSegments<'a, A> {
     ghost Value = { List (List ℕ) };
 
@@ -27,7 +27,7 @@ impl<'a, A: Allocator> OutputSegments<'a, A> {
         ensures segments { result ≡ map used_of arena.now.spaces }
         ensures writable { 0 < length arena.now.spaces → IsWritable result }
     {
-        // For the prover: the used words can be written, once there is a segment.
+        // For the prover: once there is a segment, the used words can be written.
         arena.are_writable();
         OutputSegments { arena }
     }

@@ -50,11 +50,11 @@ impl<S: ReaderSegments> Reader<S> {
         }
     }
 
-    /// The root as a view, which borrows it from the segments.
+    /// The root as a view, which borrows from the segments.
     ///
     /// Fails with `InvalidSegmentId(0)` without a segment, with `PointerOutOfBounds` where the
-    /// first segment has no word, and else as `any_pointer::Reader::get_as` of `capnp_wire` does of
-    /// the root pointer.
+    /// first segment has no word, and else as `any_pointer::Reader::get_as` of `capnp_wire` does
+    /// for the root pointer.
     pub fn get_root<'a, T: FromPointerReader<'a, S>>(&'a self) -> Result<T>
         ensures { let pointer = root_of S.segments self.now in
             ReadsRoot pointer (T.shows pointer) (T.accepts pointer) (T.fails pointer)
@@ -68,10 +68,11 @@ impl<S: ReaderSegments> Reader<S> {
     ///
     /// A message of more than one segment is not canonical, nor is one with a far pointer.
     ///
-    /// Fails with `InvalidSegmentId(0)` without a segment, and else where the walk over the objects
-    /// stops before it meets what is not canonical: with the error of a view of one of them, or
-    /// with `ReadLimitExceeded` where they have more words than the traversal limit. The walk
-    /// counts from 0, takes no memory, and does not change what views have counted.
+    /// Fails with `InvalidSegmentId(0)` without a segment. Else it fails where the walk over the
+    /// objects stops before it meets anything that is not canonical. The error is then the error of
+    /// a view of one of the objects, or `ReadLimitExceeded` where they have more words than the
+    /// traversal limit. The walk counts from 0, takes no memory, and does not change what views
+    /// have counted.
     pub fn is_canonical(&self) -> Result<bool>
         ensures returned { let pointer = root_of S.segments self.now in
             MatchResult result (λ is. IsTrue is ↔ IsCanonical pointer.message)
@@ -88,11 +89,12 @@ impl<S: ReaderSegments> Reader<S> {
 
     /// The canonical form of the message, as the bytes of its one segment.
     ///
-    /// Fails where there is no first word, as `get_root` does, and where a walk over the root tree
-    /// stops: with the error of a view of one of its objects, or with `ReadLimitExceeded` where
-    /// they have more words than the traversal limit. Above 2^29 words, the root pointer among
-    /// them, it fails with `CanonicalTooLarge`, and once the form is measured with `OutOfMemory`.
-    /// The walk counts from 0, and does not change what views have counted.
+    /// Fails where there is no first word, as `get_root` does. Fails where a walk over the root
+    /// tree stops: with the error of a view of one of its objects, or with `ReadLimitExceeded`
+    /// where they have more words than the traversal limit. Fails with `CanonicalTooLarge` above
+    /// 2^29 words, the root pointer among them, and with `OutOfMemory` where the form, once
+    /// measured, can't be allocated. The walk counts from 0, and does not change what views have
+    /// counted.
     pub fn canonical_segment(&self, alloc: Global) -> Result<Vec<u8>>
         ensures returned { let pointer = root_of S.segments self.now in MatchResult result
             (λ bytes. IsCanonicalForm pointer (words_of bytes.items))
@@ -107,8 +109,8 @@ impl<S: ReaderSegments> Reader<S> {
         canonical_bytes(alloc, &root)
     }
 
-    /// The canonical form of the message, word by word. It is equal for two messages exactly where
-    /// their root trees are equal once trimmed.
+    /// The canonical form of the message, as words. Two messages have the same form exactly where
+    /// their root trees, once trimmed, are equal.
     ///
     /// Fails as `canonical_segment` does.
     ///
@@ -132,7 +134,7 @@ impl<S: ReaderSegments> Reader<S> {
         self.arena.get_segments()
     }
 
-    /// The segments, back from the reader.
+    /// Gives the segments back.
     pub fn into_segments(self) -> S
         ensures { result ≡ self.segments }
     {
@@ -140,7 +142,7 @@ impl<S: ReaderSegments> Reader<S> {
         arena.into_segments()
     }
 
-    /// The number of words of all segments, at most `usize::MAX`. Bytes after the last whole word
+    /// The number of words in all segments, at most `usize::MAX`. Bytes after the last whole word
     /// of a segment are not counted.
     pub fn size_in_words(&self) -> usize
         requires { length (S.segments self.now.segments) < 2 ^ 32 }
@@ -149,7 +151,7 @@ impl<S: ReaderSegments> Reader<S> {
         self.arena.size_in_words()
     }
 
-    /// The same message, whose root is of this type.
+    /// The same message, with a root of this type.
     pub fn into_typed<T>(self) -> TypedReader<S, T>
         ensures { result ≡ self }
     {

@@ -1,4 +1,4 @@
-//! The object at the root of a message that is built, as a view that writes it.
+//! The object at the root of a message that is built, as a view that writes the object.
 ghost use Rattle.std.specs.Prelude.{length};
 ghost use Rattle.std.specs.Borrow.{RestsIfErr, sem};
 ghost use Rattle.capnp_build.specs.Prelude.{message, InitsView, GetsView, FailsWithNull, LeavesRoot};
@@ -55,9 +55,9 @@ impl<A: Allocator> Builder<A> {
 
     /// Makes the root a new object of length `n`, all zero, and returns a view that writes it.
     ///
-    /// Fails as the allocator does to hand out the first segment; with a kind that `fails` of the
-    /// type names, where the type has no object of this length (the types of `capnp_build` with
-    /// `AllocationTooLarge`); and for want of room as `set_root` does. The root is then null.
+    /// Fails as the allocator does to hand out the first segment. Fails with a kind that `fails` of
+    /// the type names, where the type has no object of this length; the types of `capnp_build` fail
+    /// with `AllocationTooLarge`. Without room it fails as `set_root` does. The root is then null.
     ///
     /// ```
     /// let mut numbers = message.initn_root::<primitive_list::Owned<u64>>(3)?;
@@ -91,10 +91,10 @@ impl<A: Allocator> Builder<A> {
 
     /// The object at the root, as a view that writes it.
     ///
-    /// Fails as the allocator does to hand out the first segment, and with a kind that `form_error`
-    /// of the type names, where the type doesn't accept the object (the types of `capnp_build` with
-    /// `WrongPointerKind` or `TextNotTerminated`, as their reading views do). The root stays as it
-    /// is.
+    /// Fails as the allocator does to hand out the first segment. Fails with a kind that
+    /// `form_error` of the type names, where the type doesn't accept the object; the types of
+    /// `capnp_build` fail with `WrongPointerKind` or `TextNotTerminated`, as their reading views
+    /// do. The root stays the same.
     pub fn get_root<'a, K: OwnedBuilder>(&'a mut self) -> Result<View<'a, Builder<A>, K>>
         ensures* rests { sem 𝓛 (RestsIfErr
             (the_row A.row A.Segment.row A.Allocator A.Segment.SegmentSpace)

@@ -1,4 +1,4 @@
-//! An allocator of one caller-provided region first, and then of segments from the heap.
+//! An allocator of one caller-provided region, and after it of segments from the heap.
 ghost use Rattle.std.specs.Prelude.{◌≡◌, ◌⊎◌, ℕ, ◌*◌, ◌/◌, ◌^◌, ◌<◌, ◌≤◌, true, false, length, IfOk, IfErr, IsSome, IsOk, OnOk, OnErr, None};
 ghost use Rattle.std.specs.Option.{ForSome};
 ghost use Rattle.capnp_frame.specs.declared.error.ErrorKind.TheVariants.{OutOfMemory};
@@ -65,7 +65,7 @@ impl<'a> SegmentSpace for ScratchSegment<'a> {
     }
 }
 
-/// Hands out one caller-provided region, while it is available and large enough, and else segments
+/// Hands out one caller-provided region while it is available and large enough, and else segments
 /// from the heap. While the region is available, it is all zero.
 #[derive(Drop)]
 pub struct ScratchSpaceHeapAllocator<'a> {
@@ -81,8 +81,8 @@ pub struct ScratchSpaceHeapAllocator<'a> {
 impl<'a> ScratchSpaceHeapAllocator<'a> {
     ghost use Rattle.capnp_message.specs.Heaps.{WithHeap};
 
-    /// The region, which is made zero, and a heap after it. Bytes after the region's last whole
-    /// word are not used.
+    /// An allocator of this region, which is made zero, and then of a heap. Bytes after the last
+    /// whole word of the region are not used.
     pub fn new(alloc: Global, region: &'a mut [u8]) -> ScratchSpaceHeapAllocator<'a>
         requires { length region.old / 8 < 2 ^ 32 }
         ensures holds { HoldsRegion result.region result.size region.entry }
@@ -98,7 +98,7 @@ impl<'a> ScratchSpaceHeapAllocator<'a> {
         }
     }
 
-    /// Sets how many words the heap's first segment has, at most 2^29.
+    /// Sets how many words the first segment of the heap has, at most 2^29.
     pub fn second_segment_words(self, words: u32) -> ScratchSpaceHeapAllocator<'a>
         requires { words ≤ 2 ^ 29 }
         ensures { WithHeap self.entry words self.entry.heap.allocation_strategy result }
@@ -111,7 +111,7 @@ impl<'a> ScratchSpaceHeapAllocator<'a> {
         }
     }
 
-    /// Sets how segments of the heap grow.
+    /// Sets how segments from the heap grow.
     pub fn allocation_strategy(self, strategy: AllocationStrategy) -> ScratchSpaceHeapAllocator<'a>
         ensures { WithHeap self.entry self.entry.heap.next_size strategy result }
     {
@@ -140,7 +140,7 @@ impl<'a> Allocator for ScratchSpaceHeapAllocator<'a> {
 
     ghost fails = { λ allocator asked kind. kind ≡ OutOfMemory };
 
-    // The region is available again, or the heap is as after taking back one of its segments.
+    // The region is available again, or the heap has taken back one of its segments.
     ghost returns = { λ old segment words new. ReturnsTo segment.is_provided old new };
 
     // In addition to what any allocator ensures: where the segment is the caller-provided region,
@@ -173,8 +173,8 @@ impl<'a> Allocator for ScratchSpaceHeapAllocator<'a> {
         Ok(ScratchSegment::Owned(segment))
     }
 
-    // What was used of the region is made zero, so all of it is zero while it is available. A
-    // segment from the heap goes back to the heap, as to a heap alone.
+    // The used words of the region are made zero, so all of it is zero while it is available. A
+    // segment from the heap goes back to the heap, as with a `HeapAllocator` alone.
     fn deallocate_segment(&mut self, segment: ScratchSegment<'a>, words_used: u32) {
         match segment {
             ScratchSegment::Lent(region) => {

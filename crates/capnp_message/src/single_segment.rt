@@ -27,7 +27,8 @@ pub struct SingleSegmentAllocator<'a> {
 }
 
 impl<'a> SingleSegmentAllocator<'a> {
-    /// The region, which is made zero. Bytes after its last whole word are not used.
+    /// An allocator of this region, which is made zero. Bytes after the last whole word of the
+    /// region are not used.
     pub fn new(region: &'a mut [u8]) -> SingleSegmentAllocator<'a>
         requires { length region.old / 8 < 2 ^ 32 }
         ensures { HoldsRegion result.region result.size region.entry }
@@ -81,7 +82,7 @@ impl<'a> Allocator for SingleSegmentAllocator<'a> {
         }
     }
 
-    // What was used is made zero, so all of the region is zero while it is available.
+    // The used words are made zero, so all of the region is zero while it is available.
     fn deallocate_segment(&mut self, segment: &'a mut [u8], words_used: u32) {
         segment[..8 * words_used as usize].fill(0);
         self.region = Some(segment);

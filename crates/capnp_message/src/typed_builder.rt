@@ -21,7 +21,7 @@ use capnp_wire::traits::{Owned, SetterInput};
 use std::alloc::Global;
 use std::marker::{Model, PhantomData};
 
-/// A message that is built, and whose root is of type `T`.
+/// A message that is built, with a root of type `T`.
 #[derive(Drop)]
 pub struct TypedBuilder<T, A: Allocator> {
     message: Builder<A>,
@@ -78,15 +78,15 @@ impl<T, A: Allocator> TypedBuilder<T, A> {
         &mut self.message
     }
 
-    /// The message as one to be read, without a traversal limit and with objects nested up to 2^31
-    /// - 1 deep.
+    /// The message as one to be read, without a traversal limit and with objects nested up to
+    /// 2^31 - 1 deep.
     pub fn into_reader(self) -> TypedReader<Builder<A>, T>
         ensures { IsReadUnlimited self result }
     {
         TypedReader::new(self.into_inner().into_reader())
     }
 
-    /// Sets the root to a value. It fails as `set_root` of the message does.
+    /// Sets the root to a value. Fails as `set_root` of the message does.
     pub fn set_root<V: SetterInput<T> + Drop>(&mut self, value: V) -> Result<()>
         ensures { SetsRoot A.Allocator (V.has_tree value) (V.fails value)
             self.old self.new result }
@@ -94,8 +94,7 @@ impl<T, A: Allocator> TypedBuilder<T, A> {
         self.message.set_root::<T, V>(value)
     }
 
-    /// The root as a view of its type to read. It fails as `get_root_as_reader` of the message
-    /// does.
+    /// The root as a view of its type to read. Fails as `get_root_as_reader` of the message does.
     pub fn get_root_as_reader<'a>(&'a self) -> Result<T::Reader>
     where
         T: Owned<'a, BuilderArena<A>>,
@@ -165,7 +164,7 @@ impl<T, A: Allocator> Building for TypedBuilder<T, A> {
 impl<T: OwnedBuilder, A: Allocator> TypedBuilder<T, A> {
     ghost use Rattle.capnp_message.specs.contracts.typed_builder.TypedBuilder.{the_row as typed_row};
 
-    /// Makes the root a new object of length `n`. It fails as `initn_root` of the message does.
+    /// Makes the root a new object of length `n`. Fails as `initn_root` of the message does.
     pub fn initn_root<'a>(&'a mut self, n: u32) -> Result<View<'a, TypedBuilder<T, A>, T>>
         ensures* rests { sem 𝓛 (RestsIfErr
             (typed_row T.row A.row A.Segment.row A.Allocator A.Segment.SegmentSpace)
@@ -178,7 +177,7 @@ impl<T: OwnedBuilder, A: Allocator> TypedBuilder<T, A> {
         Ok(View::new(self))
     }
 
-    /// Makes the root a new object of length 0. It fails as `initn_root` does.
+    /// Makes the root a new object of length 0. Fails as `initn_root` does.
     pub fn init_root<'a>(&'a mut self) -> Result<View<'a, TypedBuilder<T, A>, T>>
         ensures* rests { sem 𝓛 (RestsIfErr
             (typed_row T.row A.row A.Segment.row A.Allocator A.Segment.SegmentSpace)
@@ -190,8 +189,7 @@ impl<T: OwnedBuilder, A: Allocator> TypedBuilder<T, A> {
         self.initn_root(0)
     }
 
-    /// The object at the root, as a view that writes it. It fails as `get_root` of the message
-    /// does.
+    /// The object at the root, as a view that writes it. Fails as `get_root` of the message does.
     pub fn get_root<'a>(&'a mut self) -> Result<View<'a, TypedBuilder<T, A>, T>>
         ensures* rests { sem 𝓛 (RestsIfErr
             (typed_row T.row A.row A.Segment.row A.Allocator A.Segment.SegmentSpace)

@@ -13,7 +13,7 @@ use capnp_frame::message::ReaderSegments;
 use capnp_wire::traits::Owned;
 use std::marker::{Model, PhantomData};
 
-/// A message that is read, and whose root is of type `T`.
+/// A message that is read, with a root of type `T`.
 #[derive(Drop)]
 pub struct TypedReader<S, T> {
     message: Reader<S>,
@@ -40,7 +40,7 @@ impl<S: ReaderSegments, T> TypedReader<S, T> {
         }
     }
 
-    /// The root as a view of its type. It fails as `get_root` of the message does.
+    /// The root as a view of its type. Fails as `get_root` of the message does.
     pub fn get<'a>(&'a self) -> Result<T::Reader>
     where
         T: Owned<'a, S>,

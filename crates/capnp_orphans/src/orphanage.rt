@@ -60,7 +60,7 @@ pub struct Orphanage<S: GrowingSegment = Heap> {
     segment: S,
 }
 
-// Contracts see the state of the segment.
+// Clauses see the state of the segment.
 impl<S: GrowingSegment> Model for Orphanage<S> {
     ghost use Rattle.capnp_orphans.specs.Segments.{Segment, IsSegment};
 

@@ -1,4 +1,4 @@
--- The form is its own, and canonical.
+-- The form is its own canonical form, and canonical.
 use Rattle.std.proofs.lemmas.Result.{err_from_is_err_and}
 use Rattle.capnp_message.proofs.FormOfFormLemmas.{own_of, has_form, one_form, form_canonical}
 use Rattle.capnp_message.proofs.laws.canonicalize_form.Goals as goal

@@ -1,4 +1,4 @@
--- What is handed on.
+-- The results of the calls are handed on.
 use Rattle.std.proofs.Common.{◌∙◌, ap}
 use Rattle.std.proofs.lemmas.Result.{err_from_is_err_and}
 use Rattle.capnp_layout.specs.Prelude.{words_of}
