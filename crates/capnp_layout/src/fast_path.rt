@@ -1,5 +1,5 @@
-//! Fast paths: to null, to a struct, and to a list of numbers, pointers or structs in the segment of
-//! their pointer.
+//! Fast paths: to null, to a struct, and to a list of numbers, pointers or structs in the segment
+//! of their pointer.
 ghost use Rattle.std.specs.Prelude.{◌≡◌, ◌⊎◌, ◌↔◌, ℕ, List, ◌+◌, ◌/◌, ◌^◌, ◌<◌, ◌≤◌, length, Some, slice_get, IfSome, IsTrue};
 ghost use Rattle.capnp_layout.specs.Pointer.{words_of, pointer_kind, code};
 ghost use Rattle.capnp_layout.specs.Body.{IsObject};
@@ -119,7 +119,8 @@ pub fn local_struct(segment: &[u8], place: Place, nesting: u32) -> Option<LocalS
     })
 }
 
-/// The list of pointers that the pointer at a place of this segment points to without a landing pad.
+/// The list of pointers that the pointer at a place of this segment points to, without a landing
+/// pad.
 #[inline(always)]
 pub fn local_pointers(segment: &[u8], place: Place, nesting: u32) -> Option<PointerRun<'_>>
     ensures { (m : List (List ℕ)) → slice_get m place.segment ≡ Some (words_of segment.now) →

@@ -14,8 +14,8 @@ use crate::pointer::{FarPointer, LocalPointer, LocalShape, PointerWord};
 use capnp_frame::message::ReaderSegments;
 use capnp_frame::{Error, ErrorKind, Result};
 
-/// Where an object begins, and its shape. The shape is the one in the struct or list pointer to it,
-/// which is the pointer itself or is in a landing pad.
+/// Where an object begins, unless its pointer points to a word before the segment, and its shape.
+/// The struct or list pointer that gives the shape is its own pointer, or is in a landing pad.
 #[derive(Drop)]
 pub struct Landing<'a> {
     /// The segment that the object is in.

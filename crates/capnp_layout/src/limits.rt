@@ -5,7 +5,7 @@ ghost use Rattle.capnp_layout.specs.Limits.{too_large};
 
 use capnp_frame::{Error, ErrorKind, Result};
 
-/// The most words that an object may have, and also a value that is laid out as one block.
+/// The most words that an object may have, or a value that is laid out as one block.
 pub const MAX_WORDS: u32 = (1 << 29) - 1;
 
 /// The most elements that a list may have: a list pointer holds their number in 29 bits.

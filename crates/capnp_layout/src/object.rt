@@ -160,7 +160,7 @@ pub fn body_at(segment: &[u8], start: usize, shape: LocalShape) -> Result<Body>
     }
 }
 
-// A list of structs whose tag is at a word of a segment, and which has this many words after it.
+// The list of structs whose tag is at a word of a segment, with this many words after the tag.
 fn structs(segment: &[u8], start: usize, words: u32) -> Result<Body>
     ensures found { let words_there = words_of segment.now in
         IfOk result (λ body. (tag number : ℕ) → IsLocalShape tag (LocalShape.Structs words) →

@@ -38,8 +38,8 @@ pub fn output_body(object: &Object<'_>, canonical: bool) -> Body
     }
 }
 
-/// The size of each of some consecutive structs from a word on: in canonical form the least that
-/// holds them all, else the size that they have.
+/// The size of each of some consecutive structs from a word on: in canonical form the least size
+/// that all of them fit, else the size that they have.
 #[inline(always)]
 pub fn output_size(
     segment: &[u8],

@@ -17,7 +17,8 @@ pub struct Place {
     pub word: usize,
 }
 
-/// The pointer word at a place. Fails with `InvalidSegmentId` or `PointerOutOfBounds` where there is none.
+/// The pointer word at a place. Fails with `InvalidSegmentId` or `PointerOutOfBounds` where there
+/// is none.
 pub fn pointer_at<S: ReaderSegments>(segments: &S, place: Place) -> Result<u64>
     ensures { let m = message_of (S.segments segments.now) in
         MatchResult result (λ word. word_at m place ≡ Some word)

@@ -53,8 +53,8 @@ pub fn far_word(segment: u32, position: u32) -> u64
     2 + 8 * position as u64 + segment as u64 * (1 << 32)
 }
 
-/// What a struct or list pointer points to; `None` for a far pointer and a capability. Null reads as
-/// a struct of no words.
+/// What a struct or list pointer points to; `None` for a far pointer and a capability. Null reads
+/// as a struct of no words.
 pub fn local_shape(word: u64) -> Option<LocalShape>
     ensures { MatchOption result (1 < pointer_kind word) (λ shape. IsLocalShape word shape) }
 {
@@ -64,8 +64,8 @@ pub fn local_shape(word: u64) -> Option<LocalShape>
     }
 }
 
-/// The pointer of a tag word, to an object that is this many words further. Null and the pointer to
-/// a struct of no words, whose offset is -1, stay the same.
+/// The pointer in a tag word, with its offset made larger by this many words. Null and the pointer
+/// to a struct of no words, whose offset is -1, stay the same.
 pub fn moved(tag: u64, offset: u32) -> u64
     requires local { offset < 2 ^ 29 }
     requires pointer { (form : Form) × (n : ℕ) × HasRoom form n × (tag ≡ pointer form n 0) }

@@ -22,7 +22,7 @@ pub fn null_is_an_orphan()
     ensures { (body : List ℕ) → IsOrphan body 0 null none }
 {}
 
-/// Orphans that each of two steps keeps are kept by both together.
+/// Two steps together keep the orphans that each of them keeps.
 pub fn steps_keep_orphans()
     ensures { (first second third : Segment) → Keeps first second → Keeps second third →
         Keeps first third }

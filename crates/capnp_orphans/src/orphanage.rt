@@ -139,7 +139,7 @@ impl<S: GrowingSegment> Orphanage<S> {
         self.write_anew(object)
     }
 
-    // Writes an object, and first prepares the memory for it.
+    // Writes an object where the memory may need preparation for it.
     #[cold]
     #[inline(never)]
     fn write_anew<T, O: Object>(&mut self, object: &O) -> Result<Orphan<T>>
@@ -159,8 +159,8 @@ impl<S: GrowingSegment> Orphanage<S> {
 
     /// Adds an orphan: the object of a value that a pointer can be set to. The value is composed
     /// (`capnp_values`), or it is what a view of another message shows: a text, data, a struct, a
-    /// list of any kind. Given as an `any_pointer::Reader`, whatever a pointer of that message
-    /// points to is copied untrimmed.
+    /// list of any kind. An `any_pointer::Reader` stands for whatever a pointer of that message
+    /// points to, which is copied untrimmed.
     ///
     /// This is `newOrphanCopy` of the C++ library, where `set` sets a field of a builder.
     ///
@@ -222,7 +222,7 @@ impl<S: GrowingSegment> Orphanage<S> {
     /// Adds an orphan: the struct of this draft ("Structs"). The pointer to an orphan of another
     /// orphanage is written, too.
     ///
-    /// Fails for 2^16 data words or pointers or more with `AllocationTooLarge(65536)`, and without
+    /// Fails for 2^16 or more data words or pointers with `AllocationTooLarge(65536)`, and without
     /// room as `Orphanage` says.
     pub fn add<T, const D: usize, const P: usize>(
         &mut self,

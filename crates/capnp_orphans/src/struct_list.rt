@@ -32,7 +32,7 @@ impl<'a, T, const D: usize, const P: usize, S: DraftSource<T, D, P>> StructList<
     }
 }
 
-// Fails for 2^29 structs or words or more with `AllocationTooLarge` of their count, and for structs
+// Fails for 2^29 or more structs or words with `AllocationTooLarge` of their count, and for structs
 // too large for a pointer with `AllocationTooLarge(65536)`.
 impl<'a, T, const D: usize, const P: usize, S: DraftSource<T, D, P>> Object
     for StructList<'a, T, D, P, S> {

@@ -81,8 +81,8 @@ pub struct KeptWords {
     pub pointers: u32,
 }
 
-/// Writes what a struct keeps into a block from the word `at` on, and what its pointers point to into
-/// the words from `next` on, which are zero. Returns the first word after that.
+/// Writes what a struct keeps into a block from the word `at` on, and what its pointers point to
+/// into the words from `next` on, which are zero. Returns the first word after that.
 pub(crate) fn write_sections<E: Fields + Element>(
     item: &E,
     canonical: bool,

@@ -27,8 +27,8 @@ impl<'a, E> StructList<'a, E> {
 }
 
 // Has the data words of the elements and the trees of their fields, in order. Fails with
-// `AllocationTooLarge` for 2^16 data words or fields or more, and for 2^29 elements, or words of
-// elements, or more. Else it fails as the first field does that fails untrimmed.
+// `AllocationTooLarge` for 2^16 or more data words or fields, and for 2^29 or more elements or
+// words of elements. Else it fails as the first field does that fails untrimmed.
 impl<'a, E: Fields + Element> SetterInput<Owned> for StructList<'a, E> {
     ghost use Rattle.capnp_layout.specs.Tree.{count};
     ghost use Rattle.capnp_values.specs.StructLists.{IsStructListTree, StructListError};

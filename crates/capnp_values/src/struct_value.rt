@@ -32,8 +32,8 @@ impl<const D: usize, F> StructValue<D, F> {
     }
 }
 
-// Has the data words and the trees of the fields. Fails with `AllocationTooLarge` for 2^16 data
-// words or fields or more, and as the first field does that fails untrimmed.
+// Has the data words and the trees of the fields. Fails with `AllocationTooLarge` for 2^16 or more
+// data words or fields, and else as the first field does that fails untrimmed.
 impl<const D: usize, F: Fields> SetterInput<Owned> for StructValue<D, F> {
     ghost use Rattle.std.specs.Prelude.{length};
     ghost use Rattle.capnp_layout.specs.Tree.{count};
