@@ -12,7 +12,7 @@ use capnp_build::allocator::Allocator;
 use capnp_build::{any_pointer, primitive_list};
 use capnp_frame::Result;
 use capnp_frame::message::ReaderSegments;
-use capnp_frame_tests::growths::is_out_of_memory;
+use capnp_frame_tests::failed_allocations::is_out_of_memory;
 use capnp_frame_tests::retried;
 use capnp_message::{Builder, HeapAllocator, SingleSegmentAllocator};
 use capnp_wire::text;

@@ -1,6 +1,6 @@
 //! Lengths of segments, added up.
 use crate::assertions::{At, assert_count, assert_fails, assert_holds};
-use crate::growths::is_out_of_memory;
+use crate::failed_allocations::is_out_of_memory;
 use crate::retried;
 use capnp_frame::message::ReaderSegments;
 use capnp_frame::serialize::{OwnedSegments, SegmentLengthsBuilder};

@@ -16,9 +16,9 @@ mod chunk_cases;
 #[cfg(test)]
 mod chunks;
 pub mod errors;
+pub mod failed_allocations;
 #[cfg(test)]
 mod framing;
-pub mod growths;
 #[cfg(test)]
 mod kept_adapters;
 #[cfg(test)]

@@ -4,8 +4,8 @@
 //! test asks of a result that it is the right one, or `OutOfMemory` with nothing else changed, and
 //! that the call returns the right one when it is made again.
 use crate::assertions::{At, assert_bytes, assert_count, assert_holds};
+use crate::failed_allocations::is_out_of_memory;
 use crate::framing::{Found, read_by};
-use crate::growths::is_out_of_memory;
 use crate::limits::STRICT;
 use crate::retried;
 use capnp_frame::io::Write;
@@ -139,7 +139,7 @@ fn read_case(rt: &(impl Abort + AllocGlobal), case: &Asking) -> Result<()> {
         (Ok(found), Ok(wanted)) => assert_holds(rt, found == wanted, at),
         (Err(error), Err(kind)) => assert_holds(rt, error.kind == kind, at),
         _ => panic!(rt;
-            "a result for a refusal, or a refusal for a result, at {}",
+            "a result for an error, or an error for a result, at {}",
             case.name
         ),
     }

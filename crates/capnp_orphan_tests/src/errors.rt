@@ -2,7 +2,7 @@
 use crate::built::{Built, build};
 use crate::fixtures::{Fields, Pointer, empty, expect, message_of, text_at};
 use capnp_frame::{ErrorKind, Result};
-use capnp_frame_tests::growths::is_out_of_memory;
+use capnp_frame_tests::failed_allocations::is_out_of_memory;
 use capnp_frame_tests::retried;
 use capnp_orphans::{DraftSource, Orphan, Orphanage, StructDraft};
 use capnp_values::{Null, PointerList};
@@ -257,7 +257,7 @@ fn failed_memory_is_taken_later(rt: HostRuntime) -> Result<()> {
     let returned = add_data(&mut objects);
     if returned.is_err() {
         assert!(rt; is_out_of_memory(&returned));
-        expect(&rt, "refused", objects.bytes().len(), 16);
+        expect(&rt, "fails", objects.bytes().len(), 16);
         add_data(&mut objects)?;
     }
     expect(&rt, "taken", objects.bytes().len(), 16 + 4096);
@@ -272,7 +272,7 @@ fn add_data(objects: &mut Orphanage) -> Result<()> {
 // Each object in turn after those before it. Where an allocation fails, what was there before is
 // still there, and the same object is built when it is asked for again.
 #[test]
-fn each_growth_is_taken_later(rt: HostRuntime) -> Result<()> {
+fn each_object_is_built_after_a_failed_allocation(rt: HostRuntime) -> Result<()> {
     let mut objects = alice(&rt)?;
     for built in &KINDS {
         let returned = build(&mut objects, *built);

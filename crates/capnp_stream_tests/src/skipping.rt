@@ -79,7 +79,7 @@ fn messages_are_skipped(rt: HostRuntime) -> Result<()> {
         }
         for (bytes, returned) in &FAILING {
             let call = (Format::Framed, Padding::Zero);
-            retried!(skip_each(&rt, call, ("a refusal", *bytes), &[*returned], most))?;
+            retried!(skip_each(&rt, call, ("an error", *bytes), &[*returned], most))?;
         }
     }
     for stream in &STREAMS {

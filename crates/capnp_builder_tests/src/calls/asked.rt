@@ -88,7 +88,7 @@ fn each_further_segment_is_asked_for(rt: HostRuntime) -> Result<()> {
         init_words(&mut message, words)?;
     }
     let failed = kind_of(init_words(&mut message, 70));
-    expect(&rt, "refused", failed, Some(ErrorKind::OutOfMemory));
+    expect(&rt, "fails", failed, Some(ErrorKind::OutOfMemory));
     drop(message);
     let asked = (allocator.requests, allocator.last);
     expect(&rt, "asked", asked, (71, 71));

@@ -97,7 +97,7 @@ fn second_segment_fails(rt: HostRuntime) -> Result<()> {
     let allocator = SecondFails { heap, requests: 0 };
     let mut message = Builder::new(rt.alloc(), allocator);
     let failed = kind_of(set_text(&mut message, "hello world!"));
-    expect(&rt, "refused", failed, Some(ErrorKind::OutOfMemory));
+    expect(&rt, "fails", failed, Some(ErrorKind::OutOfMemory));
     assert!(rt; is_null_word(&message));
     set_text(&mut message, "hello world!")?;
     expect_segments(&rt, "given", &message, &[FAR, PADDED]);
@@ -182,7 +182,7 @@ fn struct_error<A: Allocator>(message: &mut Builder<A>) -> (u8, u32) {
 fn roots_one_after_another(rt: HostRuntime) -> Result<()> {
     let mut message = Builder::new_default(rt.alloc());
     let failed = init_error::<data::Owned, HeapAllocator>(&mut message, 536_870_912);
-    expect(&rt, "refused", failed, (15, 67_108_864));
+    expect(&rt, "fails", failed, (15, 67_108_864));
     set_text(&mut message, "hello")?;
     set_text(&mut message, "Hello, World!")?;
     expect(&rt, "words", message.size_in_words(), 4);

@@ -44,7 +44,7 @@ fn a_list_is_no_account(rt: HostRuntime) {
     let segments = [A_LIST];
     let message = message_of(&segments, DEFAULT_READER_OPTIONS);
     match message.get_root::<Account<'_>>() {
-        Ok(_) => expect(&rt, A_LIST, "an account", "a refusal"),
+        Ok(_) => expect(&rt, A_LIST, "an account", "an error"),
         Err(error) => expect(&rt, A_LIST, error.kind, ErrorKind::WrongPointerKind),
     }
 }

@@ -170,7 +170,7 @@ fn a_copy_without_room(rt: HostRuntime) -> Result<()> {
     let mut objects = Orphanage::in_region(&mut region)?;
     let failed = copy(&read, &mut objects);
     let has_failed = matches!(failed, Err(error) if error.kind == ErrorKind::AllocationTooLarge(3));
-    expect_that(&rt, "refusal", has_failed);
+    expect_that(&rt, "error", has_failed);
     expect(&rt, "bytes", objects.bytes().len(), 8 * 3);
     Ok(())
 }
