@@ -13,7 +13,7 @@ use Rattle.capnp.specs.Prelude.{NextError, IsPackedEncodingOf, IsCutKind}
 use Rattle.capnp.proofs.PlainSinkLemmas.{IsWithin-written}
 use Rattle.capnp.proofs.RunLemmas.{format_parts}
 
--- What requests meet stays where more bytes follow, but for an end that comes too early.
+-- What a request meets is the same where more bytes follow, except for an end that comes too early.
 
 given_after : (raw more : List ℕ) (n : ℕ) (bytes rest : List ℕ) → Unpacks raw n bytes rest → Unpacks (raw ++ more) n bytes (rest ++ more)
 given_after raw more n bytes rest (encoding, chunk, spelled, long) = (encoding, chunk, ap (λ l. l ++ more) spelled ∙ append_assoc encoding rest more, long)
@@ -60,7 +60,7 @@ asks_after kind raw more n later (inr (bytes, rest, given, after)) = elim (later
   | inr there ↦ inr (inr (bytes, rest ++ more, given_after raw more n bytes rest given, there))
 ]
 
--- the last lines: the request of the segments
+-- the last part of an error: the request of the segments
 abbrev Segments : ErrorKind → List ℕ → List ℕ → List ℕ → Type 0
 Segments kind left ns following = Unless (IsTooShort None (table_size (length ns) + 8 * sum ns)) (FailsLeaving BufferNotLargeEnough kind following left) (
     ChunkError following (8 * sum ns) kind)

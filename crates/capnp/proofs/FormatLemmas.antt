@@ -47,7 +47,7 @@ Outgrows-map segments bytes rule given limit raw left (inr (lengths, table, with
   more,
 )
 
--- with less memory at hand it is outgrown sooner
+-- what outgrows kept memory takes memory where none is kept
 pub Outgrows-none : (segments bytes : ℕ) (rule : Padding) (gives : Giving) (limit : Option ℕ) (raw left : List ℕ)
     → Outgrows segments bytes rule gives limit raw left → TakesMemory rule gives limit raw left
 Outgrows-none segments bytes rule gives limit raw left (inl (is_found, more)) = inl (is_found, omega arith)

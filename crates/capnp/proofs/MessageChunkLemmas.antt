@@ -42,7 +42,7 @@ chunks_whole segments writable =
     let long = length-table table (lengths segments) (zero_padded_is Zero (lengths segments) (HasTable-writable segments writable)) in
     AllByRecursion-append IsWholeWords (table_chunks (lengths segments)) segments (table_whole table (length (lengths segments) / 2) (nat_lt 8 (length table)) long) writable.whole
 
--- why a message is not written to memory, framed and packed: for too many segments, or for want of memory
+-- why a message is not written to memory, framed and packed: it has too many segments, or an allocation fails
 pub framed_memory : (message : List (List ℕ)) (kind : ErrorKind) → WriterError (ByKind OutOfMemory) message kind → (kind ≡ DeviceFailed → Fails 0 0)
     → SegmentCountError message kind ⊎ (kind ≡ OutOfMemory)
 framed_memory message kind (inl device) failed = absurd (never_fails kind failed device)

@@ -87,7 +87,7 @@ fails_reading source old mid new format options count readers segments options_o
       advances = Advances-join old mid new join advances (or_fails_advances source mid new (rules_of Zero format) limit e reads);
     }
 
--- and want of memory is an external error
+-- and running out of memory is an external error
 pub accepted_at_memory : (rule : Padding) (format : Format) (limit : Option ℕ) (count : ℕ) (kind : ErrorKind) (old : Option (List ℕ)) → kind ≡ OutOfMemory
     → IfSome old (λ raw. (ms : List (List (List ℕ))) (rest : List ℕ) → AreEncodings (grammar_of rule format) limit ms raw rest → length ms ≡ count → ExternalError kind)
 accepted_at_memory rule format limit count kind None memory = tt

@@ -95,7 +95,7 @@ pub message_run_error : (limit : Option ℕ) (Errors : WritingErrors) (index : �
     → WritingError Errors index message kind → RunError Errors index kind
 message_run_error limit Errors index message kind within whole error = inr (message, IsWritable-within message limit within whole, error)
 
--- What a run comes to, by what its source had and has.
+-- What a run has done, by what its source had and has.
 
 pub all_written : (rule : Padding) (format : Format) (limit : Option ℕ) (Writes : Writing) (Errors : WritingErrors) (count : ℕ)
     (old mid left before between after : Option (List ℕ))

@@ -13,7 +13,7 @@ use Rattle.capnp.specs.Prelude.{grammar_of, gives_of, FoundNext, NextError, Take
 use Rattle.capnp.proofs.RunEndLemmas.{stream_once}
 use Rattle.capnp.proofs.RunLemmas.{format_parts}
 
--- a slice never fails, so its reader fails only for want of memory or with an error of its bytes
+-- a slice never fails, so its reader fails only when out of memory or with an error of its bytes
 pub slice_reader_error : (rule : Padding) (format : Format) (limit : Option ℕ) (kind : ErrorKind) (old new : List ℕ) → (kind ≡ DeviceFailed → Fails 0 0)
     → (kind ≡ DeviceFailed) ⊎ ((kind ≡ OutOfMemory) × TakesMemory rule (gives_of format) limit old new) ⊎ NextError rule format limit kind old new
     → ((kind ≡ OutOfMemory) × TakesForNext rule format limit old) ⊎ EndsBy rule format limit (Some kind) old
@@ -21,7 +21,7 @@ slice_reader_error rule format limit kind old new failed (inl device) = absurd (
 slice_reader_error rule format limit kind old new failed (inr (inl memory)) = inl (memory.0, (new, memory.1))
 slice_reader_error rule format limit kind old new failed (inr (inr line)) = inr (new, line)
 
--- memory is lacking only where there are bytes, since at the end of a stream the device alone fails
+-- an allocation fails only where there are bytes, since at the end of a stream the device alone fails
 pub memory_at_bytes : (raw : List ℕ) (kind : ErrorKind) → (Some raw ≡ Some [] → kind ≡ DeviceFailed) → kind ≡ OutOfMemory → 0 < length raw
 memory_at_bytes [] kind end memory = let device : kind ≡ DeviceFailed = end refl in let never : OutOfMemory ≡ DeviceFailed = sym memory ∙ device in cc
 memory_at_bytes (byte ∷ raw) kind end memory = omega arith
@@ -41,7 +41,7 @@ moves_on_by rule format limit m (byte ∷ encoding) raw rest is_encoding within 
 pub moves_on : (rule : Padding) (format : Format) (limit : Option ℕ) (m : List (List ℕ)) (raw rest : List ℕ) → FoundNext rule format limit m raw rest → length rest < length raw
 moves_on rule format limit m raw rest is_found = moves_on_by rule format limit m is_found.encoding raw rest is_found.is_encoding is_found.within is_found.spelled
 
--- the kind of an error for which memory is lacking
+-- the kind of an error of memory is `OutOfMemory`
 pub memory_kind : (error : Error) → IsMemoryError (Some error) → error.kind ≡ OutOfMemory
 memory_kind error memory = cc
 
@@ -90,7 +90,7 @@ pub stream_error_ends : (error : Error) (P T Q : Type 0) → ((error.kind ≡ Ou
 stream_error_ends error P T Q (inl memory) = inl (ap Some memory.0, λ few. memory.1)
 stream_error_ends error P T Q (inr ends) = inr ends
 
--- wherever memory is lacking
+-- where the stream ends, or an allocation failed
 pub ends_or_memory : (rule : Padding) (format : Format) (limit : Option ℕ) (reason : Option Error) (raw rest : List ℕ) → EndsReading rule format limit reason raw rest
     → IsMemoryError reason ⊎ EndsBy rule format limit (kind_of reason) rest
 ends_or_memory rule format limit reason raw rest (inl memory) = inl memory.0

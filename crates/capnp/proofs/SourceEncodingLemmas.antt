@@ -61,8 +61,8 @@ nothing_begins rule laws encodings limit F (Some raw) none = λ m rest begins.
     let is_found = (encodings m raw rest).1 (begins.encoding, begins.is_encoding, begins.spelled) in
     absurd (given_some laws raw 8 is_found.table.first is_found.table.between is_found.table.first_given (lit< tt) none)
 
--- Where the rules' encodings are what the stream's rules read: a message is by these exactly where an encoding of it is, and no
--- encoding begins where nothing is unread.
+-- Where the grammar is what the stream's rules read: the rules find a message exactly where an encoding of it
+-- is, and no encoding begins where nothing is unread.
 abbrev pub AreRead : MessageRules → Type 0
 AreRead rules = rules.plain → AreEncodingsBy rules.is_encoding rules.stream
     × ((limit : Option ℕ) (m : List (List ℕ)) (raw rest : List ℕ) → raw ≡ [] → BeginsWith rules.is_encoding limit m raw rest → ⊥)
@@ -78,7 +78,8 @@ framed_read rule source laws plain =
 pub packed_read : (rule : Padding) → AreRead (packed rule)
 packed_read rule plain = (λ m raw rest. (λ x. x, λ x. x), are_read rule unpacking (packed_requests rule))
 
--- So of a result what follows where a message is there, follows where its encoding is: of a message always, of none at no encoding.
+-- So what follows of a result where the rules find a message follows where its encoding is: for a message
+-- always, and for none where no encoding is.
 module _ (F : List (List ℕ) → Type 0) (rules : MessageRules) (limit : Option ℕ) where
   accepts : (old : Option (List ℕ)) → AreRead rules → rules.plain
       → IfSome old (λ raw. (m : List (List ℕ)) (rest : List ℕ) → rules.stream.finds m raw rest → IsWithin m limit → F m)
@@ -148,7 +149,7 @@ module _ {S : Type 0} (source : Ghosts S) (old new : S) (rules : MessageRules) (
     options_are = tt;
   }
 
--- Also the form that has to return a message fails only by an external error where an encoding is there.
+-- The form that has to return a message, too, fails only by an external error where an encoding is there.
 nothing_accepted : (P : List (List ℕ) → List ℕ → List ℕ → Type 0) (F : Type 0) (Q : Error → Type 0) (old : Option (List ℕ))
     → IfSome old (λ raw. (m : List (List ℕ)) (rest : List ℕ) → P m raw rest → MatchResult (Ok None) (IsSome {T = List (List ℕ)}) Q)
     → IfSome old (λ raw. (m : List (List ℕ)) (rest : List ℕ) → P m raw rest → F)

@@ -1,5 +1,4 @@
--- A run of which less is known of the messages' encodings, and so one that transcodes, over a plain
--- sink.
+-- A run with a weaker relation for the messages' encodings, and so one that transcodes, over a plain sink.
 use Rattle.std.proofs.Common.{inl, inr, ℕ, ◌+◌, Option, Some, None, IfSome, Result, Ok, Err, List, [], ◌∷◌}
 use Rattle.capnp_frame.specs.declared.serialize.segment_table.Padding.{Padding}
 use Rattle.capnp_frame.specs.declared.error.ErrorKind.{ErrorKind}
@@ -14,7 +13,7 @@ use Rattle.capnp.specs.declared.transcoding.Way.TheVariants.{Pack, Unpack}
 use Rattle.capnp.specs.Prelude.{IsPlainSink, Writing, WritingErrors, WritesFrom, HasWritten, RanOut, HasFailed, HasRun, WritesEach, Transcodes, IsOtherEncoding}
 use Rattle.capnp.proofs.PlainSinkLemmas.{frame_bytes_added, packed_encoding_added}
 
--- what is written of each message is what is weaker
+-- each encoding by the first relation is one by the second
 abbrev IsWeaker : Writing → Writing → Type 0
 IsWeaker P Q = (index : ℕ) (m : List (List ℕ)) (encoding : List ℕ) → P index m encoding → Q index m encoding
 

@@ -26,7 +26,8 @@ pub record FailsWithin {S : Type 0} (source : Ghosts S) (old new : S) (rule : Pa
   -- what the reader of the next message keeps where it fails
   pub next : OrFailsAtEnd (ReadsStream source between new (rules_of rule format) limit) (Err error)
 
--- Memory is lacking for the list of these messages, the first ones, which were read; it fails with this kind.
+-- An allocation fails for the list of these messages, the first ones, which were read; the kind is
+-- `OutOfMemory`.
 pub record ListMemoryError {S : Type 0} (source : Ghosts S) (old new : S) (format : Format) (limit : Option ℕ) (count : ℕ) (kind : ErrorKind) : Type 0 where
   pub memory : kind ≡ OutOfMemory
   pub messages : List (List (List ℕ))
@@ -47,7 +48,7 @@ pub record ReadsMessages {S V X : Type 0} (source : Ghosts S) (old new : S) (for
   -- where there are encodings of as many messages, a failure is an external error
   pub accepted : IfErr result (λ error. IfSome (source.unread old) (λ raw. (messages : List (List (List ℕ))) (rest : List ℕ)
       → AreEncodings (grammar_of Zero format) options.traversal_limit_in_words messages raw rest → length messages ≡ count → ExternalError error.kind))
-  -- it fails where the reader of one message does, or for want of memory for the list
+  -- it fails where the reader of one message does, or when out of memory for the list
   pub fails : IfErr result (λ error. ListMemoryError source old new format options.traversal_limit_in_words count error.kind
       ⊎ FailsWithin source old new Zero format options.traversal_limit_in_words count error)
   -- `DeviceFailed` is returned only where the device failed

@@ -32,13 +32,13 @@ LeavesForm pointer appends leaves encoding = (encoding ≡ []) ⊎ ((form : List
 abbrev pub FormSinkError : Pointer → Declining → ErrorKind → Type 0
 FormSinkError pointer refuses kind = (form : List ℕ) × IsForm pointer form × ChunksError refuses (chunks (form ∷ [])) kind
 
--- why it is not written, beside the device and want of memory: there is no such form, or the sink
--- fails for a chunk of it
+-- why it is not written, except for the device's failure and a failed allocation: there is no such form, or
+-- the sink fails for a chunk of it
 abbrev pub WrittenFormError : Pointer → Declining → ErrorKind → Type 0
 WrittenFormError pointer refuses kind = CanonicalFormError pointer kind ⊎ FormSinkError pointer refuses kind
 
--- What a call does to its sink that writes the canonical form of this root. `sink` is what is seen of the sink (the members
--- of the trait Write), `old` and `new` are the sink before the call and after it.
+-- What a call that writes the canonical form of this root does to its sink. `sink` is what is seen of the
+-- sink (the members of the trait Write); `old` and `new` are the sink before the call and after it.
 pub record WritesForm {S X : Type 0} (sink : Ghosts S) (old new : S) (pointer : Pointer) (result : Result X Error) : Type 0 where
   -- a plain sink gets the framed encoding of the form
   pub encoding : IsPlainSink sink.appends → OnOk result (IfKnown (sink.written old) (sink.written new) (Adds (IsCanonicalEncoding pointer)))

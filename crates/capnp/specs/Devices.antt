@@ -36,33 +36,34 @@ pending output = writer_buffer output.buffered
 abbrev pub taken_so_far : {W : Type 0} → (W → Option (List ℕ)) → Output W → Option (List ℕ)
 taken_so_far contents output = writer_contents (λ retried. contents retried.device) output.buffered
 
--- What each call of a device keeps that holds its last error, `old` before the call and `new` after it.
+-- What each call of a device that keeps its last error does to that error: `old` before the call and `new`
+-- after it.
 pub record KeepsDeviceError {X : Type 0} (old new : Option DeviceError) (result : Result X DeviceError) : Type 0 where
   -- the error of a call that fails is kept, except for an interruption
   pub noted : IfErr result (λ error. error_kind error ≢ Interrupted → new ≡ Some error)
   pub interrupted : IfErr result (λ error. error_kind error ≡ Interrupted → new ≡ old)
   pub kept : OnOk result (new ≡ old)
 
--- What each call returns that makes a source of a device: its bytes are those of the device, as `bytes` says.
+-- What each call that makes a source of a device returns: its bytes are the device's, as `bytes` says.
 pub record OpensInput {R : Type 0} {read : Ghosts R} (bytes : Input R read → Type 0) (result : Result (Input R read) Error) : Type 0 where
   pub bytes_are : IfOk result bytes
   -- nothing is read ahead, and no failure is counted yet
   pub ahead : IfOk result (λ input. read_ahead input ≡ [])
   pub failures : IfOk result (λ input. input.failures.count ≡ 0)
-  -- it fails only for want of memory for the buffer
+  -- it fails only when out of memory for the buffer
   pub memory : IfErr result (λ error. error.kind ≡ OutOfMemory)
 
--- What a call returns that makes a sink of a device, with a buffer of `capacity` bytes.
+-- What a call that makes a sink of a device returns, with a buffer of `capacity` bytes.
 pub record OpensOutput {W : Type 0} (contents : W → Option (List ℕ)) (device : W) (capacity : ℕ) (result : Result (Output W) Error) : Type 0 where
   pub taken : IfOk result (λ output. Keeps (contents device) (taken_so_far contents output))
   -- nothing is pending, and no failure is counted yet
   pub empty : IfOk result (λ output. pending output ≡ [])
   pub buffer : IfOk result (λ output. writer_capacity output.buffered ≡ capacity)
   pub failures : IfOk result (λ output. output.failures.count ≡ 0)
-  -- it fails only for want of memory for the buffer, which none of 0 bytes takes
+  -- it fails only when out of memory for the buffer, and one of 0 bytes takes none
   pub memory : IfErr result (λ error. error.kind ≡ OutOfMemory)
   pub unbuffered : capacity ≡ 0 → IsOk result
 
--- the device's failure is a growth of memory that failed
+-- the device's failure is that an allocation failed
 abbrev pub IsOutOfMemory : DeviceError → Type 0
 IsOutOfMemory error = error_kind error ≡ IsMemoryError

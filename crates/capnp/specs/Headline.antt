@@ -29,8 +29,8 @@ pub record ReturnsEncodings (IsEncoding : Grammar) (limit : Option ℕ) (old new
   -- an encoding of the message that is returned is there, the message is within the limit, and only
   -- that encoding is consumed
   pub found : IfOk result (λ found. IfSome found (λ message. IfKnown old new (BeginsWith IsEncoding limit message)))
-  -- where there is an encoding of a message within the limit, a message is returned, except for the
-  -- device's failure or for want of memory
+  -- where there is an encoding of a message within the limit, a message is returned, unless the device fails
+  -- or an allocation does
   pub accepted : IfSome old (λ raw. (message : List (List ℕ)) (rest : List ℕ) → BeginsWith IsEncoding limit message raw rest
       → MatchResult result IsSome (λ error. ExternalError error.kind))
 
@@ -40,8 +40,8 @@ pub record ReturnsEncodingsInto (IsEncoding : Grammar) (limit : Option ℕ) (roo
   -- an encoding of the message that is returned is there, the message is within the limit, and only
   -- that encoding is consumed
   pub found : IfOk result (λ found. IfSome found (λ message. IfKnown old new (BeginsWith IsEncoding limit message)))
-  -- where there is an encoding of a message within the limit, and the buffer has room for it, a
-  -- message is returned, except for the device's failure
+  -- where there is an encoding of a message within the limit, and the buffer has room for it, a message is
+  -- returned, unless the device fails
   pub accepted : IfSome old (λ raw. (message : List (List ℕ)) (rest : List ℕ) → BeginsWith IsEncoding limit message raw rest
       → BufferHasRoom room message → MatchResult result IsSome (λ error. error.kind ≡ DeviceFailed))
 
@@ -64,7 +64,7 @@ framed rule source = record {
   stream = framed_rules rule source.gives source.refuses;
 }
 
--- packed ones
+-- packed messages
 abbrev pub packed : Padding → MessageRules
 packed rule = record { is_encoding = IsPackedFrame rule; plain = ⊤; stream = packed_rules rule }
 
@@ -91,7 +91,8 @@ pub record ReadsMessage {S : Type 0} (source : Ghosts S) (old new : S) (rules : 
   -- the reader has the options that are given
   pub options_are : IfOk result (λ found. IfSome found (λ reader. reader.options ≡ options))
 
--- And what one returns that reads it into a caller-provided buffer of `room` bytes, in which its segments are seen.
+-- And what a reader into a caller-provided buffer of `room` bytes returns; the message's segments are seen in
+-- the buffer.
 pub record ReadsMessageInto {S B : Type 0} (source : Ghosts S) (old new : S) (rules : MessageRules) (options : ReaderOptions) (room : ℕ)
     (result : Result (Option (ReadMessage (SeenBuffer B))) Error) : Type 0 where
   -- over a source of plain bytes: the unread bytes begin with an encoding of the message
@@ -111,13 +112,12 @@ pub record ReadsFlatMessage {B : Type 0} (rules : FlatRules) (options : ReaderOp
   -- the reader has the options that are given
   pub options_are : IfOk result (λ reader. reader.options ≡ options)
 
--- The same as the form that may return None, but where that does, this one fails with
--- PrematureEndOfFile.
+-- What the form that may return None returns, except that this one fails with PrematureEndOfFile there.
 abbrev pub OrFailsAtEnd : {X : Type 0} → (Result (Option X) Error → Type 0) → Result X Error → Type 0
 OrFailsAtEnd tried (Ok found) = tried (Ok (Some found))
 OrFailsAtEnd tried (Err error) = tried (Err error) ⊎ ((error.kind ≡ PrematureEndOfFile) × tried (Ok None))
 
--- what such a form returns, by what the form returns that may return None
+-- the result of this form, by the result of the form that may return None
 abbrev pub required : {X : Type 0} → Result (Option X) Error → Result X Error
 required (Ok (Some found)) = Ok found
 required (Ok None) = Err (record { kind = PrematureEndOfFile })

@@ -34,9 +34,9 @@ read_in segments None = Ok None
 read_in segments (Some (Ok reader)) = Ok (Some (segments reader))
 read_in segments (Some (Err error)) = Err error
 
--- What `next` returns. `source` is what is seen of the source (the members of the trait Read),
--- `segments` and `options_of` what is seen of a message's reader; `old` and `new` are the stream
--- before the call and after it.
+-- What `next` returns. `source` is what is seen of the source (the members of the trait Read). `segments` and
+-- `options_of` are what is seen of a message's reader. `old` and `new` are the stream before the call and
+-- after it.
 pub record GivesMessage {S X : Type 0} (source : Ghosts S) (segments : X → List (List ℕ)) (options_of : X → ReaderOptions)
     (old : MessageStream S) (given : Option (Result X Error)) (new : MessageStream S) : Type 0 where
   -- what the reader of the next message returns, until it ends

@@ -6,8 +6,9 @@ use Rattle.std.specs.Fmt.{digits, padded_integral, format_spec}
 use Rattle.capnp.specs.declared.stringify.literals.Escape.{Escape}
 use Rattle.capnp.specs.declared.stringify.literals.Escape.TheVariants.{Plain, Letter, Number}
 
--- The characters that C has a letter for, and that letter: the bell is a, a backspace b, a form feed f, a line feed n, a carriage
--- return r, a tab t, a vertical tab v; both quotation marks and the backslash are for themselves.
+-- The characters that C has a letter for, and that letter. The bell is a, a backspace b, a form feed f, a
+-- line feed n, a carriage return r, a tab t, a vertical tab v. Both quotation marks and the backslash have
+-- themselves.
 abbrev pub HasLetter : ℕ → ℕ → Type 0
 HasLetter character letter =
     ((character ≡ 7) × (letter ≡ 97)) ⊎ ((character ≡ 8) × (letter ≡ 98)) ⊎ ((character ≡ 12) × (letter ≡ 102))
@@ -18,8 +19,8 @@ HasLetter character letter =
 abbrev pub HasNoLetter : ℕ → Type 0
 HasNoLetter character = (letter : ℕ) → HasLetter character letter → ⊥
 
--- How a character of a text, or a byte, is shown: one way for each. The control characters of ASCII that have no letter are shown
--- by their numbers, and of bytes those past ASCII, too.
+-- How a character of a text, or a byte, is shown: one way for each. The control characters of ASCII that have
+-- no letter are shown by their numbers, and so are bytes past ASCII.
 abbrev pub IsEscapeOf : ℕ → Escape → Type 0
 IsEscapeOf character Plain = (32 ≤ character) × (character ≡ 127 → ⊥) × HasNoLetter character
 IsEscapeOf character (Letter letter) = HasLetter character letter

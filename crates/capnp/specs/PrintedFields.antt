@@ -27,7 +27,8 @@ abbrev pub IsLaterMember : Option ℕ → Option ℕ → Type 0
 IsLaterMember discriminant member =
     (offset number : ℕ) × (discriminant ≡ Some offset) × (member ≡ Some number) × (number ≢ 0)
 
--- A field is shown: a member where it is set, and a pointer where it is not null, or a later member.
+-- A field is shown: a member of the union only where it is set, and a pointer only where it is not null or a
+-- later member.
 abbrev pub IsShown : Struct → Option ℕ → Option ℕ → Type 0 → ℕ → Type 0
 IsShown of discriminant member IsPointerField index =
     IsMemberSet of discriminant member

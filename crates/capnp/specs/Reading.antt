@@ -31,8 +31,9 @@ abbrev pub TakesForListed : Padding → Format → Option ℕ → List ℕ → T
 TakesForListed rule format limit rest = TakesForNext rule format limit rest
     ⊎ ((message : List (List ℕ)) × (left : List ℕ) × FoundNext rule format limit message rest left)
 
--- Why no further message is read of a stream, of which `rest` is left: memory is lacking, and is taken there (a list of 2^64 - 1
--- messages takes no further one; a stream of fewer bytes has fewer), or the stream ends, or its reader fails.
+-- Why no further message is read of a stream that `rest` is left of: an allocation failed where memory is
+-- taken, or the stream ends, or its reader fails. A list of 2^64 - 1 messages takes no further one; a stream
+-- of fewer bytes has fewer.
 abbrev pub EndsReading : Padding → Format → Option ℕ → Option Error → List ℕ → List ℕ → Type 0
 EndsReading rule format limit reason stream rest =
     (IsMemoryError reason × (length stream < 2 ^ 64 - 1 → TakesForListed rule format limit rest)) ⊎ EndsBy rule format limit (kind_of reason) rest
@@ -44,10 +45,11 @@ pub record ReadsEach (rule : Padding) (format : Format) (limit : Option ℕ) (st
   -- the messages are the first `end` bytes
   pub within : end ≤ length stream
   pub encodings : AreEncodings (grammar_of rule format) limit messages stream (drop end stream)
-  -- and there the stream ends, or its reader fails with this kind, or memory is taken and lacking
+  -- and there the stream ends, or its reader fails with this kind, or an allocation failed where memory is
+  -- taken
   pub ends : EndsReading rule format limit reason stream (drop end stream)
   -- memory is taken only where there are bytes
   pub some : IsMemoryError reason → 0 < length stream
-  -- so it is the only list of messages that the stream is, unless memory is lacking
+  -- so it is the only list of messages that the stream is, unless an allocation failed
   pub exact : (listed : List (List (List ℕ))) (ending : Option ErrorKind) → IsStream rule format limit listed ending stream
       → IsMemoryError reason ⊎ (messages ≡ listed) × (kind_of reason ≡ ending)

@@ -17,7 +17,7 @@ pub record IsLog (limit : Option ℕ) (records : List (List (List ℕ))) (log : 
   pub size : AllByRecursion (λ record_is. KeepsLimit (lengths record_is) limit) records
   pub appended : AppendsEach (IsEncodingOf Packed) records log
 
--- What appending a record does to a log, `old` before the call and `new` after it.
+-- What appending a record does to a log: `old` before the call and `new` after it.
 pub record AppendsRecord {X : Type 0} (message : List (List ℕ)) (old new : List ℕ) (result : Result X Error) : Type 0 where
   -- a log of records becomes one with this record after them
   pub appended : (limit : Option ℕ) (records : List (List (List ℕ))) → IsLog limit records old → KeepsLimit (lengths message) limit
@@ -26,8 +26,8 @@ pub record AppendsRecord {X : Type 0} (message : List (List ℕ)) (old new : Lis
   pub added : OnOk result (Adds (IsPackedEncodingOf message) old new)
   -- a call that fails leaves the log as it was
   pub unchanged : OnErr result (new ≡ old)
-  -- it fails by the number of segments exactly where there are more than a reader accepts, and else
-  -- only for want of memory
+  -- it fails by the number of segments exactly where there are more than a reader accepts, and else only when
+  -- out of memory
   pub count : KeepsCount message result
   pub errors : IfErr result (λ error. SegmentCountError message error.kind ⊎ (error.kind ≡ OutOfMemory))
 
@@ -49,7 +49,7 @@ pub record IsCutLog (limit : Option ℕ) (records : List (List (List ℕ))) (who
 -- What is read of a log.
 pub record ReadsLog (limit : Option ℕ) (log : List ℕ) (messages : List (List (List ℕ))) (end : ℕ) (reason : Option Error) : Type 0 where
   pub within : end ≤ length log
-  -- the records that were appended are read back, in order, unless memory is lacking
+  -- the records that were appended are read back, in order, unless an allocation failed
   pub back : (records : List (List (List ℕ))) → IsLog limit records log
       → IsMemoryError reason ⊎ (messages ≡ records) × (reason ≡ None) × (end ≡ length log)
   -- where the log is cut within a record, those before it are read, and `end` is where they end

@@ -16,9 +16,9 @@ use Rattle.capnp.specs.Streams.{grammar_of, gives_of, refuses_of, FoundNext, Nex
 abbrev pub Writing : Type 1
 Writing = ℕ → List (List ℕ) → List ℕ → Type 0
 
--- How writing the message of an index may fail, beside the device's failure.
+-- How writing the message of an index may fail, except by the device's failure.
 pub record WritingErrors : Type 1 where
-  -- it lacks what is to be written for it, with this kind
+  -- the message itself can't be written, with this kind
   pub message_error : ℕ → List (List ℕ) → ErrorKind → Type 0
   -- the sink fails within what is written for it, with this kind
   pub sink_error : ℕ → List (List ℕ) → ErrorKind → Type 0
@@ -27,7 +27,7 @@ pub record WritingErrors : Type 1 where
   -- what is left of it in the sink
   pub leaves : Writing
 
--- what is written for messages, the first of which has this index
+-- what is written for messages; the first has this index
 abbrev pub WritesFrom : Writing → ℕ → List (List (List ℕ)) → List ℕ → Type 0
 WritesFrom Writes index [] encoding = encoding ≡ []
 WritesFrom Writes index (m ∷ ms) encoding = (first others : List ℕ) × Writes index m first × WritesFrom Writes (index + 1) ms others × (encoding ≡ first ++ others)
@@ -48,13 +48,13 @@ pub record HasWritten (rule : Padding) (format : Format) (limit : Option ℕ) (W
   pub encodings : AreEncodings (grammar_of rule format) limit messages raw rest
   pub written : IfKnown before after (Adds (WritesAll Writes messages))
 
--- where memory is taken for the next message, as its reader takes it, or as a call that skips it takes it for the lengths of any number
--- of segments
+-- where memory is taken for the next message: as its reader takes it, or as a call that skips it does, for
+-- the lengths of any number of segments
 abbrev pub TakesInRun : Padding → Format → Option ℕ → List ℕ → List ℕ → Type 0
 TakesInRun rule format limit raw left = CountFound (gives_of format) raw left ⊎ TakesMemory rule (gives_of format) limit raw left
 
--- why the next message was not read: the device's failure; want of memory where memory is taken, with
--- no more consumed than was asked for until then; or an error of the unread bytes
+-- why the next message was not read: the device failed; an allocation failed where memory is taken, with no
+-- more consumed than was asked for until then; or an error of the unread bytes
 abbrev pub ReadingError : Padding → Format → Option ℕ → ErrorKind → Option (List ℕ) → Option (List ℕ) → Type 0
 ReadingError rule format limit kind old new = (kind ≡ DeviceFailed)
     ⊎ ((kind ≡ OutOfMemory) × IfKnown old new (TakesInRun rule format limit))
@@ -64,8 +64,8 @@ ReadingError rule format limit kind old new = (kind ≡ DeviceFailed)
 abbrev pub UnwrittenMessageError : WritingErrors → ℕ → List (List ℕ) → ErrorKind → Type 0
 UnwrittenMessageError Errors index message kind = Errors.message_error index message kind ⊎ Errors.sink_error index message kind
 
--- why a message was not written: the device's failure, want of memory where memory is taken, what it
--- lacks, or a failure of the sink within it
+-- why a message was not written: the device failed, an allocation failed where memory is taken, the message
+-- can't be written, or the sink failed within it
 abbrev pub WritingError : WritingErrors → ℕ → List (List ℕ) → ErrorKind → Type 0
 WritingError Errors index message kind = (kind ≡ DeviceFailed) ⊎ ((kind ≡ OutOfMemory) × Errors.takes_memory index message)
     ⊎ UnwrittenMessageError Errors index message kind
@@ -74,8 +74,8 @@ WritingError Errors index message kind = (kind ≡ DeviceFailed) ⊎ ((kind ≡ 
 abbrev pub FailsWithinOr : WritingErrors → ℕ → List (List ℕ) → Type 0 → ErrorKind → Type 0
 FailsWithinOr Errors index message same kind = (kind ≡ DeviceFailed) ⊎ Errors.sink_error index message kind ⊎ same
 
--- a failure that does not depend on the unread bytes: the device's, or that some message that can
--- be written is not, which is want of memory only where memory is taken to write it
+-- a failure that does not depend on the unread bytes: the device's, or that a message that can be written is
+-- not; for `OutOfMemory` only where memory is taken to write it
 abbrev pub RunError : WritingErrors → ℕ → ErrorKind → Type 0
 RunError Errors index kind = (kind ≡ DeviceFailed)
     ⊎ ((message : List (List ℕ)) × IsWritable message × WritingError Errors index message kind)
@@ -149,9 +149,9 @@ abbrev pub FailsByRun : WritingErrors → Result (Unit {0}) FailedAt → List (L
 FailsByRun Errors (Ok done) messages = ⊥
 FailsByRun Errors (Err failure) messages = RunErrorOf Errors messages failure.message failure.error.kind
 
--- What a run over the messages of a stream reads, writes and returns. `source` is what is seen of
--- the source (the members of the trait Read), which is `old` before the run and `new` after it;
--- `sink` is what is seen of the sink (those of Write), which is `before` and then `after`.
+-- What a run over the messages of a stream reads, writes and returns. `source` is what is seen of the source
+-- (the members of the trait Read), which is `old` before the run and `new` after it. `sink` is what is seen
+-- of the sink (the members of Write), which is `before` and then `after`.
 pub record WritesEach {S T : Type 0} (source : Ghosts S) (old new : S) (sink : SinkGhosts T) (before after : T)
     (rule : Padding) (format : Format) (limit : Option ℕ) (Writes : Writing) (Errors : WritingErrors)
     (result : Result (Unit {0}) FailedAt) : Type 0 where

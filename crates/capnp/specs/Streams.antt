@@ -44,7 +44,8 @@ rules_of rule format = record {
   provided_kinds = IsProvidedReaderKind rule (refuses_of format);
 }
 
--- those of calls that skip the segments: memory is taken for the lengths alone, where they are more than `kept`
+-- the rules of calls that skip the segments: memory is taken for the lengths alone, where there are more than
+-- `kept`
 abbrev pub skipping_rules_of : Padding → Format → ℕ → StreamRules
 skipping_rules_of rule format kept = record (rules_of rule format) { takes_memory = λ limit. TakesForLengths kept (gives_of format) }
 
@@ -56,7 +57,8 @@ FoundNext rule format limit message raw rest = BeginsWith (grammar_of rule forma
 abbrev pub NextError : Padding → Format → Option ℕ → ErrorKind → List ℕ → List ℕ → Type 0
 NextError rule format limit kind rest left = StreamError rule (gives_of format) (refuses_of format) limit None kind rest left
 
--- the reader of this format takes memory for the next message of these bytes: for the lengths of more than one segment, or for the segments
+-- the reader of this format takes memory for the next message of these bytes: for the lengths of more than
+-- one segment, or for the segments
 abbrev pub TakesForNext : Padding → Format → Option ℕ → List ℕ → Type 0
 TakesForNext rule format limit rest = (left : List ℕ) × TakesMemory rule (gives_of format) limit rest left
 

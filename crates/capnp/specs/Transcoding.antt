@@ -22,12 +22,12 @@ abbrev pub output_of_way : Way → Format
 output_of_way Pack = Packed
 output_of_way Unpack = Framed
 
--- What a sink adds for a message: its chunks, packed or as they are.
+-- What a sink adds for a message: its chunks, packed or plain.
 abbrev pub Transcodes : Way → Appending → Writing
 Transcodes way appends index message encoding = AppendsMessage (output_of_way way) appends message encoding
 
--- and how writing it may fail: the sink fails for a chunk, or, from four segments on, memory for
--- the table is lacking
+-- and how writing it may fail: the sink fails for a chunk, or, from four segments on, an allocation fails for
+-- the table
 abbrev pub TranscodedErrors : Way → Appending → Leaving → Declining → WritingErrors
 TranscodedErrors way appends leaves refuses = record {
   message_error = λ index message kind. ⊥;

@@ -30,8 +30,8 @@ IsEncodingOf Packed = IsPackedEncodingOf
 abbrev pub output_of : {A : Type 0} → Built A → List (List ℕ)
 output_of built = map used_of built.spaces
 
--- why a writer fails: its device fails, the sink fails for one of the chunks, or, before it writes,
--- there are more segments than a reader accepts, or from four segments on memory is lacking
+-- why a writer fails: its device fails, or the sink fails for one of the chunks; or, before it writes, there
+-- are more segments than a reader accepts, or an allocation fails, from four segments on
 abbrev pub WriterError : Declining → List (List ℕ) → ErrorKind → Type 0
 WriterError refuses message kind = (kind ≡ DeviceFailed) ⊎ ChunksError refuses (chunks message) kind ⊎ UnwrittenError message kind
 
@@ -77,7 +77,8 @@ pub record WritesMessage {S X : Type 0} (format : Format) (sink : Ghosts S) (old
   pub failed : IfErr result (λ error. error.kind ≡ DeviceFailed → Fails (sink.failures old) (sink.failures new))
   -- what was written before stays at the front, also where the call fails
   pub grows : Grows sink.written sink.failures sink.same old new
-  -- where the sink grants all bytes of the framed encoding, it is written, but for what is lacked before it
+  -- where the sink grants all bytes of the framed encoding, the message is written, unless there is an error
+  -- before that
   pub granted : format ≡ Framed → TakesGranted sink.grants old new (8 * serialized_words message) (UnwrittenError message) result
 
 -- one of these messages has more segments than a reader accepts, and the failure carries their

@@ -1,5 +1,5 @@
-//! Facts about streams of messages, each the contract of a function that does nothing, and those of
-//! the crates below that callers need.
+//! Facts about streams of messages, each the contract of a function that does nothing, and the
+//! facts of the crates below that callers need.
 ghost use Rattle.std.specs.Prelude.{◌≡◌, ◌++◌, ℕ, List, [], Option, None, map};
 ghost use Rattle.std.specs.List.{AllByRecursion};
 ghost use Rattle.capnp_frame.specs.declared.error.ErrorKind.{ErrorKind};
@@ -25,7 +25,7 @@ pub use capnp_pack::laws::{
 };
 pub use capnp_wire::laws::equal_forms_are_of_equal_trees;
 
-/// A stream begins with at most one message, which leaves the same bytes after it. So all readers
+/// At most one message begins a stream, and what follows its encoding is determined. So all readers
 /// of a format return the same message.
 pub fn one_message_begins_a_stream()
     ensures { (rule : Padding) (format : Format) (limit : Option ℕ) (message other : List (List ℕ))
@@ -58,8 +58,8 @@ pub fn what_is_written_is_a_stream()
 {}
 
 /// The tree at the root of a message that is built is the root tree of what is read of its
-/// encoding, in both formats, for no more than 511 segments within the limit of words. What follows
-/// the encoding is left unread.
+/// encoding, in both formats. The message has at most 511 segments, and is within the limit of
+/// words. What follows the encoding is left unread.
 pub fn a_root_is_read_back()
     ensures { (rule : Padding) (format : Format) (limit : Option ℕ) (spaces : List Space) (trees : Trees)
         (encoding rest left : List ℕ) (read : List (List ℕ)) → HasRootTree (map used_of spaces) trees →

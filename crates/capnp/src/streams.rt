@@ -51,8 +51,9 @@ pub trait MessageWriter {
     /// The message has 1 to 511 segments, each of whole words and fewer than 2^32 of them. `memory`
     /// is caller-provided scratch space, whose content doesn't matter before or after the call.
     ///
-    /// Fails with a kind that `writing_errors` names, with `OutOfMemory` only where `writing_errors` says that
-    /// memory is taken, and with `DeviceFailed` only where the sink's device failed.
+    /// Fails with a kind that `writing_errors` names, with `OutOfMemory` only where
+    /// `writing_errors` says that memory is taken, and with `DeviceFailed` only where the sink's
+    /// device failed.
     fn write_message<W: Write>(
         &self,
         alloc: Global,
@@ -84,8 +85,8 @@ pub trait MessageWriter {
 /// It takes at most 2^64 - 1 messages, and leaves the rest unread. The memory of a message is
 /// reused for the next one.
 ///
-/// Fails where the reader of the next message fails, or `writer` for this message. `FailedAt` says
-/// after how many messages.
+/// Fails where the reader of the next message fails, or where `writer` fails for that message.
+/// `FailedAt` says after how many messages.
 pub fn write_each_message<R: BufRead, W: Write, M: MessageWriter>(
     alloc: Global,
     source: &mut R,

@@ -20,11 +20,12 @@ use std::alloc::{AllocError, Global};
 /// A struct as text, of the type of this number of a schema.
 ///
 /// `depth` says how many structs and lists may be within one another; the struct is the first of
-/// them, and a group none of its own. Below, a struct is shown as `(..)` and a list as `[..]`, and
-/// neither is read. What a pointer points to that can't be read, or would go past the limits of its
-/// reader, is shown as its error, `<PointerOutOfBounds>`, and the text goes on after it.
+/// them, and a group counts as none. Deeper ones are not read: a struct is shown as `(..)` and a
+/// list as `[..]`. Where the target of a pointer can't be read, or goes past the limits of its
+/// reader, its error is shown in its place, as `<PointerOutOfBounds>`, and the text goes on after
+/// it.
 ///
-/// Fails only where memory is lacking.
+/// Fails only when out of memory.
 pub fn to_text<S: ReaderSegments>(
     alloc: Global,
     fields: &StructReader<'_, S>,

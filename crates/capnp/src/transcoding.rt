@@ -58,7 +58,7 @@ impl MessageWriter for Way {
 /// It takes at most 2^64 - 1 messages, and leaves the rest unread.
 ///
 /// Fails as the reader of the next message does, with `NonZeroPadding` for a padding that isn't
-/// zero, or as the sink does, or with `OutOfMemory`. The messages before are then written.
+/// zero, or as the sink does, or with `OutOfMemory`. The messages before it are then written.
 ///
 /// ```
 /// let mut packed = Vec::new(alloc);

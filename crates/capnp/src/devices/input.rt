@@ -17,7 +17,7 @@ use std::io::BufReader;
 ///
 /// In general, contracts don't know which bytes a device gives. Where they do, as for a slice or a
 /// cursor, each call returns exactly those bytes, and one that fails takes none. So what the
-/// contracts of readers say of unread bytes holds of an `Input` that `of_known` makes.
+/// contracts of readers say of unread bytes holds for an `Input` that `of_known` makes.
 #[derive(Drop)]
 pub struct Input<R: io::Read> {
     buffered: BufReader<Retried<R>>,
@@ -30,8 +30,8 @@ pub struct Input<R: io::Read> {
 impl<R: io::Read + Drop> Input<R> {
     ghost use Rattle.capnp.specs.Devices.{coming, unread_of, OpensInput};
 
-    /// The device, of which nothing has been read, and whose bytes no contract knows. Fails with
-    /// `OutOfMemory` alone, for the buffer.
+    /// The device, with nothing read yet. No contract knows its bytes. Fails with `OutOfMemory`
+    /// alone, for the buffer.
     pub fn new(alloc: Global, device: R) -> Result<Input<R>>
         ensures { OpensInput (λ input. Keeps (R.remaining device) (coming R.remaining input)) result }
     {
@@ -43,8 +43,8 @@ impl<R: io::Read + Drop> Input<R> {
         })
     }
 
-    /// The device, of which nothing has been read, and whose bytes are known. Fails with
-    /// `OutOfMemory` alone, for the buffer.
+    /// The device, with nothing read yet. Its bytes are known. Fails with `OutOfMemory` alone, for
+    /// the buffer.
     pub fn of_known(alloc: Global, device: R) -> Result<Input<R>>
         requires { IsSome (R.remaining device) }
         ensures { OpensInput (λ input. unread_of R.remaining input ≡ R.remaining device) result }

@@ -74,13 +74,13 @@ impl<W: io::Write + Drop> Write for Output<W> {
 
     ghost same = { λ _ _. ⊤ };
 
-    // The contract of std's `write_all` doesn't say what a call leaves that fails.
+    // The contract of std's `write_all` doesn't say what a failed call leaves.
     fn write_all(&mut self, chunk: &[u8]) -> Result<()>
         ensures added { OnOk result (IfKnown (taken_so_far W.contents self.old)
             (taken_so_far W.contents self.new) (Adds (AppendsSame chunk.now))) }
         ensures left { OnErr result (IfKnown (taken_so_far W.contents self.old)
             (taken_so_far W.contents self.new) (Adds (LeavesFront chunk.now))) }
-        // It fails where the device does, and a failure is counted just where it fails.
+        // It fails where the device does, and counts a failure exactly where it fails.
         ensures device { IfErr result (λ error. error.kind ≡ ErrorKind.DeviceFailed) }
         ensures failed { OnErr result (Fails self.old.failures.count self.new.failures.count) }
         ensures unfailed { OnOk result (self.new.failures ≡ self.old.failures) }

@@ -10,13 +10,13 @@ use capnp_frame::message::{BuiltMessage, ReaderSegments};
 use capnp_frame::serialize::{segments_to_words, serialized_size_in_words, write_segments};
 use std::alloc::Global;
 
-/// Writes a message that is built, by a `Builder` or in an orphanage (`capnp_orphans`), each
+/// Writes a message that was built by a `Builder` or in an orphanage (`capnp_orphans`), each
 /// segment up to its last used word. A builder must have a segment; `is_empty` says whether it has
 /// none.
 ///
-/// Fails with `InvalidNumberOfSegments` for more than 511 segments, which no reader accepts; with
-/// `OutOfMemory` from four segments on, where there is no memory for the table; both before
-/// anything is written; and as the sink does.
+/// Fails with `InvalidNumberOfSegments` for more than 511 segments, which no reader accepts, and
+/// with `OutOfMemory` from four segments on, where there is no memory for the table. Both are found
+/// before anything is written. Otherwise it fails as the sink does.
 pub fn write_message<W: Write, M: BuiltMessage>(
     alloc: Global,
     sink: &mut W,

@@ -59,11 +59,11 @@ pub fn try_read_message_lenient<R: BufRead>(
 }
 
 /// Reads the next packed message as `try_read_message` does, by this rule of padding, into the
-/// memory of an earlier one, which grows where it is too small: `spare` is what
+/// memory of an earlier message, which grows where it is too small. `spare` is what
 /// `Reader::into_segments` returns, or `OwnedSegments::empty`.
 ///
-/// It fails with `OutOfMemory` only for more bytes than the segments of `spare` have, or for more
-/// segments than one and than `spare` has, and else as `try_read_message` does; with
+/// Fails as `try_read_message` does, but with `OutOfMemory` only for more bytes than the segments
+/// of `spare` have, or for more than one segment and more than `spare` has. It fails with
 /// `NonZeroPadding` only where `padding` is `Padding::Zero`.
 pub fn try_read_message_reusing<R: BufRead>(
     source: &mut R,
@@ -182,11 +182,11 @@ pub fn read_message_no_alloc_lenient<'b, R: BufRead>(
 /// Skips the next packed message of a stream by this rule of padding, and returns the lengths of its
 /// segments in words, or `None` where nothing is unread.
 ///
-/// It consumes what `try_read_message` does, and fails as that does, with `NonZeroPadding` only
-/// where `padding` is `Padding::Zero`, but takes no memory for the segments. The lengths are put
-/// into the memory of `lengths`, which grows where it is too small: so it fails with `OutOfMemory`
-/// only for more segments than there are lengths, and then the group of the table's first word alone
-/// is consumed.
+/// It consumes what `try_read_message` does, and fails as that does, but takes no memory for the
+/// segments. It fails with `NonZeroPadding` only where `padding` is `Padding::Zero`. The lengths
+/// are put into the memory of `lengths`, which grows where it is too small. So it fails with
+/// `OutOfMemory` only for more segments than `lengths` has, and then it has consumed only the group
+/// of the table's first word.
 pub fn try_skip_message<R: BufRead>(
     source: &mut R,
     padding: Padding,

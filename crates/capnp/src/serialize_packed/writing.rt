@@ -10,7 +10,7 @@ use capnp_frame::serialize::write_segments;
 use capnp_pack::PackedWrite;
 use std::alloc::Global;
 
-/// Writes a message that is built, by a `Builder` or in an orphanage (`capnp_orphans`), packed,
+/// Writes a message that was built by a `Builder` or in an orphanage (`capnp_orphans`), packed,
 /// each segment up to its last used word. A builder must have a segment; `is_empty` says whether it
 /// has none.
 ///
@@ -29,11 +29,11 @@ pub fn write_message<W: Write, M: BuiltMessage>(
 }
 
 /// Writes a message, packed: the first word of its table, the table's other words, and each segment
-/// are packed one by one ("Packing"). The segments must be such as the framed writer needs.
+/// are packed one by one ("Packing"). The segments must be as the framed writer needs them.
 ///
-/// Fails with `InvalidNumberOfSegments` for more than 511 segments, which no reader accepts; with
-/// `OutOfMemory` from four segments on, where there is no memory for the table; both before
-/// anything is written; and as the sink does.
+/// Fails with `InvalidNumberOfSegments` for more than 511 segments, which no reader accepts, and
+/// with `OutOfMemory` from four segments on, where there is no memory for the table. Both are found
+/// before anything is written. Otherwise it fails as the sink does.
 ///
 /// ```
 /// let segments = [[0; 8].as_slice()];

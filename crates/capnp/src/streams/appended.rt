@@ -1,4 +1,4 @@
-//! Messages that are written one after the other, and as many that are read.
+//! Lists of messages, written and read one after the other.
 ghost use Rattle.std.specs.Prelude.{map};
 ghost use Rattle.std.specs.List.{AllByRecursion};
 ghost use Rattle.capnp_frame.specs.Prelude.{IsWritable};
@@ -35,8 +35,8 @@ pub fn write_message<W: Write, S: ReaderSegments>(
 
 /// Writes messages one after the other.
 ///
-/// Fails as `write_message` does for one of them. The first messages are then written, and of the
-/// next one what the sink leaves of its chunks.
+/// Fails as `write_message` does for one of them. The messages before it are then written, and of
+/// this one what the sink leaves of its chunks.
 pub fn write_messages<W: Write, S: ReaderSegments>(
     alloc: Global,
     sink: &mut W,
@@ -53,7 +53,7 @@ pub fn write_messages<W: Write, S: ReaderSegments>(
     Ok(())
 }
 
-/// Reads `count` messages, one after the other, of zero padding.
+/// Reads `count` messages, one after the other, with zero padding.
 ///
 /// Fails as `next_message` does, with `PrematureEndOfFile` where there are fewer messages, and with
 /// `OutOfMemory`.
@@ -75,7 +75,7 @@ pub fn read_messages<R: BufRead>(
     Ok(readers)
 }
 
-// Reads the next message, of zero padding, and fails where nothing is unread.
+// Reads the next message, with zero padding, and fails where nothing is unread.
 fn read_message<R: BufRead>(
     alloc: Global,
     source: &mut R,

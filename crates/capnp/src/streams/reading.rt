@@ -97,8 +97,8 @@ impl StreamRead {
 /// Reads every message of a stream, one after another, by this rule of padding, up to the end of
 /// the stream or the first error.
 ///
-/// Where memory is lacking, `error` is `OutOfMemory`, and what was read before is returned. None is
-/// taken where the stream is empty.
+/// When out of memory, `error` is `OutOfMemory`, and the messages before are returned. An empty
+/// stream takes no memory.
 pub fn every_message(
     alloc: Global,
     stream: &[u8],

@@ -7,8 +7,9 @@ use crate::any_struct::StructReader;
 use crate::message::ReaderSegments;
 use crate::stringify::schema::{Base, Field};
 
-/// Whether a field is shown of a struct whose union's number is at an offset: a member of the union
-/// where it is set, and a pointer where it is not null, or the member of another number than 0.
+/// Whether a field of a struct is shown; `discriminant` is the offset of its union's number. A
+/// member of the union is shown where it is set. Of these the first one, and each field outside the
+/// union, is not shown if it is a null pointer.
 pub fn is_shown<S: ReaderSegments>(
     fields: &StructReader<'_, S>,
     discriminant: Option<u32>,

@@ -1,11 +1,11 @@
-//! Floats, as the C++ tool prints them: in the digits of C's `printf`, few ones where they are read
+//! Floats, as the C++ tool prints them: in the digits of C's `printf`, fewer where these are read
 //! back as the same number.
 use std::alloc::{AllocError, Global};
 
-/// Adds a float: in 6 significant digits where these are read as the same number, and that is a
+/// Adds a float: in 6 significant digits where these are read back as the same number, and it is a
 /// normal one, and else in 8.
 ///
-/// Fails only where memory is lacking.
+/// Fails only when out of memory.
 pub fn push_float32(alloc: Global, output: &mut String, number: f32) -> Result<(), AllocError> {
     if let Some(name) = name_of(f64::from(number)) {
         return output.push_str(name);
@@ -18,9 +18,10 @@ pub fn push_float32(alloc: Global, output: &mut String, number: f32) -> Result<(
     push_digits(output, more.as_str(), 8)
 }
 
-/// Adds a float: in 15 significant digits where these are read as the same number, and else in 17.
+/// Adds a float: in 15 significant digits where these are read back as the same number, and else in
+/// 17.
 ///
-/// Fails only where memory is lacking.
+/// Fails only when out of memory.
 pub fn push_float64(alloc: Global, output: &mut String, number: f64) -> Result<(), AllocError> {
     if let Some(name) = name_of(number) {
         return output.push_str(name);
@@ -38,7 +39,7 @@ fn is_subnormal(number: f32) -> bool {
     number != 0.0 && number < f32::MIN_POSITIVE && number > -f32::MIN_POSITIVE
 }
 
-// The name of a float that is no finite number.
+// The name of a float that isn't finite.
 fn name_of(number: f64) -> Option<&'static str> {
     if number.is_nan() {
         return Some("nan");
@@ -49,8 +50,8 @@ fn name_of(number: f64) -> Option<&'static str> {
     Some(if number > 0.0 { "inf" } else { "-inf" })
 }
 
-// Adds a number that is written with an exponent, in this many digits, as C's `%g` writes it: with
-// an exponent below -4 and from the number of digits on, and without zeros at its end.
+// Adds a number, as C's `%g` writes it, without zeros at its end; `written` has this many digits
+// and an exponent. An exponent below -4, or not below the number of digits, is written, too.
 fn push_digits(output: &mut String, written: &str, digits: i32) -> Result<(), AllocError> {
     let Some((mantissa, exponent)) = written.split_once('e') else {
         return output.push_str(written);

@@ -50,7 +50,7 @@ pub fn escape_of_byte(byte: u8) -> Escape
 
 /// Adds a character, escaped in this way.
 ///
-/// Fails only where memory is lacking.
+/// Fails only when out of memory.
 pub fn push_escape(output: &mut String, character: char, escape: Escape) -> Result<(), AllocError>
     ensures { OnOk result (string_bytes output.new
         ≡ string_bytes output.old ++ escaped character escape) }
@@ -70,7 +70,7 @@ pub fn push_escape(output: &mut String, character: char, escape: Escape) -> Resu
 
 /// Adds data, within quotation marks.
 ///
-/// Fails only where memory is lacking.
+/// Fails only when out of memory.
 pub fn push_data(output: &mut String, bytes: &[u8]) -> Result<(), AllocError>
     ensures { OnOk result (AddsData bytes.now (string_bytes output.old) (string_bytes output.new)) }
 {
@@ -81,7 +81,7 @@ pub fn push_data(output: &mut String, bytes: &[u8]) -> Result<(), AllocError>
     output.push('"')
 }
 
-// Adds a output, within quotation marks.
+// Adds a text, within quotation marks.
 fn push_characters(output: &mut String, shown: &str) -> Result<(), AllocError>
     ensures { OnOk result (AddsText shown.now (string_bytes output.old) (string_bytes output.new)) }
 {
@@ -92,9 +92,9 @@ fn push_characters(output: &mut String, shown: &str) -> Result<(), AllocError>
     output.push('"')
 }
 
-/// Adds the bytes of a output, within quotation marks; as data where they are not UTF-8.
+/// Adds the bytes of a text, within quotation marks; as data where they are not UTF-8.
 ///
-/// Fails only where memory is lacking.
+/// Fails only when out of memory.
 pub fn push_text(output: &mut String, bytes: &[u8]) -> Result<(), AllocError>
     ensures text { IsUtf8 bytes.now →
         OnOk result (AddsText bytes.now (string_bytes output.old) (string_bytes output.new)) }

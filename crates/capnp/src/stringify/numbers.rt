@@ -11,8 +11,8 @@ use std::alloc::{AllocError, Global};
 use std::fmt::Write;
 use std::num::{f32_from_bits_with_nan, f64_from_bits_with_nan};
 
-/// The bits of a field of the data section, of this type, at an offset in units of its width; those
-/// of its default where they are not there, and 0 for other types.
+/// The bits of a field of the data section, of this type, at an offset in units of its width. They
+/// are the bits of its default where the data section ends before it, and 0 for other types.
 pub fn bits_of<S: ReaderSegments>(
     fields: &StructReader<'_, S>,
     base: Base,
@@ -40,7 +40,7 @@ pub fn bits_of<S: ReaderSegments>(
 /// Adds the number, the bool or the enumerant of some bits, as many as its type has; `void` for
 /// other types.
 ///
-/// Fails only where memory is lacking.
+/// Fails only when out of memory.
 pub fn push_bits(
     alloc: Global,
     output: &mut String,

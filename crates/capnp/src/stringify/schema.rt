@@ -2,7 +2,7 @@
 ghost use Rattle.std.specs.Prelude.{◌≡◌, ◌↔◌, ◌%◌, IsTrue};
 ghost use Rattle.capnp.specs.PrintedFields.{IsPointer};
 
-/// The structs and enums that the structs of a schema point to.
+/// The structs and enums that the structs of a schema have in their fields, at any depth.
 #[derive(Clone, Copy)]
 pub struct Schema {
     /// The structs and groups, by the numbers that types name them with.

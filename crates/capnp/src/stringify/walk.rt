@@ -62,7 +62,7 @@ impl<'r, 'a, S: ReaderSegments> Walk<'r, 'a, S> {
 
     /// Begins the root, of the struct of this number, with this depth left within it.
     ///
-    /// Fails only where memory is lacking.
+    /// Fails only when out of memory.
     pub fn open_root(
         &mut self,
         output: &mut String,
@@ -74,7 +74,7 @@ impl<'r, 'a, S: ReaderSegments> Walk<'r, 'a, S> {
 
     /// Adds what comes next; returns false at the end.
     ///
-    /// Fails only where memory is lacking.
+    /// Fails only when out of memory.
     pub fn go_on(&mut self, output: &mut String) -> Result<bool, AllocError> {
         let Some(pending) = self.pending.pop() else {
             return Ok(false);

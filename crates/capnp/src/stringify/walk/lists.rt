@@ -20,9 +20,9 @@ pub struct Elements<L> {
 }
 
 impl<'r, 'a, S: ReaderSegments> Walk<'r, 'a, S> {
-    /// Adds a list of numbers, or begins another one.
+    /// Adds a list of numbers, or begins another list.
     ///
-    /// Fails only where memory is lacking.
+    /// Fails only when out of memory.
     pub(super) fn open_list(
         &mut self,
         output: &mut String,
@@ -124,7 +124,7 @@ impl<'r, 'a, S: ReaderSegments> Walk<'r, 'a, S> {
 
     /// Begins the next struct of a list, or adds the end of the list.
     ///
-    /// Fails only where memory is lacking.
+    /// Fails only when out of memory.
     pub(super) fn push_next_struct(
         &mut self,
         output: &mut String,
@@ -150,7 +150,7 @@ impl<'r, 'a, S: ReaderSegments> Walk<'r, 'a, S> {
 
     /// Adds what the next pointer of a list points to, or the end of the list.
     ///
-    /// Fails only where memory is lacking.
+    /// Fails only when out of memory.
     pub(super) fn push_next_pointer(
         &mut self,
         output: &mut String,

@@ -1,4 +1,4 @@
--- A slice's reader fails for want of memory, or as the stream ends; a message that is read has bytes.
+-- A slice's reader fails when out of memory, or as the stream ends; a message that is read has bytes.
 use Rattle.std.proofs.Common.{inl, inr, Some, map, ap, ◌∙◌}
 use Rattle.std.proofs.lemmas.List.{map_push}
 use Rattle.std.proofs.lemmas.Result.{err_from_is_err_and}

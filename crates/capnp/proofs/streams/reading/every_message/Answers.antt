@@ -1,4 +1,4 @@
--- Each turn reads one more message, and where the reading stops the stream ends, or memory does.
+-- Each turn reads one more message; where the reading stops, the stream ends, or an allocation failed.
 use Rattle.std.proofs.Common.{◌<◌, length, refl, ap, map, inl, inr, None, Some, arith}
 use Rattle.capnp.specs.Prelude.{grammar_of, IsMemoryError}
 use Rattle.capnp.proofs.SliceStreamLemmas.{encodings_within, next_encodings, stream_error_ends, reading_ended, moves_on, memory_kind}

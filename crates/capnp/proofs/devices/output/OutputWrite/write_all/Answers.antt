@@ -1,4 +1,4 @@
--- The bytes of one more write follow those of the earlier ones.
+-- The bytes of one more write follow the earlier bytes.
 use Rattle.std.proofs.Common.{◌≡◌, ◌≤◌, ℕ, ◌-◌, [], ◌++◌, length, take, drop, sym, ap, subst, ◌∙◌, arith, length-take}
 use lib.Seq.{take-add, take-take}
 use Rattle.std.specs.Io.KnownBytes.{Appends}
