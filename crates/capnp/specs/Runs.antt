@@ -74,8 +74,8 @@ WritingError Errors index message kind = (kind ≡ DeviceFailed) ⊎ ((kind ≡ 
 abbrev pub FailsWithinOr : WritingErrors → ℕ → List (List ℕ) → Type 0 → ErrorKind → Type 0
 FailsWithinOr Errors index message same kind = (kind ≡ DeviceFailed) ⊎ Errors.sink_error index message kind ⊎ same
 
--- a failure that does not depend on the unread bytes: the device's, or that a message that can be written is
--- not; for `OutOfMemory` only where memory is taken to write it
+-- a failure that does not depend on the unread bytes: the device's, or an error of writing some message that
+-- can be written (`OutOfMemory` only where memory is taken to write it)
 abbrev pub RunError : WritingErrors → ℕ → ErrorKind → Type 0
 RunError Errors index kind = (kind ≡ DeviceFailed)
     ⊎ ((message : List (List ℕ)) × IsWritable message × WritingError Errors index message kind)

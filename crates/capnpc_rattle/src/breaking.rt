@@ -4,12 +4,12 @@ use crate::broken_heads::{break_constant, break_function, break_implementation, 
 use crate::part::{Kind, Part, WIDTH};
 use std::alloc::{AllocError, Global};
 
-/// The most columns of the path of a struct or a call that is opened in the line of a call around
-/// it.
+/// The most columns that the path of a struct or a call may have to be opened in the line of the
+/// call around it.
 const PATH_WIDTH: usize = 60;
 
-/// The lines, or parts of them that may be broken again, in which a part is broken that is too wide
-/// for one line.
+/// Breaks a part that is too wide for one line: into lines, or parts of lines that may be broken
+/// again.
 pub fn break_part<'a>(alloc: Global, part: Part<'a>) -> Result<Vec<Part<'a>>, AllocError> {
     let mut parts: Vec<Part<'a>> = Vec::new(alloc);
     match part.kind {
@@ -69,8 +69,8 @@ pub fn break_expression<'a>(
     Ok(())
 }
 
-// A struct or a call that is the only argument of a call, and is opened in the line of that, if its
-// path is short enough: that line, what is within, and the ends of both.
+// A struct or a call that is the only argument of a call, and is opened in its line if the path is
+// short enough. Returns that line, what is within, and the ends of both.
 fn opened_argument<'a>(
     part: Part<'a>,
     call: &'a str,
@@ -91,7 +91,7 @@ fn opened_argument<'a>(
     }
 }
 
-// Breaks a call of a method of a field: before the method, and after `let` or `match` before the
+// Breaks a call of a method of a field: before the method, and, after `let` or `match`, before the
 // field, too.
 fn break_method<'a>(parts: &mut Vec<Part<'a>>, part: Part<'a>) -> Result<(), AllocError> {
     let Some((_, rest)) = part.code.split_once('.') else {
@@ -113,7 +113,7 @@ fn break_method<'a>(parts: &mut Vec<Part<'a>>, part: Part<'a>) -> Result<(), All
     Ok(())
 }
 
-// Breaks an arm of a match: within the value if its first line is narrow enough then, else within
+// Breaks an arm of a match: within the value if its first line is then narrow enough, else within
 // the pattern if that alone is too wide, else before the value.
 fn break_arm<'a>(
     alloc: Global,

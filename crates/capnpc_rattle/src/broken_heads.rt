@@ -67,8 +67,8 @@ fn push_end<'a>(parts: &mut Vec<Part<'a>>, indent: usize, end: &'a str) -> Resul
     Ok(())
 }
 
-/// Breaks the head of an implementation: before the type of that of a trait, else within the type,
-/// and between the parameters if the line is too wide still.
+/// Breaks the head of an implementation. One of a trait is broken before the type. Another one is
+/// broken within the type, and between the parameters if the line is still too wide.
 pub fn break_implementation<'a>(
     alloc: Global,
     parts: &mut Vec<Part<'a>>,
@@ -156,7 +156,7 @@ fn push_names<'a>(
     push_line_of(parts, indent, names, start, end)
 }
 
-// Adds the line of the names from one place to another, after which there is a comma.
+// Adds the line of the names from one place to another, with a comma after them.
 fn push_line_of<'a>(
     parts: &mut Vec<Part<'a>>,
     indent: usize,

@@ -74,7 +74,7 @@ fn push_getter(
     code.add(GETTER, &holes)
 }
 
-// The code of a reader's getter as that of a builder, which has a draft in place of the fields.
+// The code of a reader's getter as the code of a builder, which has a draft in place of the fields.
 fn of_draft(alloc: Global, body: &str) -> Result<String, AllocError> {
     body.replace(alloc, "self.fields.", "self.draft.")
 }

@@ -44,7 +44,7 @@ pub struct Builder {
 }
 
 impl Builder {
-    /// One in which nothing is set, so that each field has its default.
+    /// A builder in which nothing is set: each field has its default.
     pub fn new() -> Builder
         ensures words { result.draft.words ≡ replicate @words@ 0 }
         ensures pointers { result.draft.pointers ≡ replicate @pointers@ 0 }
@@ -54,14 +54,14 @@ impl Builder {
         }
     }
 
-    /// One of what a reader shows, to be changed and written again. What its pointers point to is
-    /// copied, each object as an orphan, and null stays null. What a writer of another version of
-    /// the type left out is zero and null, and what it had beyond this one is left out.
+    /// A builder with what a reader shows, to be changed and written again. Each object that its
+    /// pointers point to is copied, as an orphan, and null stays null. What a writer of another
+    /// version of the type left out is zero or null; what it had in addition is left out.
     ///
-    /// What a setter replaces after that was copied, and stays in the bytes of the message, where no
-    /// pointer points to it. Canonical words of the message are without it.
+    /// A copy that a setter then replaces stays in the bytes of the message, where no pointer
+    /// points to it. Canonical words of the message are without it.
     ///
-    /// It fails as `Orphanage::set` of the first pointer does that can't be copied.
+    /// Fails as `Orphanage::set` does, for the first pointer that can't be copied.
     pub fn from_reader<R: ReaderSegments, S: GrowingSegment>(
         read: &Reader<'_, R>,
         objects: &mut Orphanage<S>,
@@ -77,8 +77,8 @@ impl Builder {
         }
     }
 
-    /// One of the numbers, bools and enums that a reader shows, as `from_reader` has them. Its
-    /// pointers are null.
+    /// A builder with the numbers, bools and enums that a reader shows, as `from_reader` has
+    /// them. Its pointers are null.
     pub fn from_data_section<R: ReaderSegments>(read: &Reader<'_, R>) -> Builder
         ensures words { result.draft.words
             ≡ data_up_to (struct_of R.segments read.now.fields) @words@ }

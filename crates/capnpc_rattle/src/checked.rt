@@ -13,7 +13,7 @@ use std::alloc::{AllocError, Global};
 // What is said of names that collide.
 const COLLIDES: &str = "names collide (see rattle.capnp)";
 
-/// Says what is wrong with a file of a request, where something is.
+/// Fails with what is wrong with a file of a request, where something is.
 pub fn check_file(alloc: Global, request: &Request, file: u64) -> Result<()> {
     let mut left: Vec<u64> = Vec::new(alloc);
     left.push(file)?;
@@ -29,8 +29,8 @@ pub fn check_file(alloc: Global, request: &Request, file: u64) -> Result<()> {
     Ok(())
 }
 
-// Says what is wrong with a node, and adds to the nodes that are left the ones declared in it, and
-// its groups.
+// Fails with what is wrong with a node, and adds to the nodes that are left the ones declared in
+// it, and its groups.
 fn check_node(alloc: Global, request: &Request, node: &Node, left: &mut Vec<u64>) -> Result<()> {
     left.extend_from_slice(node.nested.as_slice())?;
     if let Body::Struct(body) = &node.body {
@@ -54,8 +54,7 @@ fn push_groups(left: &mut Vec<u64>, body: &Struct) -> Result<()> {
     Ok(())
 }
 
-// Says which field of a struct has a type that the request doesn't declare, or one that is not
-// known.
+// Fails for a field of a struct whose type the request doesn't declare, or isn't known.
 fn check_fields(request: &Request, node: &Node, body: &Struct) -> Result<()> {
     for field in body.fields.as_slice() {
         let is_known = match &field.slot {
@@ -100,8 +99,8 @@ impl Names {
         }
     }
 
-    // Adds the name that something of the schema has; names that differ only in capitals count as
-    // one.
+    // Adds the name that a declaration of the schema has; names that differ only in capitals count
+    // as one.
     fn add(&mut self, alloc: Global, name: Result<String, AllocError>, of: &str) -> Result<()> {
         let name = name?;
         self.expect_new(name.as_str(), of).context(COLLIDES)?;
@@ -110,7 +109,7 @@ impl Names {
         Ok(())
     }
 
-    // Fails for a name that another one has already.
+    // Fails for a name that is taken already.
     fn expect_new(&self, name: &str, of: &str) -> Result<()> {
         for (other, one) in self.taken.as_slice() {
             if other.as_str().eq_ignore_ascii_case(name) {
@@ -121,7 +120,7 @@ impl Names {
     }
 }
 
-// Says which two declarations of a node would have the same name.
+// Fails for two declarations of a node that would have the same name.
 fn check_scope(alloc: Global, request: &Request, node: &Node) -> Result<()> {
     let mut items = Names::new(alloc);
     let mut constants = Names::new(alloc);
@@ -174,7 +173,7 @@ fn add_fields(
     Ok(())
 }
 
-// Fails for what is no name, which an annotation may have given.
+// Fails for what is not a name, which an annotation may have given.
 fn expect_name(name: &str) -> Result<()> {
     if name.starts_with(is_letter) && name.chars().all(is_letter_of_name) {
         return Ok(());
@@ -187,12 +186,12 @@ fn is_letter(letter: char) -> bool {
     letter.is_ascii_alphabetic()
 }
 
-// Whether it may have it.
+// Whether a name may have a letter.
 fn is_letter_of_name(letter: char) -> bool {
     letter.is_ascii_alphanumeric() || letter == '_'
 }
 
-// Says which two enumerants, or fields, would have the same name.
+// Fails for two enumerants, or fields, that would have the same name.
 fn check_variants(alloc: Global, node: &Node) -> Result<()> {
     let mut names = Names::new(alloc);
     match &node.body {
@@ -215,7 +214,7 @@ fn check_variants(alloc: Global, node: &Node) -> Result<()> {
     Ok(())
 }
 
-// Says which two fields of a struct, and of its groups, would have setters of the same name.
+// Fails for two fields of a struct, with its groups, whose setters would have the same name.
 fn check_setters(alloc: Global, request: &Request, id: u64) -> Result<()> {
     let mut setters = Names::new(alloc);
     let mut left: Vec<u64> = Vec::new(alloc);

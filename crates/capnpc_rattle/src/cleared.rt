@@ -129,7 +129,7 @@ fn push_line(lines: &mut String) -> Result<(), AllocError> {
     lines.push('\n')
 }
 
-// What the group of a site has, with the groups in it.
+// What the group of a site has, and the groups in it.
 fn cleared_by(alloc: Global, site: Site<'_>) -> Result<Cleared, AllocError> {
     let mut cleared = Cleared {
         fields: Vec::new(alloc),
@@ -150,7 +150,7 @@ fn cleared_by(alloc: Global, site: Site<'_>) -> Result<Cleared, AllocError> {
     Ok(cleared)
 }
 
-/// The name of a group in that of its setter: with the names of the groups around it in front.
+/// The name of a group within its setter's name: with the names of the groups around it in front.
 pub fn group_name(alloc: Global, owner: &Owner<'_>) -> Result<String, AllocError> {
     let prefix = owner.prefix.as_str();
     String::from_str(alloc, prefix.strip_suffix('_').unwrap_or(prefix))

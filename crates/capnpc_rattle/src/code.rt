@@ -8,7 +8,7 @@ struct Hole {
     value: String,
 }
 
-/// The values that stand for names in a template. If memory is lacking for one of them, filling a
+/// The values that stand for names in a template. If an allocation fails for one of them, filling a
 /// template with these fails, so no call that adds one has to be tested.
 #[derive(Drop)]
 pub struct Holes {
@@ -96,7 +96,7 @@ impl Code {
         self.add(template, &Holes::new(self.alloc).with(name, value))
     }
 
-    /// Adds lines as they are.
+    /// Adds lines without a change.
     pub fn add_lines(&mut self, lines: &str) -> Result<(), AllocError> {
         self.add(lines, &Holes::new(self.alloc))
     }

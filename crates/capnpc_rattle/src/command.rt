@@ -75,7 +75,7 @@ fn task_by_words<'a>(folder: &'a str, words: &'a [String]) -> Task<'a> {
     Task::Write(folder, wanted)
 }
 
-// The same by words with commas between them.
+// The task by words with commas between them.
 fn task_by_variable<'a>(folder: &'a str, words: &'a str) -> Task<'a> {
     let mut wanted = Wanted::new();
     for word in words.split(',') {

@@ -126,7 +126,7 @@ pub fn push_view(
 }
 
 // Adds the law that the words of a value, of a given number of bytes, are the layout of its tree,
-// where they are few and that is known.
+// where the words are few and the tree is known.
 fn push_layout(
     alloc: Global,
     code: &mut Code,

@@ -13,12 +13,12 @@ use crate::views::{CONSTANT, MESSAGE, View, is_plain, view_of};
 use crate::words::{sets_no_pointers, words_of};
 use std::alloc::{AllocError, Global};
 
-/// The views of which the getter of a pointer that has a default returns one.
+/// The two views of a pointer that has a default; its getter returns one of them.
 #[derive(Drop)]
 struct Views {
-    /// Of what the message has, if the pointer is not null there.
+    /// A view of what the message has, if the pointer is not null there.
     stored: View,
-    /// Of the default.
+    /// A view of the default.
     default: View,
 }
 

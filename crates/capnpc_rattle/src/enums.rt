@@ -26,7 +26,7 @@ pub fn cases_of(
     )
 }
 
-/// A line for each enumerant, and then the last one, with no end of a line after it. In their
+/// A line for each enumerant, and then the last one, without a line end after it. In their
 /// templates `@type@` stands for the enum, `@variant@` for the variant, and `@count@` for its
 /// number, or for how many there are.
 pub fn lines_of(
@@ -51,7 +51,7 @@ pub fn lines_of(
     Ok(code.lines)
 }
 
-// What a line of an enum has, with the number of the line or of all of them.
+// The holes of a line of an enum, with the number of the line or of all of them.
 fn line_holes(alloc: Global, type_name: &str, count: usize) -> Holes {
     Holes::new(alloc)
         .with("type", type_name)
@@ -69,8 +69,8 @@ pub fn enumerants_of(request: &Request, id: u64) -> &[String] {
     }
 }
 
-/// The name of an enum in the module of a struct that has a field of it: its own, or, if an enum of
-/// that name is in the module already, its own after the name of what it is declared in.
+/// The name of an enum in the module of a struct that has a field of it: its own, unless an enum of
+/// that name is in the module already. Then it comes after the name of what it is declared in.
 pub fn enum_name(alloc: Global, site: Site<'_>, id: u64) -> Result<String, AllocError> {
     let Some(node) = site.request.find(id) else {
         return String::from_str(alloc, "u16");
@@ -82,7 +82,7 @@ pub fn enum_name(alloc: Global, site: Site<'_>, id: u64) -> Result<String, Alloc
     scoped_name(alloc, site.request, node, name.as_str())
 }
 
-// The name of an enum after that of what it is declared in.
+// The name of an enum after the name of what it is declared in.
 fn scoped_name(
     alloc: Global,
     request: &Request,
@@ -97,8 +97,8 @@ fn scoped_name(
     Ok(longer)
 }
 
-// Whether another enum has this name in the module: one that is declared there, or that of a field
-// before.
+// Whether another enum has this name in the module: one that is declared there, or the enum of an
+// earlier field.
 fn is_other(alloc: Global, site: Site<'_>, node: &Node, name: &str) -> Result<bool, AllocError> {
     if node.scope == site.node.id {
         return Ok(false);

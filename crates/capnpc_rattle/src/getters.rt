@@ -63,7 +63,7 @@ pub struct Shown {
 }
 
 impl Shown {
-    /// What is returned, unless memory is lacking for a part of it.
+    /// What is returned, unless an allocation failed for a part of it.
     pub fn new(
         type_name: Result<String, AllocError>,
         fact: Result<String, AllocError>,
@@ -126,7 +126,7 @@ fn shown_number(
     )
 }
 
-// An enum, whose number a clause names so.
+// An enum; a clause names its number in this way.
 fn shown_enum(
     alloc: Global,
     site: Site<'_>,
@@ -202,7 +202,7 @@ fn shown_view(
     )
 }
 
-// The code that returns it.
+// The code that returns a view.
 fn view_body(alloc: Global, site: Site<'_>, place: &Place) -> Result<String, AllocError> {
     let holes = Holes::new(alloc).holding("offset", format!(in alloc; "{}", place.offset));
     let (reader, part) = match place.of.lists {

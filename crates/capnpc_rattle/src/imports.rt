@@ -22,7 +22,7 @@ pub fn push_definitions(alloc: Global, code: &mut Code, body: &str) -> Result<()
     Ok(())
 }
 
-// Adds the line that imports from a module those of some names that are cited.
+// Adds the line that imports from a module the names, out of some, that are cited.
 fn push_cited(
     alloc: Global,
     code: &mut Code,
@@ -145,7 +145,7 @@ fn push_items(
     push_words(alloc, lines, body)
 }
 
-// Adds the line that imports what a path points to, with a key for its place among the others.
+// Adds the line that imports this path, with a key for its place among the others.
 fn push_line(
     alloc: Global,
     lines: &mut Vec<(String, String)>,
@@ -156,8 +156,8 @@ fn push_line(
     Ok(())
 }
 
-// A key that sorts paths as `rt fmt` does: those that lead further out come first, and numbers in
-// names count as numbers.
+// A key that sorts paths as `rt fmt` does: paths with more `super` come first, and numbers in names
+// count as numbers.
 fn order_of(alloc: Global, path: &str) -> Result<String, AllocError> {
     let mut key = String::new(alloc);
     for part in path.split("::") {
@@ -209,8 +209,8 @@ fn push_words(
     Ok(())
 }
 
-// Adds the line that imports from a module those of some names that occur in the code, each as it
-// is named there.
+// Adds the line that imports from a module the names, out of some, that occur in the code, each as
+// it is named there.
 fn push_group(
     alloc: Global,
     lines: &mut Vec<(String, String)>,

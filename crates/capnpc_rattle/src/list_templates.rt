@@ -2,7 +2,7 @@
 
 /// A list of structs in a message, how its elements are read, and how it is read from a pointer.
 pub const LIST_READER: &str = "
-/// A list of such structs in a message; their first fields alone, where an older writer had these.
+/// A list of such structs in a message, or of their first fields where an older writer had these.
 #[derive(Drop)]
 pub struct ListReader<'a, S: ReaderSegments> {
     /// The list whose elements these are.
@@ -28,7 +28,7 @@ impl<'a, S: ReaderSegments> ListReader<'a, S> {
         }
     }
 
-    /// The element of this index, or `None` where there are no more elements than it.
+    /// The element of this index, or `None` past the last element.
     pub fn try_get(&self, index: u32) -> Option<Reader<'a, S>>
         ensures { let list = upgraded_structs_of S.segments self.now.elements in
             FindsElement (length list.elements) index

@@ -2,11 +2,11 @@
 //! schema, with a contract at each getter, which is proved when the user checks the crate.
 //!
 //! It reads a `CodeGeneratorRequest` from standard input, and writes `NAME_capnp.rt` for each file
-//! that is asked for, into the folder in which it runs, or into that of its first argument; to
-//! standard output if that is `-`. Nothing is written before everything is made. Its other
-//! arguments, or else the words of the environment's `CAPNPC_RATTLE`, with commas between them, say
-//! what it writes: where one is `readers`, only readers, and else builders, too; where one is
-//! `print`, for each struct a method that prints it. Other words are rejected.
+//! that is asked for. They go into the folder in which it runs, or into the folder of its first
+//! argument, or to standard output if that is `-`. Nothing is written before everything is made.
+//! Its other arguments, or else the words of the environment's `CAPNPC_RATTLE`, with commas between
+//! them, say what it writes. With `readers` it writes only readers, and otherwise builders, too.
+//! With `print` it also writes a method for each struct that prints it. Other words are rejected.
 #![tactic(auto)]
 
 mod annotations;

@@ -76,7 +76,7 @@ impl Stored {
         }
     }
 
-    /// What a clause says of its value: the value of its bits, XORed with those of the default.
+    /// What a clause says of its value: the value of its bits, XORed with the bits of the default.
     pub fn clause(&self, alloc: Global) -> Result<String, AllocError> {
         let width = self.number.width;
         let offset = self.offset;

@@ -29,7 +29,8 @@ fn pointer_lists(of: Type) -> u32 {
     }
 }
 
-// The type within the lists of pointers: that of the base, or of a list of structs or of numbers.
+// The type within the lists of pointers: the type of the base, or of a list of structs or of
+// numbers.
 fn inner_type(alloc: Global, site: Site<'_>, of: Type) -> Result<String, AllocError> {
     match of.base {
         Base::Text => String::from_str(alloc, "text::Owned"),

@@ -18,7 +18,7 @@ pub struct Owner<'r> {
     pub prefix: String,
     /// The path from the site's module to the struct's.
     pub path: String,
-    /// For each union on the way of which the next group is a member: where its number is, and the
+    /// For each union that has the next group on the way as a member: where its number is, and the
     /// number.
     pub tags: Vec<(u32, u16)>,
 }

@@ -1,4 +1,4 @@
-//! Parts of lines of code, each of which gets a line of its own where it is narrow enough.
+//! Parts of lines of code; each gets a line of its own where it is narrow enough.
 
 /// The most columns of a line that can be broken.
 pub const WIDTH: usize = 100;
@@ -81,7 +81,7 @@ impl<'a> Part<'a> {
         self
     }
 
-    // With the end of a statement, an argument or a head as the tail.
+    // The part, with the end of a statement, an argument or a head as the tail.
     fn with_end_apart(self) -> Part<'a> {
         for end in [";", ",", " {"] {
             if let Some(code) = self.code.strip_suffix(end) {

@@ -74,7 +74,7 @@ fn chain_of(alloc: Global, request: &Request, id: u64) -> Result<Chain, AllocErr
     Ok(Chain { file, names })
 }
 
-// How many names two chains share at the front, without the last one of the second.
+// How many names two chains share at the front, without the last name of the second.
 fn shared_len(from: &[String], to: &[String]) -> usize {
     let mut shared: usize = 0;
     for (one, other) in from.iter().zip(to) {

@@ -38,8 +38,8 @@ pub fn push_pointer_setter(
     code.add(POINTER_SETTER, &with_type(alloc, holes, site, place.of))
 }
 
-// With the type of what a pointer is set to. If that may be any type, it is a parameter of the
-// setter.
+// The holes, with the type of what a pointer is set to. If that may be any type, it is a parameter
+// of the setter.
 fn with_type(alloc: Global, holes: Holes, site: Site<'_>, of: Type) -> Holes {
     if of.lists == 0 && of.base == Base::AnyPointer {
         return holes.with("generic", "<T>").with("owned", "T");

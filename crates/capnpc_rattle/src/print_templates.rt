@@ -2,7 +2,7 @@
 
 /// What comes before the table of a file's types.
 pub const MODULE: &str = "
-/// How the structs of this file are printed: by a table of the types that they point to.
+/// How the structs of this file are printed: by a table of them and of the types in them.
 pub mod the_schema {
 ";
 
@@ -41,10 +41,10 @@ pub const ENUM: &str = "&[@names@],";
 pub const METHOD: &str = "
 impl<'a, S: ReaderSegments> super::@path@::Reader<'a, S> {
     /// The struct as text, as `capnp decode --short` prints it. `depth` says how many structs
-    /// and lists may be within one another; below, they are shown as `(..)` and `[..]`. What
+    /// and lists may be within one another; deeper ones are shown as `(..)` and `[..]`. What
     /// can't be read is shown as its error, `<PointerOutOfBounds>`.
     ///
-    /// Fails only where memory is lacking.
+    /// Fails only when out of memory.
     pub fn to_text(&self, alloc: Global, depth: u32) -> Result<String, AllocError> {
         stringify::to_text(alloc, &self.fields, &SCHEMA, @number@, depth)
     }

@@ -11,7 +11,7 @@ use capnp_wire::text;
 use std::alloc::Global;
 use std::str::from_utf8;
 
-/// The request at the root of a message, for readers and what is wanted beside them.
+/// The request at the root of a message, for readers and what else is wanted.
 pub fn read_request<S: ReaderSegments>(
     alloc: Global,
     root: &code_generator_request::Reader<'_, S>,

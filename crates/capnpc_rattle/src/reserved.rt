@@ -1,8 +1,8 @@
 //! Names that a schema may have, but its code may not: a `_` is added to these.
 use crate::imports::is_definition;
 
-/// Words that are no names of modules: those of the language, crates that the code names, and what
-/// the module of a struct has beside the modules of groups and of what is declared in it.
+/// Words that are no names of modules: words of the language, crates that the code names, and what
+/// the module of a struct has in addition to the modules of groups and of what is declared in it.
 const MODULES: &[&str] = &[
     "abstract",
     "any_pointer",

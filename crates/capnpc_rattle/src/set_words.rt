@@ -25,7 +25,8 @@ pub fn words_clause(alloc: Global, words: &str) -> Result<String, AllocError> {
     fill_with(alloc, WORDS_CLAUSE, "words", words)
 }
 
-/// What a clause says of the words in which a number is set, too.
+/// What a clause says of the words in which a number is set, in addition to these numbers of
+/// unions.
 pub fn number_clause(
     alloc: Global,
     site: Site<'_>,
@@ -45,7 +46,8 @@ pub fn number_clause(
     words_clause(alloc, words.as_str())
 }
 
-// The bits of a number, as a clause names them: those of a value, XORed with those of the default.
+// The bits of a number, as a clause names them: the bits of a value, XORed with the bits of the
+// default.
 fn bits_of(alloc: Global, stored: &Stored, value: &str) -> Result<String, AllocError> {
     let width = stored.number.width;
     let default = stored.default;

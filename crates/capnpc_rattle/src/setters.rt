@@ -22,8 +22,7 @@ pub fn is_data(field: &Field) -> bool {
     }
 }
 
-/// Whether a field has a setter: an interface has none, nor has `Void` that is no member of a
-/// union.
+/// Whether a field has a setter: an interface has none, and neither has `Void` outside a union.
 pub fn has_setter(owner: &Owner<'_>, site: Site<'_>, field: &Field) -> bool {
     let Slot::At(place) = &field.slot else {
         return false;
@@ -34,7 +33,8 @@ pub fn has_setter(owner: &Owner<'_>, site: Site<'_>, field: &Field) -> bool {
     place.of.base != Base::Interface
 }
 
-/// The numbers of unions that are set with a field: those of the groups around it, and its own.
+/// The numbers of unions that are set with a field: the numbers of the groups around it, and its
+/// own.
 pub fn tags_of(
     alloc: Global,
     owner: &Owner<'_>,
@@ -82,7 +82,7 @@ pub fn push_comment(code: &mut Code, field: &Field, comment: &str) -> Result<(),
     }
 }
 
-/// The name of a field among those of its struct: with the names of the groups around it in front.
+/// The name of a field within its struct: with the names of the groups around it in front.
 pub fn field_name(alloc: Global, owner: &Owner<'_>, field: &Field) -> Result<String, AllocError> {
     let mut name = String::from_str(alloc, owner.prefix.as_str())?;
     name.push_str(snake(alloc, field.name.as_str())?.as_str())?;

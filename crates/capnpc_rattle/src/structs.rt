@@ -49,8 +49,8 @@ pub fn close_module(code: &mut Code) -> Result<(), AllocError> {
     code.add_lines("}")
 }
 
-// Adds the reader, the members of the union where there is one, and how it is read where it is no
-// group.
+// Adds the reader, the members of the union where there is one, and how a struct that is no group
+// is read.
 fn push_reader(
     alloc: Global,
     code: &mut Code,
@@ -83,7 +83,7 @@ fn push_reader(
     push_defaults(alloc, code, site, body)
 }
 
-// Adds the getters, and to the members those of the union, where there is one.
+// Adds the getters, and the members of the union, where there is one.
 fn push_getters(
     alloc: Global,
     code: &mut Code,

@@ -104,7 +104,7 @@ pub const DEFAULT_FACT: &str = "let pointer = pointer_in fields @offset@ in
 × (Denotes pointer nothing → (let pointer = root_of @default@ in
 @fact@))";
 
-/// What it says of a struct whose default sets no pointers.
+/// What a clause says of a struct whose default sets no pointers.
 pub const DEFAULT_DATA_FACT: &str = "let pointer = pointer_in fields @offset@ in
 ((Denotes pointer nothing → ⊥) → @stored@)
 × (Denotes pointer nothing → (let constant = root_of @default@ in
@@ -113,7 +113,7 @@ IsViewOf constant
 (Accepts constant TakesStruct) (ViewError constant StructFormError)
 (FormError constant StructFormError) @value@))";
 
-/// The same for a view that is bound to the segments that it reads.
+/// What it says of a view that is bound to the segments that it reads.
 pub const OR_DEFAULT_FACT: &str = "let pointer = pointer_in fields @offset@ in
 elim @value@ [
   | OrDefault.Stored view ↦ (Denotes pointer nothing → ⊥) ×
@@ -132,7 +132,7 @@ pub const STRUCT_BODY: &str = "match self.fields.get_pointer_as(@offset@) {
     Err(error) => Err(error),
 }";
 
-/// How a view is read that has a default.
+/// How a view that has a default is read.
 pub const DEFAULT_BODY: &str = "let pointer = self.fields.get_pointer(@offset@);
 if pointer.is_null() {
     get_@name@_default()
@@ -140,7 +140,7 @@ if pointer.is_null() {
     FromPointerReader::get_from_pointer(pointer)
 }";
 
-/// How a struct is read whose default sets no pointers.
+/// How a struct whose default sets no pointers is read.
 pub const DEFAULT_DATA_BODY: &str = "let pointer = self.fields.get_pointer(@offset@);
 if pointer.is_null() {
     match capnp_wire::constant::default_data(&pointer, &@default@) {
@@ -151,7 +151,7 @@ if pointer.is_null() {
     FromPointerReader::get_from_pointer(pointer)
 }";
 
-/// How a view is read that is bound to the segments that it reads.
+/// How a view that is bound to the segments that it reads is read.
 pub const OR_DEFAULT_BODY: &str = "let pointer = self.fields.get_pointer(@offset@);
 if pointer.is_null() {
     OrDefault::Default(get_@name@_default())
@@ -166,7 +166,7 @@ pub static @name@: Words<@size@> = Words { bytes: [
 ] };
 ";
 
-/// That the words of a constant or a default are those of its value in the schema.
+/// The words of a constant or a default are the words of its value in the schema.
 pub const LAYOUT: &str = "
 /// The words of `@name@` are the layout of the schema's value.
 pub fn @law@_is_laid_out()
@@ -194,10 +194,10 @@ pub const GET_WORDS: &str = "
 /// What a clause says of a pointer, whatever it points to.
 pub const ANY_POINTER_FACT: &str = "pointer_of S.segments @value@ ≡ pointer_in fields @offset@";
 
-/// How a pointer is read that may point to anything.
+/// How a pointer that may point to anything is read.
 pub const ANY_POINTER_BODY: &str = "self.fields.get_pointer(@offset@)";
 
-/// How a float is read that has a default, by its bits, since a default may be a NaN.
+/// How a float that has a default is read: by its bits, since a default may be a NaN.
 pub const FLOAT_BODY: &str =
     "let bits: @bits@ = self.fields.get_data_field_mask(@offset@, @default@);
 PrimitiveElement::from_bits(@all@)";
@@ -215,7 +215,7 @@ pub fn has_@name@(&self) -> bool
 
 /// What comes before the getter of a group.
 ///
-/// Speed: it returns the address of the struct, so a call would take longer than what it does.
+/// Speed: it returns the address of the struct, so a call would take longer than its body.
 pub const ALWAYS_INLINED: &str = "#[inline(always)]
 ";
 

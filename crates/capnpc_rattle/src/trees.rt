@@ -29,8 +29,8 @@ struct TreeWriter<'a, S: ReaderSegments> {
     steps: Vec<Step<'a, S>>,
 }
 
-/// The tree that a pointer points to. There is none where its code would be too long, and where a list
-/// of structs in it is empty, of which no view says how large its elements are.
+/// The tree that a pointer points to. There is none where its code would be too long, or where a
+/// list of structs in it is empty: no view says how large the elements of that list are.
 pub fn tree_at<S: ReaderSegments>(
     alloc: Global,
     pointer: &any_pointer::Reader<'_, S>,
@@ -99,7 +99,7 @@ impl<'a, S: ReaderSegments> TreeWriter<'a, S> {
         self.add_pointers(fields)
     }
 
-    // The pointers of a struct are still to be written.
+    // Notes that the pointers of a struct are still to be written.
     fn add_pointers(&mut self, fields: &StructReader<'a, S>) -> Result<(), AllocError> {
         for index in (0..fields.pointers()).rev() {
             self.steps.push(Step::Object(fields.get_pointer(index)))?;

@@ -1,11 +1,12 @@
-//! The types to which the structs of a file lead, each by its number in a table.
+//! The types of the structs of a file and of their fields, at any depth, each by its number in a
+//! table.
 use crate::schema::{Base, Body, Field, Node, Request, Slot};
 use std::alloc::{AllocError, Global};
 
 /// The types of a table, by their nodes.
 #[derive(Drop)]
 pub struct TypeTable {
-    /// Structs and groups: those that the file declares first, in its order.
+    /// Structs and groups: the ones that the file declares come first, in its order.
     pub structs: Vec<u64>,
     /// How many of them the file declares.
     pub own: usize,
@@ -60,7 +61,7 @@ impl TypeTable {
     }
 }
 
-/// The number of a node among others; that after the last one where it is not there.
+/// The number of a node among others; the number after the last one where it is not there.
 pub fn number_in(nodes: &[u64], id: u64) -> usize {
     let mut number: usize = 0;
     for other in nodes {
@@ -80,7 +81,7 @@ fn add(nodes: &mut Vec<u64>, id: u64) -> Result<(), AllocError> {
     Ok(())
 }
 
-// The structs that are declared in a node and in those in it, in the order of the file.
+// The structs that are declared in a node and in the nodes within it, in the order of the file.
 fn structs_in(alloc: Global, request: &Request, id: u64) -> Result<Vec<u64>, AllocError> {
     let mut found = Vec::new(alloc);
     let mut left: Vec<u64> = Vec::new(alloc);

@@ -124,7 +124,7 @@ fn read_object<S: ReaderSegments>(
 }
 
 // Writes what a pointer points to into zeros of exactly its words, and returns the pointer to it
-// from just before these.
+// that would be just before them.
 fn write_object<S: ReaderSegments>(pointer: &any_pointer::Reader<'_, S>, block: &mut [u8]) -> u64
     requires words { (words : ℕ)
         × HasWords (PointsToTree (pointer_of S.segments pointer.now)) false words

@@ -97,7 +97,7 @@ impl Members {
         self.cases.push_str(case.lines.as_str())
     }
 
-    // The parameters of the enum, of those that its variants name.
+    // The parameters of the enum, out of the ones that its variants name.
     fn parameters(
         &self,
         alloc: Global,
@@ -122,7 +122,7 @@ impl Members {
     }
 }
 
-// Adds a parameter to a list of them, which is open yet.
+// Adds a parameter to a list of them that is still open.
 fn push_parameter(list: &mut String, parameter: &str) -> Result<(), AllocError> {
     list.push_str(if list.is_empty() { "<" } else { ", " })?;
     list.push_str(parameter)

@@ -44,7 +44,7 @@ pub struct View {
 }
 
 impl View {
-    // A view by its parts, unless memory is lacking for one of them.
+    // A view by its parts, unless an allocation failed for one of them.
     fn new(
         type_name: Result<String, AllocError>,
         shows: Result<String, AllocError>,
@@ -70,8 +70,8 @@ impl View {
     }
 }
 
-/// The view of a type at a site, of what a lender has; `None` for what has no view: numbers by
-/// themselves, interfaces, and any pointer by itself, whose getter never fails.
+/// The view of a type at a site, of what a lender has. It is `None` for what has no view: numbers
+/// by themselves, interfaces, and any pointer by itself, whose getter never fails.
 pub fn view_of(
     alloc: Global,
     request: &Request,
@@ -99,7 +99,7 @@ pub fn view_of(
     )
 }
 
-/// Whether the views of a type are of one type, whatever segments they read.
+/// Whether the views of a type have one type, whatever segments they read.
 pub fn is_plain(of: Type) -> bool {
     match of.lists {
         0 => matches!(of.base, Base::Text | Base::Data),
@@ -192,7 +192,7 @@ fn list(
     }
 }
 
-// The view of a list of lists, from that of the innermost list outwards.
+// The view of a list of lists, from the view of the innermost list outwards.
 fn list_of_lists(
     alloc: Global,
     request: &Request,

@@ -1,6 +1,6 @@
-//! What is written beside readers.
+//! What is written in addition to readers.
 
-/// What is written beside readers.
+/// What is written in addition to readers.
 #[derive(Clone, Copy)]
 pub struct Wanted {
     pub builders: bool,

@@ -30,8 +30,8 @@ pub fn tree_of(alloc: Global, value: &Value) -> Result<Option<String>, AllocErro
     }
 }
 
-/// Whether a struct, which a pointer points to, has pointers that are null alone: what follows its data
-/// words is zero (encoding document, "Structs").
+/// Whether all pointers of a struct that a pointer points to are null: what follows its data words
+/// is zero (encoding document, "Structs").
 pub fn sets_no_pointers(value: &Value) -> bool {
     let Value::Object(object) = value else {
         return false;

@@ -179,8 +179,8 @@ pub fn read_message_no_alloc_lenient<'b, R: BufRead>(
     required(try_read_message_no_alloc_lenient(source, buffer, options))
 }
 
-/// Skips the next packed message of a stream by this rule of padding, and returns the lengths of its
-/// segments in words, or `None` where nothing is unread.
+/// Skips the next packed message of a stream by this rule of padding, and returns the lengths of
+/// its segments in words, or `None` where nothing is unread.
 ///
 /// It consumes what `try_read_message` does, and fails as that does, but takes no memory for the
 /// segments. It fails with `NonZeroPadding` only where `padding` is `Padding::Zero`. The lengths

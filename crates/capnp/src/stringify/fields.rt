@@ -8,8 +8,8 @@ use crate::message::ReaderSegments;
 use crate::stringify::schema::{Base, Field};
 
 /// Whether a field of a struct is shown; `discriminant` is the offset of its union's number. A
-/// member of the union is shown where it is set. Of these the first one, and each field outside the
-/// union, is not shown if it is a null pointer.
+/// member of the union is shown only where it is set, and a null pointer only where it is a member
+/// with another number than 0.
 pub fn is_shown<S: ReaderSegments>(
     fields: &StructReader<'_, S>,
     discriminant: Option<u32>,

@@ -1,4 +1,5 @@
--- What is measured has room in a block of just its words, which is zero, and with the pointer to it is its layout.
+-- What is measured has room in a block of just its words, which is zero; with the pointer to it, it is its
+-- layout.
 use Rattle.std.proofs.Common.{◌≡◌, ◌∙◌, false, ap, arith}
 use Rattle.capnp_wire.specs.Prelude.{words_of, pointer_of, Trees, total_words, Pointer, PointsToTree}
 use Rattle.capnp_layout.proofs.words.WordByteLemmas.{length-words_of}
