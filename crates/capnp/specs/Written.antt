@@ -30,8 +30,8 @@ IsEncodingOf Packed = IsPackedEncodingOf
 abbrev pub output_of : {A : Type 0} → Built A → List (List ℕ)
 output_of built = map used_of built.spaces
 
--- why a writer fails: its device fails, or the sink fails for one of the chunks; or, before it writes, the
--- segments are more than a reader accepts, or an allocation fails (from four segments on)
+-- why a writer fails: its device fails, or the sink fails for one of the chunks. Or, before it writes, there
+-- are more segments than a reader accepts, or an allocation fails (from four segments on).
 abbrev pub WriterError : Declining → List (List ℕ) → ErrorKind → Type 0
 WriterError refuses message kind = (kind ≡ DeviceFailed) ⊎ ChunksError refuses (chunks message) kind ⊎ UnwrittenError message kind
 

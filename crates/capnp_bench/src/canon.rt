@@ -13,8 +13,8 @@ const MOST_WORDS: usize = 1 << 29;
 /// How many structs a large message has at most.
 const MOST_STRUCTS: u64 = 20_000;
 
-/// Canonical forms of this many records, and of messages of an eighth as many structs, nodes and lists
-/// in all.
+/// Canonical forms of this many records, and of messages of an eighth as many structs, nodes and
+/// lists in all.
 pub fn digest_of(alloc: Global, seed: u32, count: u32) -> Result<u64> {
     let mut random = Random::new(seed);
     let mut digest = Digest::new();

@@ -37,8 +37,8 @@ pub fn digest_of(alloc: Global, seed: u32, count: u32) -> Result<u64> {
 }
 
 /// Adds the table and the segments: the root pointer, the list of far pointers, a segment of no
-/// words, and a struct and its text in each of the others, every third one found by a wide landing
-/// pad.
+/// words, and a struct and its text in each other one. Every third object is found by a wide
+/// landing pad.
 fn push_message(stream: &mut Vec<u8>, segments: &mut Vec<u8>, random: &mut Random) -> Result<()> {
     push_word(segments, far_pointer(1, 0, false))?;
     push_word(segments, list_pointer(0, 6, OBJECTS))?;
@@ -61,8 +61,8 @@ fn push_message(stream: &mut Vec<u8>, segments: &mut Vec<u8>, random: &mut Rando
     Ok(())
 }
 
-/// Adds a segment of a landing pad of two words, to the object of the segment before, one of a
-/// word, a struct and its text, and returns how many words it has.
+/// Adds a segment: a landing pad of two words for the object of the segment before, a landing pad
+/// of one word, a struct and its text. Returns how many words it has.
 fn push_object(segments: &mut Vec<u8>, random: &mut Random, object: u64) -> Result<u64> {
     let length = 1 + random.below(20);
     let before = object.wrapping_add(OBJECTS - 1) % OBJECTS;

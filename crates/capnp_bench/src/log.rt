@@ -1,4 +1,4 @@
-//! Records are made, appended to logs, and read back from these.
+//! Records are made, appended to logs, and read back from the logs.
 
 use crate::digest::Digest;
 use crate::random::Random;
@@ -57,7 +57,7 @@ pub fn digest_of(alloc: Global, seed: u32, count: u32) -> Result<u64> {
     Ok(digest.value())
 }
 
-/// Every other record is built in a region of the caller's, the others on the heap.
+/// Every other record is built in a caller-provided region, the others on the heap.
 fn append(
     alloc: Global,
     seed: u32,

@@ -1,13 +1,14 @@
-//! Runs a benchmark that users of the library wait for, on messages that are made of a seed, and prints a
-//! digest of all that it returned.
+//! Runs a benchmark of what users of the library wait for, on messages that are made of a seed, and
+//! prints a digest of all that it returned.
 //!
 //! Its words are the benchmark, the seed and how many messages or elements are made:
-//! `capnp_bench log 1 1000`. `all` runs each benchmark in turn. Of `roots` and `trickle` one word more
-//! picks a part, and a second one a part of it: `capnp_bench roots 1 1000 text set_root`.
+//! `capnp_bench log 1 1000`. `all` runs each benchmark in turn. For `roots` and `trickle` one more
+//! word picks a part, and a second one a part of it: `capnp_bench roots 1 1000 text set_root`.
 //!
-//! `orphans` runs `records`, `table`, `tree` and `texts`. One word more says how many times each is
-//! built, in the memory of the first time, once where it is left out; the digest is of the last
-//! time. With `write` after it the messages are written framed instead: `table 1 1000 20 write`.
+//! `orphans` runs `records`, `table`, `tree` and `texts`. One more word says how many times each is
+//! built, in the memory of the first time; it is once where the word is left out. The digest is of
+//! the last time. With `write` after that word the messages are written framed instead:
+//! `table 1 1000 20 write`.
 #![tactic(auto)]
 
 mod canon;

@@ -10,7 +10,7 @@ pub fn struct_pointer(offset: u64, data_words: u64, pointers: u64) -> u64 {
     offset << 2 | data_words << 32 | pointers << 48
 }
 
-/// The pointer to a list of elements of a size's code, that begins some words after it.
+/// The pointer to a list of elements with this size code, that begins some words after it.
 pub fn list_pointer(offset: u64, code: u64, count: u64) -> u64 {
     1 | offset << 2 | code << 32 | count << 35
 }
@@ -105,8 +105,8 @@ pub fn push_large(words: &mut Vec<u8>, random: &mut Random, elements: u64) -> Re
     push_lists(words, random, elements)
 }
 
-/// Adds the elements of a table, structs of two numbers, a text and a list, and then what each leads
-/// to: three words of text and three of numbers.
+/// Adds the elements of a table, structs of two numbers, a text and a list, and then what each
+/// points to: three words of text and three of numbers.
 fn push_structs(words: &mut Vec<u8>, random: &mut Random, elements: u64) -> Result<()> {
     for element in 0..elements {
         let after = (elements - element)
@@ -157,7 +157,7 @@ fn push_tree(words: &mut Vec<u8>, random: &mut Random, nodes: u64) -> Result<()>
     Ok(())
 }
 
-/// Adds pointers to lists of two words each, and these.
+/// Adds pointers to lists of two words each, and the lists.
 fn push_lists(words: &mut Vec<u8>, random: &mut Random, lists: u64) -> Result<()> {
     for list in 0..lists {
         let after = (lists - list)

@@ -12,8 +12,8 @@ use std::alloc::Global;
 /// Room for a copy of a small message.
 const REGION_BYTES: usize = 2048;
 
-/// Each kind of root, with its name, and how many times as many messages of it are handled: each
-/// kind takes about as long as another.
+/// Each kind of root, with its name and a factor for the number of its messages, so that all kinds
+/// take about as long.
 const ROOTS: [(&str, Root, u32); 8] = [
     ("struct", Root::Tree(Kind::Struct), 2),
     ("pointers", Root::Tree(Kind::Pointers), 1),
@@ -46,7 +46,7 @@ impl Calls {
     }
 }
 
-/// Whether a name is the one that is given, if one is other than `all`.
+/// Whether a name is the given one; all are where none or `all` is given.
 pub fn is_wanted(given: Option<&str>, name: &str) -> bool {
     match given {
         Some(given) => given == name || given == "all",
@@ -54,7 +54,8 @@ pub fn is_wanted(given: Option<&str>, name: &str) -> bool {
     }
 }
 
-/// Makes each call, or that of a name, on this many messages of each kind, or of that of a name.
+/// Makes each call, or the call of a name, on this many messages of each kind, or of the kind of a
+/// name.
 pub fn digest_of(
     alloc: Global,
     seed: u32,

@@ -33,7 +33,7 @@ pub struct SmallMessage {
 }
 
 impl SmallMessage {
-    /// Three segments, of which the first are the message's.
+    /// Three segments; the first `count` ones are the message's.
     pub fn segments(&self) -> [&[u8]; 3] {
         let [first, second, third] = &self.segments;
         [first.as_slice(), second.as_slice(), third.as_slice()]
@@ -106,7 +106,7 @@ fn root_in_turn(index: u32) -> Root {
 }
 
 /// Adds an object without its pointer, and returns the pointer to it from the word before it.
-/// Numbers and texts point to nothing: in the place of depths they have up to 4, 16, 64 and 256
+/// Numbers and texts point to nothing: at depths of one to four they have up to 4, 16, 64 and 256
 /// bytes, numbers in whole words.
 fn push_object(words: &mut Vec<u8>, random: &mut Random, root: Root, depth: u32) -> Result<u64> {
     let most = 1_u32 << (2 * depth.min(4));

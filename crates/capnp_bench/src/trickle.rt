@@ -16,11 +16,11 @@ use std::alloc::Global;
 /// How many messages a stream has.
 const MESSAGES: u32 = 32;
 
-/// How many words a message has that is no record.
+/// How many words a message that is no record has.
 const MESSAGE_WORDS: u64 = 24;
 
-/// How many bytes a source shows at a time, and how many times as many messages are read so: each
-/// size takes about as long as another.
+/// How many bytes a source shows at a time, and a factor for the number of messages that are read
+/// in this way, so that all sizes take about as long.
 const SHOWN: [(&str, usize, u32); 8] = [
     ("1", 1, 1),
     ("2", 2, 1),
@@ -32,7 +32,8 @@ const SHOWN: [(&str, usize, u32); 8] = [
     ("40", 40, 3),
 ];
 
-/// How many bytes a sink is given at a time, and how many times as many messages are packed so.
+/// How many bytes a sink is given at a time, and a factor for the number of messages that are
+/// packed in this way.
 const CHUNKS: [(&str, usize, u32); 5] = [
     ("chunk-1", 8, 1),
     ("chunk-2", 16, 2),
@@ -68,8 +69,8 @@ enum Words {
     Small,
 }
 
-/// Reads and packs this many messages of each stream, or of that of a name, at each size, or at
-/// that of a name.
+/// Reads and packs this many messages of each stream, or of the stream of a name, at each size, or
+/// at the size of a name.
 pub fn digest_of(
     alloc: Global,
     seed: u32,

@@ -22,7 +22,7 @@ pub segment_words : (segments others : List (List ℕ)) (id : ℕ) (segment : Li
 segment_words segments others id segment same is =
     slice_get-map word_count segments id ∙ ap (λ l. option_map word_count (slice_get l id)) (sym same) ∙ ap (option_map word_count) is
 
--- where a segment is returned its number is below their count
+-- where a segment is returned, its number is below the count
 pub segment_there : (segments others : List (List ℕ)) (id : ℕ) (segment : List ℕ) → others ≡ segments → slice_get others id ≡ Some segment → length segments ≤ id → ⊥
 segment_there segments others id segment same is outside = absurd (omega (arith, outside, slice_get_within others id segment is, ap length same))
 
@@ -44,15 +44,15 @@ front_form p n new following long form =
 
 -- Which messages have a form
 
--- one whose root has no word has none
+-- a message whose root is at no word has none
 pub root_form_error : (nesting : ℤ) (limit : Option ℕ) (segments : List (List ℕ)) (kind : ErrorKind) → NoWord (message_of segments) root kind → RootCanonicalFormError (root_within nesting limit segments) kind
 root_form_error nesting limit segments kind none = inl (root, refl, at_pointer (no_word none))
 
--- and one that has a form does not lack it
+-- and a message that has a form has no reason against it
 pub has_or_error : (p : Pointer) (words : ℕ) (kind : ErrorKind) → RootHasForm p words → RootCanonicalFormError p kind → ⊥
 has_or_error p words kind has form_error = measured_exactly (PointsToTree p) (WalkErrorFrom p) (one_of_pointer p) true (Ok has.0) has.1 kind form_error
 
--- the reason is one, and so is the size
+-- there is one reason, and one size
 pub one_reason : (p : Pointer) (a b : ErrorKind) → RootCanonicalFormError p a → RootCanonicalFormError p b → a ≡ b
 one_reason p a b x y = measured_exactly (PointsToTree p) (WalkErrorFrom p) (one_of_pointer p) true (Err (record { kind = a })) x b y
 

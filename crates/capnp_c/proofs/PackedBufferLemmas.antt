@@ -1,4 +1,4 @@
--- Words that are packed and unpacked over caller-provided buffers, of which none is a device.
+-- Words that are packed and unpacked over caller-provided buffers; none of these is a device.
 use Rattle.std.proofs.Common.{◌≡◌, ◌⊎◌, ◌<◌, ℕ, List, ◌++◌, length, take, inl, inr, sym, ap, ◌∙◌, subst, arith, length-take}
 use Rattle.capnp_frame.specs.declared.error.ErrorKind.{ErrorKind}
 use Rattle.capnp_frame.specs.declared.error.ErrorKind.TheVariants.{DeviceFailed, BufferNotLargeEnough}
@@ -13,7 +13,7 @@ pub slice_chunk_error : (raw : List ℕ) (n : ℕ) (kind : ErrorKind) → (kind 
 slice_chunk_error raw n kind (inl device) failed = absurd (never_fails kind failed device)
 slice_chunk_error raw n kind (inr line) failed = line
 
--- whole words fail for want of room in the block alone
+-- whole words fail only where the block has no room
 pub block_error : (words packed : List ℕ) (kind : ErrorKind) → Packs words packed → (kind ≡ DeviceFailed) ⊎ PackedChunkError (ByKind BufferNotLargeEnough) words kind
     → (kind ≡ DeviceFailed → Fails 0 0) → kind ≡ BufferNotLargeEnough
 block_error words packed kind packs (inl device) failed = absurd (never_fails kind failed device)

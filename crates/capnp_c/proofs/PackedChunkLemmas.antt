@@ -39,7 +39,7 @@ packs_one {S} {X} sink old new chunk r packed errors failed granted grows = reco
     chunk_errors (Err e) (inl device) = inl device
     chunk_errors (Err e) (inr p) = inr (inl p)
 
--- an encoding of chunks is one of the first and one of the others
+-- an encoding of chunks is an encoding of the first and one of the others
 parted : (xs ys : List (List ℕ)) (encoding : List ℕ) → AppendsAll Packs (xs ++ ys) encoding
     → (s t : List ℕ) × AppendsAll Packs xs s × AppendsAll Packs ys t × (encoding ≡ s ++ t)
 parted [] ys encoding all = ([], encoding, refl, all, refl)

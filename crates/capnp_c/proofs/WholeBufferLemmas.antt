@@ -64,7 +64,7 @@ message_fits segments encoding block n packed short written =
     let same = chunks_once (packed_chunks segments) encoding (take n block) (encoding_of_chunks segments encoding packed) (encoding_of_chunks segments (take n block) written) in
     absurd (omega (arith, short, ap length same, length-take n block))
 
--- chunks of whole words fail for want of room in the block alone
+-- chunks of whole words fail only where the block has no room
 chunks_error : (chunks : List (List ℕ)) (encoding : List ℕ) (kind : ErrorKind) → AppendsAll Packs chunks encoding
     → ChunksError (PackedChunkError (ByKind BufferNotLargeEnough)) chunks kind → kind ≡ BufferNotLargeEnough
 chunks_error [] encoding kind all errors = absurd errors

@@ -15,14 +15,15 @@ use Rattle.capnp_c.specs.Packing.{IsMessage}
 
 -- The message at the front of the bytes is found.
 pub record FindsMessage (options : ReaderOptions) (bytes : List ℕ) (message : LinsjoarMessage) (result : ℕ) : Type 0 where
-  -- what is written where 0 is returned: its segments' number, where the first one begins, and where the last one ends
+  -- what is written where 0 is returned: how many segments it has, where the first one begins, and where the
+  -- last one ends
   pub found : result ≡ 0 → (segments : List (List ℕ)) × (rest : List ℕ) × IsAtFront options bytes segments rest
       × (message.segments ≡ length segments) × (message.start ≡ table_size (length segments)) × (message.end + length rest ≡ length bytes)
   -- 0 wherever one is there
   pub accepted : (segments : List (List ℕ)) (rest : List ℕ) → IsAtFront options bytes segments rest → result ≡ 0
   -- where none is there, the number of the reader's error
   pub errors : (kind : ErrorKind) → MessageError options bytes kind → result ≡ kind_number kind
-  -- each number that is written is 0 where another one is returned
+  -- each number that is written is 0 where anything else is returned
   pub stays : 0 < result → (message.segments ≡ 0) × (message.start ≡ 0) × (message.end ≡ 0)
 
 -- The words of one of its segments are counted.
@@ -40,7 +41,7 @@ pub record CountsSegment (options : ReaderOptions) (bytes : List ℕ) (id words 
 
 -- The bytes of the message are counted, so that a caller can step to the next one.
 pub record StepsOver (options : ReaderOptions) (bytes : List ℕ) (message_len result : ℕ) : Type 0 where
-  -- where 0 is returned, there are no bytes, or the number is how many are the message's
+  -- where 0 is returned, there are no bytes, or the number is how many the message takes
   pub found : result ≡ 0 → (bytes ≡ []) ⊎ ((segments : List (List ℕ)) × (rest : List ℕ) × IsAtFront options bytes segments rest
       × (message_len + length rest ≡ length bytes))
   -- no bytes are no message, and no error
@@ -59,7 +60,7 @@ pub record PacksMessage (options : ReaderOptions) (framed packed : List ℕ) (pa
   -- 0 where the bytes are a message, and its packed encoding has room
   pub accepted : (segments : List (List ℕ)) (encoding : List ℕ) → IsMessage options framed segments → IsPackedEncoding encoding segments
       → length encoding ≤ length packed → result ≡ 0
-  -- 2 where that has no room
+  -- 2 where there is no room for that
   pub short : (segments : List (List ℕ)) (encoding : List ℕ) → IsMessage options framed segments → IsPackedEncoding encoding segments
       → length packed < length encoding → result ≡ 2
   -- 6 where bytes follow the message
@@ -93,7 +94,7 @@ pub record MeasuresForm (options : ReaderOptions) (bytes : List ℕ) (words resu
   pub returns : ReturnsFrontForm options bytes (λ size. ⊤) result
   pub stays : 0 < result → words ≡ 0
 
--- It is written to the front of a block.
+-- The canonical form is written to the front of a block.
 pub record WritesCanonicalForm (options : ReaderOptions) (bytes block : List ℕ) (words result : ℕ) : Type 0 where
   -- what is written where 0 is returned
   pub form : (segments : List (List ℕ)) (rest : List ℕ) → IsAtFront options bytes segments rest → result ≡ 0

@@ -16,11 +16,11 @@ IsAtFront options bytes segments rest = BeginsWith (IsFrame Zero) options.traver
 abbrev pub MessageError : ReaderOptions → List ℕ → ErrorKind → Type 0
 MessageError options bytes kind = FlatError by_fields Zero options.traversal_limit_in_words kind bytes
 
--- the root of these segments, within a limit of nesting and one of words
+-- the root of these segments, within a limit of nesting and a limit of words
 abbrev pub root_within : ℤ → Option ℕ → List (List ℕ) → Pointer
 root_within nesting limit segments = record { message = message_of segments; place = Some root; nesting = nesting_of nesting; limit = limit }
 
--- and within those of the options
+-- and within the limits of the options
 abbrev pub root_by : ReaderOptions → List (List ℕ) → Pointer
 root_by options segments = root_within options.nesting_limit options.traversal_limit_in_words segments
 

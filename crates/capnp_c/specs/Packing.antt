@@ -16,13 +16,12 @@ IsMessage options bytes segments = IsAtFront options bytes segments []
 abbrev pub packed_chunks : List (List ℕ) → List (List ℕ)
 packed_chunks segments = table_first segments ∷ table_others segments ∷ segments
 
--- What is kept by a step that packs chunks into a sink, one after the other. `sink` is what is seen
--- of the sink (the members of the trait Write), `old` and `new` are the sink before the call and
--- after it.
+-- What a step that packs chunks into a sink, one after the other, keeps. `sink` is what is seen of the sink
+-- (the members of the trait Write); `old` and `new` are the sink before the call and after it.
 pub record PacksChunks {S X : Type 0} (sink : Ghosts S) (old new : S) (chunks : List (List ℕ)) (result : Result X Error) : Type 0 where
   -- where it succeeds, the packed encoding of each chunk is added
   pub packed : OnOk result (IfKnown (sink.written old) (sink.written new) (Adds (AppendsAll (AppendsPacked sink.appends) chunks)))
-  -- it fails with the device's failure, or with a kind of one of the chunks
+  -- it fails with the device's failure, or with the error of one of the chunks
   pub errors : IfErr result (λ error. (error.kind ≡ DeviceFailed) ⊎ ChunksError (PackedChunkError sink.refuses) chunks error.kind)
   -- `DeviceFailed` is returned only where the device failed
   pub failed : IfErr result (λ error. error.kind ≡ DeviceFailed → Fails (sink.failures old) (sink.failures new))

@@ -11,12 +11,12 @@ pub struct LinsjoarOptions {
     /// The most words that a message may have, and that a walk over its objects may visit.
     /// `usize::MAX` sets no limit.
     pub traversal_limit_in_words: usize,
-    /// How deep objects may be nested. A limit below 0 is as one of 0.
+    /// How deep objects may be nested. A limit below 0 is the same as 0.
     pub nesting_limit: i32,
 }
 
 impl LinsjoarOptions {
-    // As the readers take them.
+    // The limits as readers take them.
     pub(crate) fn reader_options(&self) -> ReaderOptions
         ensures { result ≡ options_of self.now }
     {

@@ -12,9 +12,9 @@ use capnp_pack::{PackedRead, PackedWrite, laws};
 
 /// Packs whole words into `encoding`, and counts the bytes that this takes.
 ///
-/// Returns 0 exactly where the words are whole ones and `encoding` has room for their packed encoding,
-/// 14 where they aren't whole words, and 2 where there is no room. What follows in `encoding` may have
-/// changed.
+/// Returns 0 exactly where the words are whole ones and `encoding` has room for their packed
+/// encoding. Returns 14 where they aren't whole words, and 2 where there is no room. What follows
+/// in `encoding` may have changed.
 #[unsafe(no_mangle)]
 pub extern "C" fn linsjoar_pack(words: &[u8], encoding: &mut [u8], written: &mut usize) -> u8
     ensures packed { result ≡ 0 → Packs words.now (take written.new encoding.new) }

@@ -76,8 +76,8 @@ fn pack_message(
 }
 
 /// Unpacks the packed message at the front of these bytes into its framed encoding. Counts the
-/// bytes of that, and the packed bytes that it takes, so that a caller can step from one message to
-/// the next.
+/// bytes of that encoding, and the packed bytes that it takes, so that a caller can step from one
+/// message to the next.
 ///
 /// Returns 2 before all else where there is no room for 8 bytes, 9 where there are no packed bytes,
 /// and else 0 or the number of the reader's error. What follows the encoding in the block may have
@@ -146,7 +146,7 @@ fn unpack_message(
     }
 }
 
-// The message that these bytes are. Where bytes follow it, fails as for a message that is cut.
+// The message that these bytes are. Fails where bytes follow it, as for a message that is cut.
 fn whole_message<'a>(framed: &'a [u8], options: ReaderOptions) -> Result<NoAllocSliceSegments<'a>>
     ensures whole { IfOk result (λ message. IsMessage options framed.now message.segments) }
     ensures few { IfOk result (λ message. length message.segments < SEGMENTS_COUNT_LIMIT) }

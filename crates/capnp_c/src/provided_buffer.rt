@@ -16,7 +16,7 @@ pub struct ProvidedBuffer<'a> {
 }
 
 impl<'a> ProvidedBuffer<'a> {
-    /// A sink into this block, of which no byte is used.
+    /// A sink into this block; no byte is used yet.
     pub fn new(block: &'a mut [u8]) -> ProvidedBuffer<'a>
         ensures same_reference { result.block.ghost_name ≡ block.entry.ghost_name }
         ensures block { result.block.now ≡ block.old }

@@ -8,11 +8,11 @@ use std::alloc::Global;
 /// Requests, their responses, and what a response has to say. Its value keeps the memory in which
 /// lists are prepared.
 pub trait Benchmark: Sized + Drop {
-    /// One with no memory yet.
+    /// A benchmark with no memory yet.
     fn new(alloc: Global) -> Self;
 
     /// Builds a request of numbers that are drawn, and returns what its response has to say. Fails
-    /// for want of memory, and as `Orphanage` does where the request does not fit into a segment.
+    /// when out of memory, and as `Orphanage` does where the request does not fit into a segment.
     fn request(&mut self, random: &mut Random, objects: &mut Orphanage) -> Result<u64>;
 
     /// Builds the response to a request. Fails where the request can't be read, and as `request`

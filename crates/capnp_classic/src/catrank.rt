@@ -116,7 +116,8 @@ fn fill_url(text: &mut String, random: &mut Random) -> Result<()> {
     Ok(())
 }
 
-// Whether the snippet has the word that is looked for, and not the one that is not.
+// Fills a snippet, and returns whether it has the word that is looked for, and not the one to
+// avoid.
 fn fill_snippet(text: &mut String, random: &mut Random) -> Result<bool> {
     let cat = random.below(8) == 0;
     let dog = random.below(8) == 0;

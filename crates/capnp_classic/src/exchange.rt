@@ -51,7 +51,7 @@ impl<B: Benchmark> Exchange<B> {
     }
 
     /// Takes new memory for the messages that come. A packed stream keeps its own, as it does in
-    /// the programs that this one is timed beside. Fails with `OutOfMemory` alone.
+    /// the programs that this one is compared with. Fails with `OutOfMemory` alone.
     pub fn renew(&mut self, mode: Mode) -> Result<()> {
         self.benchmark = B::new(self.alloc);
         self.request = Orphanage::new(self.alloc)?;
@@ -65,7 +65,7 @@ impl<B: Benchmark> Exchange<B> {
         Ok(())
     }
 
-    /// Passes a request and its response, in the memory of those before. Fails where a message
+    /// Passes a request and its response, in the memory of the ones before. Fails where a message
     /// can't be built, written or read.
     pub fn pass(&mut self, mode: Mode, random: &mut Random, tally: &mut Tally) -> Result<()> {
         self.request.clear();

@@ -4,8 +4,8 @@
 //! Its words are the benchmark, how messages are passed (`objects`, `bytes` or `packed`), whether
 //! memory is used again (`reused` or `fresh`), the seed, and how many requests are made:
 //! `capnp_classic eval packed reused 1 1000`. `all` in the place of one of the first three does
-//! each, and one that there isn't is an error. Of each it prints the sum of what the responses say
-//! and the bytes of all messages. With one word more, `write`, it writes the canonical form of each
+//! each, and an unknown one is an error. For each it prints the sum of what the responses say and
+//! the bytes of all messages. With one more word, `write`, it writes the canonical form of each
 //! message framed to standard output instead.
 #![tactic(auto)]
 
@@ -32,7 +32,7 @@ use std::env;
 use std::io::Write;
 use tally::Tally;
 
-/// How many requests are made, and of which numbers.
+/// How many requests are made, and from which seed.
 #[derive(Clone, Copy)]
 struct Run {
     mode: Mode,

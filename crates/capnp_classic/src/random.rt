@@ -1,5 +1,5 @@
-//! The numbers that all messages are made of (Marsaglia's xorshift64*), the same as those of the peers
-//! in tools/classic.
+//! The numbers that all messages are made of (Marsaglia's xorshift64*); the peers in tools/classic
+//! draw the same ones.
 ghost use Rattle.std.specs.Prelude.{◌<◌, ◌^◌};
 
 /// A source of numbers.

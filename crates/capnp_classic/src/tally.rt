@@ -1,4 +1,4 @@
-//! What is told of the messages that were passed.
+//! What is reported of the messages that were passed.
 use capnp::message::{Reader, ReaderSegments};
 use capnp::{Result, serialize};
 use std::alloc::Global;
@@ -18,7 +18,7 @@ pub struct Tally {
 }
 
 impl Tally {
-    /// That of no message.
+    /// The tally of no message.
     pub fn new(alloc: Global, writes: bool) -> Tally {
         Tally {
             alloc,

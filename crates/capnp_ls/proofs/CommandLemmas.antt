@@ -1,4 +1,4 @@
--- Words are a command's only where what follows the first are options.
+-- Words stand for a command only where the words after the first are options.
 use Rattle.std.proofs.Common.{◌≡◌, ℕ, Option, Some, None, List, ◌∷◌, map}
 use Rattle.std.specs.Prelude.{IfNone}
 use Rattle.capnp.specs.Prelude.{Padding, Zero}

@@ -36,7 +36,7 @@ ListsLengths-next ns count n shown more listed here longer =
 pub ListsLengths-whole : (ns : List ℕ) (count : ℕ) (shown : List ℕ) → ListsLengths ns count shown → None ≡ slice_get ns count → shown ≡ flat_map spaced ns
 ListsLengths-whole ns count shown listed none = listed.spelled ∙ ap (flat_map spaced) (take_all count ns (past_end ns count none))
 
--- the line of a message is that of its lengths
+-- the line of a message is the line of its lengths
 pub line_declared : (index : ℕ) (message : List (List ℕ)) (ns : List ℕ) → lengths message ≡ ns → line_of index ns ≡ line index message
 line_declared index message ns same =
     ap (line_of index) (sym same)
@@ -59,7 +59,7 @@ two_items (a ∷ []) x y some few first second = absurd (omega arith)
 two_items (a ∷ b ∷ []) x y some few first second = ap (λ z. z ∷ b ∷ []) (sym first) ∙ ap (λ z. x ∷ z ∷ []) (sym second)
 two_items (a ∷ b ∷ c ∷ cs) x y some few first second = absurd (omega arith)
 
--- and what is known of both
+-- what is known of both
 pub two_words : {X : Type 0} (f : X → List ℕ) (xs : List X) (x y : X) (a b : List ℕ) → 2 ≤ length xs → length xs < 3 → x ≡ get_or xs 0 x → y ≡ get_or xs 1 y
     → f x ≡ a → f y ≡ b → map f xs ≡ a ∷ b ∷ []
 two_words f xs x y a b some few first second p q =

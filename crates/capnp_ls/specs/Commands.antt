@@ -27,7 +27,7 @@ command_input (Listing format padding) = format
 command_input (Transcoding way padding) = way_input way
 command_input (Canonical format) = format
 
--- and of which padding
+-- and by which rule of padding
 abbrev pub padding_of : Command → Padding
 padding_of (Listing format padding) = padding
 padding_of (Transcoding way padding) = padding

@@ -9,9 +9,8 @@ use Rattle.capnp_ls.specs.declared.command.Command.TheVariants.{Listing, Transco
 abbrev pub spaced : ℕ → List ℕ
 spaced n = 32 ∷ decimal n
 
--- The line for a message: its index, the number of its segments, the words of all of them, the
--- words of each. Numbers are decimal; a space (32) separates them, and a newline (10) ends the
--- line.
+-- The line for a message: its index, the number of its segments, the words of all of them, the words of each.
+-- Numbers are decimal; a space (32) separates them, and a newline (10) ends the line.
 abbrev pub line : ℕ → List (List ℕ) → List ℕ
 line index segments = decimal index ++ spaced (length segments) ++ spaced (size_in_words segments) ++ flat_map spaced (lengths segments) ++ 10 ∷ []
 
@@ -23,8 +22,8 @@ line_of index ns = decimal index ++ spaced (length ns) ++ spaced (sum ns) ++ fla
 abbrev pub PrintsForm : Appending → Writing
 PrintsForm appends index segments output = AppendsForm (default_root segments) appends output
 
--- What a sink adds for the message of this index: its line; its chunks, packed or as they are; or
--- the chunks of its canonical form.
+-- What a sink adds for the message of this index: its line; its chunks, packed or plain; or the chunks of its
+-- canonical form.
 abbrev pub Prints : Command → Appending → Writing
 Prints (Listing format padding) appends index segments output = appends (line index segments) output
 Prints (Transcoding way padding) appends index segments output = Transcodes way appends index segments output
@@ -39,9 +38,9 @@ FormErrors appends leaves refuses = record {
   leaves = λ index segments. LeavesForm (default_root segments) appends leaves;
 }
 
--- and how printing for this message may fail: it has no canonical form, or the sink fails for a
--- chunk of what is printed. Memory is taken for a line and for a form; of these the sink is left
--- with nothing, or with what it leaves of a chunk.
+-- and how printing for this message may fail: it has no canonical form, or the sink fails for a chunk of what
+-- is printed. Memory is taken for a line and for a form; then the sink is left with nothing, or with what it
+-- leaves of a chunk.
 abbrev pub PrintedErrors : Command → Appending → Leaving → Declining → WritingErrors
 PrintedErrors (Listing format padding) appends leaves refuses = record {
   message_error = λ index segments kind. ⊥;

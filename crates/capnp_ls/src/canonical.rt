@@ -8,7 +8,7 @@ use capnp::streams::MessageWriter;
 use capnp::{Result, serialize};
 use std::alloc::Global;
 
-/// What writes the canonical form of each message, framed.
+/// Writes the canonical form of each message, framed.
 #[derive(Clone, Copy)]
 pub struct CanonicalForm;
 

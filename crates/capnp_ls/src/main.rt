@@ -58,7 +58,7 @@ fn run_on<R: Read, W: Write>(rt: HostRuntime, input: &mut R, output: &mut W) -> 
 /// Hands what is in the buffer to the device, whatever the run returned.
 ///
 /// If the run itself stopped, that stays the result. A failed flush is reported at message 0, since
-/// it is not known how many messages' output it held back.
+/// it is not known for how many messages it held back output.
 fn flush_after<W: Write + Drop>(
     returned: Result<(), Stop>,
     sink: &mut Output<W>,
@@ -80,7 +80,7 @@ fn flush_after<W: Write + Drop>(
     }
 }
 
-/// The status that the program ends with: 0, or that of its stop.
+/// The status that the program ends with: 0, or the status of its stop.
 fn exit_code(returned: &Result<(), Stop>) -> ExitCode
     ensures done { OnOk returned.now (exit_status result ≡ 0) }
     ensures errors { IfErr returned.now (λ stop. exit_status result ≡ status_of stop) }
@@ -100,8 +100,8 @@ fn words(rt: HostRuntime) -> io::Result<Vec<String>> {
     Ok(words)
 }
 
-/// Without memory for the words the program stops at the start; a word that isn't UTF-8 is no word
-/// of a command.
+/// Where there is no memory for the words, the program stops at the start; a word that isn't UTF-8
+/// is no word of a command.
 fn stop_without_words(error: io::Error) -> Stop
     ensures memory { IsOutOfMemory error →
         IsAtStart result ErrorKind.OutOfMemory }

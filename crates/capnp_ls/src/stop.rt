@@ -36,7 +36,7 @@ impl Stop {
 /// Writes the stop as one line, in one chunk.
 ///
 /// Fails as the sink does for that chunk, or with `OutOfMemory` where there is no memory for the
-/// line, which that of the usage doesn't take.
+/// line; the line of the usage takes none.
 pub fn report<W: Write>(alloc: Global, stop: &Stop, sink: &mut W) -> Result<()>
     ensures line { OnOk result (IfKnown (W.written sink.old) (W.written sink.new)
         (Adds (λ added. (line : List ℕ) × IsLineOf stop.now line × W.appends line added))) }

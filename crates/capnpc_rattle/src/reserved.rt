@@ -2,7 +2,8 @@
 use crate::imports::is_definition;
 
 /// Words that are no names of modules: words of the language, crates that the code names, and what
-/// the module of a struct has in addition to the modules of groups and of what is declared in it.
+/// else the module of a struct declares, apart from the modules of groups and of declarations in
+/// it.
 const MODULES: &[&str] = &[
     "abstract",
     "any_pointer",

@@ -11,7 +11,7 @@ pub enum Output {
 }
 
 impl Output {
-    /// One to which nothing was added.
+    /// An output to which nothing was added.
     pub fn new(alloc: Global, writes: bool) -> Output {
         if writes {
             Output::Stream(Vec::new(alloc))

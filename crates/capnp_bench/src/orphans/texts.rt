@@ -1,4 +1,4 @@
-//! A list of texts, of which some are null.
+//! A list of texts; some of them are null.
 use crate::orphans::{Benchmark, Output};
 use crate::random::Random;
 use capnp::{Result, text};

@@ -1,6 +1,6 @@
-//! Where a run stops whose sink fails within it, which `main` sees after a long output alone: there
-//! a buffer is before the device. `tools/try-program` shows what runs print, and where they stop
-//! else.
+//! Where a run stops if its sink fails within it. `main` sees this only after a long output, since
+//! a buffer is before its device. `tools/try-program` shows what runs print, and where else they
+//! stop.
 use crate::program::run;
 use crate::stop::Stop;
 use capnp::Result;
@@ -124,7 +124,7 @@ fn fails_there(alloc: Global, case: &Case) -> Result<bool> {
     Ok(is_taken && stop == Some((case.message, 13)))
 }
 
-// A slice of 40 bytes takes one form of 32, and the table of another.
+// A slice of 40 bytes takes one form of 32 bytes, and the table of another form.
 #[test]
 fn a_form_without_room_fails_at_its_message(rt: HostRuntime) -> Result<()> {
     let mut room = [0; 40];

@@ -1,4 +1,4 @@
--- The digits from `at` on follow those of what is left.
+-- The digits from `at` on follow the digits of what is left.
 use Rattle.std.proofs.Common.{◌≡◌, ◌++◌, ◌<◌, ◌≤◌, ◌^◌, length, drop}
 use Rattle.std.specs.Prelude.{decimal}
 use Rattle.capnp_ls.proofs.listing.push_decimal.Given as goal

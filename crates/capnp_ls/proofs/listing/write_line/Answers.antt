@@ -1,4 +1,4 @@
--- Each turn lists one more length, and the last line has them all.
+-- Each turn lists one more length; at the end the line has them all.
 use Rattle.std.proofs.Common.{arith, rules, refl, [], ◌++◌, ◌+◌, ◌≡◌, ◌<◌, ◌∙◌, ap, append_assoc, sym, length, List, ℕ}
 use Rattle.std.specs.Prelude.{decimal}
 use Rattle.std.proofs.lemmas.List.{append-nil}

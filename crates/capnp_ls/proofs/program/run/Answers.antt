@@ -1,4 +1,4 @@
--- The words are those of one command.
+-- The words are the words of one command.
 use Rattle.std.proofs.Common.{rules, ◌≡◌, Ok, Err, subst}
 use Rattle.capnp.specs.Prelude.{WritesEach, default_limit}
 use Rattle.capnp_ls.specs.declared.command.Command.{Command}

@@ -1,4 +1,4 @@
--- What is left of the line is left of a line of the stop.
+-- What is left of the line is left of a line that reports the stop.
 use Rattle.capnp_ls.specs.Stop.{IsLineOf}
 use Rattle.capnp_ls.proofs.LineLemmas.{line_left}
 use Rattle.capnp_ls.proofs.stop.report.Goals as goal

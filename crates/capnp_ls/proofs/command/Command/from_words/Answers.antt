@@ -1,4 +1,4 @@
--- Where what follows the first word are no options, the words are no command's.
+-- Where the words after the first are no options, the words stand for no command.
 use Rattle.std.proofs.Common.{string_bytes}
 use Rattle.capnp_ls.proofs.CommandLemmas.{no_command}
 use Rattle.capnp_ls.proofs.command.Command.from_words.Goals as goal
