@@ -22,8 +22,7 @@ use std::alloc::{AllocError, Global};
 /// `depth` says how many structs and lists may be within one another; the struct is the first of
 /// them, and a group counts as none. Deeper ones are not read: a struct is shown as `(..)` and a
 /// list as `[..]`. Where the target of a pointer can't be read, or goes past the limits of its
-/// reader, its error is shown in its place, as `<PointerOutOfBounds>`, and the text goes on after
-/// it.
+/// reader, the text has its error, as `<PointerOutOfBounds>`, and goes on after it.
 ///
 /// Fails only when out of memory.
 pub fn to_text<S: ReaderSegments>(

@@ -1,4 +1,4 @@
--- Bytes of an input that were looked at.
+-- The bytes of an input that were looked at.
 use Rattle.std.proofs.Common.{ℕ, List, ◌++◌, Option, ap, ◌∙◌, append_assoc}
 use Rattle.std.specs.Io.KnownBytes.{Consumes}
 use Rattle.std.proofs.KnownBytes.{Consumes-trans}

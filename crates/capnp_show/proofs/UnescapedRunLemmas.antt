@@ -89,7 +89,7 @@ pub plain_marked : (bytes : List ℕ) → IsUtf8 bytes → All IsPlainByte bytes
 plain_marked bytes utf8 all = subst (AreMarked (chars bytes)) (encodes-chars bytes utf8)
     (run_marked (chars bytes) (subst (All IsPlainByte) (sym (encodes-chars bytes utf8)) all))
 
--- a run, and one more character
+-- a run, and then another character
 pub escaped_more : (shown bytes plain : List ℕ) (c : ℕ) (e : Escape) → AreJsonEscaped shown bytes → IsUtf8 plain → All IsPlainByte plain → IsJsonEscapeOf c e
     → AreJsonEscaped ((shown ++ chars plain) ++ c ∷ []) ((bytes ++ plain) ++ json_escaped c e)
 escaped_more shown bytes plain c e before utf8 all is =

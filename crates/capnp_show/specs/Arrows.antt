@@ -1,5 +1,6 @@
--- Where the cells of a drawing are, and the arrows between them, in pixels (src/arrows.rt): cells of 132 by 26 are four in a
--- row, with gaps of 40 between columns and of 14 between rows, right of a number of the row.
+-- Where the cells of a drawing are, and the arrows between them, in pixels (src/arrows.rt). There are four
+-- cells of 132 by 26 in a row, right of the row's number. The gaps between columns are 40 wide, the ones
+-- between rows 14 high.
 use Rattle.std.specs.Prelude.{◌≡◌, ◌⊎◌, ◌==◌, if◌then◌else◌, ℕ, ◌+◌, ◌-◌, ◌*◌, ◌/◌, ◌%◌, ◌^◌, min, List, [], ◌∷◌, ◌++◌, length, Vec, Some, None, slice_get, codes}
 use Rattle.capnp_layout.specs.declared.place.Place.{Place}
 use Rattle.capnp_show.specs.declared.arrows.Corner.{Corner}
@@ -37,8 +38,9 @@ abbrev pub arrow_front : ℕ → Corner → List ℕ
 arrow_front number from = with_number (codes "<path class=\"c") (number % 9)
     ++ (with_number (codes "\" d=\"M") (plus from.left 132) ++ with_number (codes " ") (plus from.top 13))
 
--- its turns in the gaps: arrows side by side in a gap lie three pixels apart, by the row where they begin in the gap after a
--- column, of which there are eight lanes, and by the column where they end in the gap above a row
+-- its turns in the gaps, where arrows next to each other are three pixels apart. In the gap after a column
+-- the row where they begin chooses one of eight lanes; in the gap above a row, the column where they end
+-- does.
 abbrev pub turns_of : Corner → Corner → List ℕ
 turns_of from to = with_number (codes "H") (plus (plus from.left 132) (4 + from.top / 40 % 8 * 3))
     ++ (with_number (codes "V") (to.top - (3 + to.left / 172 % 4 * 3)) ++ (with_number (codes "H") (to.left - 9) ++ with_number (codes "V") (plus to.top 13)))
@@ -47,7 +49,7 @@ turns_of from to = with_number (codes "H") (plus (plus from.left 132) (4 + from.
 abbrev pub arrow_head : Corner → List ℕ
 arrow_head to = with_number (codes "H") (to.left - 2) ++ codes "m-5 -3l5 3l-5 3\"/>"
 
--- the turns of an arrow, of which one to the next cell of its row has none
+-- the turns of an arrow; an arrow to the next cell of its row has none
 abbrev pub turns_between : Corner → Corner → List ℕ
 turns_between from to =
     if from.top == to.top then (if to.left == plus (plus from.left 132) 40 then [] else turns_of from to) else turns_of from to

@@ -13,7 +13,7 @@ use Rattle.capnp_show.specs.declared.detected.Look.TheVariants.{Is, More}
 abbrev pub IsPrematureEnd : ErrorKind → Type 0
 IsPrematureEnd kind = (kind ≡ EmptyBuffer) ⊎ ((wanted : ℕ) × (there : ℕ) × (kind ≡ MessageEndsPrematurely wanted there))
 
--- how the messages are read that are looked for: framed, within the limit of words
+-- how the messages that are looked for are read: framed, within the limit of words
 abbrev pub framed_within : Option ℕ → FlatRules
 framed_within limit = no_alloc_rules Zero limit
 
@@ -29,7 +29,7 @@ pub record EndsWithin (limit : Option ℕ) (front : List ℕ) : Type 0 where
   pub errors : RulesError (framed_within limit) kind front
   pub cut : IsPrematureEnd kind
 
--- no framed message begins so
+-- no framed message begins with these bytes
 pub record Differs (limit : Option ℕ) (front : List ℕ) : Type 0 where
   pub kind : ErrorKind
   pub errors : RulesError (framed_within limit) kind front
@@ -39,20 +39,22 @@ pub record Differs (limit : Option ℕ) (front : List ℕ) : Type 0 where
 abbrev pub Begins : Option ℕ → List ℕ → Type 0
 Begins limit front = HasMessage limit front ⊎ EndsWithin limit front
 
--- What some bytes say, of which `enough` are enough to tell: they are framed where a message is there or may follow, packed where
--- none begins so, and they say nothing yet where they are few and end within what may be one.
+-- What some bytes say; `enough` bytes are enough to tell. They are framed where a message is there or may
+-- follow, and packed where no message begins with them. They say nothing yet where they are few and end
+-- within what may be a message.
 abbrev pub Says : ℕ → Option ℕ → List ℕ → Look → Type 0
 Says enough limit front (Is Framed) = HasMessage limit front ⊎ (EndsWithin limit front × (enough ≤ length front))
 Says enough limit front (Is Packed) = Differs limit front
 Says enough limit front More = EndsWithin limit front × (length front < enough)
 
--- The bytes that are added to a front, from `old` to `new`, are the next ones of an input, where it is known what that has.
+-- The bytes that are added to a front, from `old` to `new`, are the next ones of an input, where its bytes
+-- are known.
 pub record Takes (old new : List ℕ) (before after : Option (List ℕ)) : Type 0 where
   pub added : List ℕ
   pub front_is : new ≡ old ++ added
   pub taken : Consumes before after added
 
--- The format in which an input is read that has these bytes at its front, and `after` follows them: what they say, or framed where
--- they end, with the input, within what may be a framed message.
+-- The format in which an input with these bytes at its front is read, and `after` follows them. It is what
+-- they say, or framed where they end, with the input, within what may be a framed message.
 abbrev pub TellsFormat : ℕ → Option ℕ → List ℕ → Option (List ℕ) → Format → Type 0
 TellsFormat enough limit front after format = Says enough limit front (Is format) ⊎ ((format ≡ Framed) × EndsWithin limit front × IsAtEnd after)

@@ -9,7 +9,7 @@ use Rattle.capnp_wire.specs.Prelude.{IsCanonicalForm}
 use Rattle.capnp_show.specs.declared.hash.Hash.{Hash}
 use Rattle.capnp_show.specs.declared.hash.Hash.TheVariants.{Of, WithoutForm}
 
--- some bytes hash to this, which are the words of the canonical form, and no more
+-- this is the hash of some bytes, which are the words of the canonical form, and no more
 pub record IsHashOf (pointer : Pointer) (hash : List ℕ) : Type 0 where
   pub bytes : List ℕ
   pub form : IsCanonicalForm pointer (words_of bytes)

@@ -48,7 +48,8 @@ pointers_run run start size nesting = record {
 abbrev pub IsSpent : NodeRun → Type 0
 IsSpent run = run.count ≤ run.index
 
--- the places of the pointers that some nodes of a run have from its next one on: the nodes themselves, or those in elements
+-- the places of the pointers that some nodes of a run have, from its next one on: the nodes themselves, or
+-- the pointers of elements
 abbrev pub places_of_pointers : NodeRunKind → Place → ℕ → List Place
 places_of_pointers Root next count = places next.segment next.word count
 places_of_pointers Pointers next count = places next.segment next.word count
@@ -59,8 +60,8 @@ abbrev pub children_by : Object → List Place → Type 0
 children_by object children = (words : List ℕ) → object.start.word + room_of object.body < 2 ^ 61
     → children ≡ (shape_of words object.start object.body).children
 
--- The nodes below an object that a run leads to, one deeper: its pointers, or elements that together have just these; none where it has
--- no pointers.
+-- The nodes below an object that a run leads to, one deeper: its pointers, or elements that together have
+-- just these pointers. There are none where it has no pointers.
 pub record IsRunBelow (run : NodeRun) (object : Object) (below : NodeRun) : Type 0 where
   pub first : below.index ≡ 0
   pub depth : below.depth ≡ min (run.depth + 1) (2 ^ 64 - 1)
@@ -91,22 +92,23 @@ pub record IsNodeOf (segments : List (List ℕ)) (run : NodeRun) (left : Option 
   pub element : (size : StructSize) → run.kind ≡ Elements size → node.found ≡ Element run.next size
   pub found : ((size : StructSize) → run.kind ≡ Elements size → ⊥) → Finds segments run.next run.nesting left node.found
 
--- The runs that are left once something is found at the node of a run: those before, and the one below what is found; none
--- where the limit of words ends the walk.
+-- The runs that are left once something is found at the node of a run: the ones before, and the one below
+-- what is found; none where the limit of words ends the walk.
 abbrev pub LeavesRuns : NodeRun → Found → List NodeRun → List NodeRun → Type 0
 LeavesRuns run Null runs left = left ≡ runs
 LeavesRuns run (AnObject object) runs left = (below : Option NodeRun) × IsBelow run object below × (left ≡ runs ++ option_to_list below)
 LeavesRuns run (Element start size) runs left = left ≡ runs ++ pointers_run run start size run.nesting ∷ []
 LeavesRuns run (Unread kind) runs left = (kind ≡ ReadLimitExceeded → left ≡ []) × (kind ≢ ReadLimitExceeded → left ≡ runs)
 
--- and the words that are left: an object's are taken off
+-- and the words that are left: the words of an object are taken off
 abbrev pub LeavesWords : Found → Option ℕ → Option ℕ → Type 0
 LeavesWords Null words left = left ≡ words
 LeavesWords (AnObject object) words left = left ≡ option_map (λ most. most - object_traversed object) words
 LeavesWords (Element start size) words left = left ≡ words
 LeavesWords (Unread kind) words left = kind ≢ ReadLimitExceeded → left ≡ words
 
--- A node comes of some runs: the next one of the last run of which one is left. Of the runs and words before it leaves some.
+-- A node comes of some runs: the next node of the last run that has one left. It leaves some of the runs and
+-- words before it.
 pub record Comes (segments : List (List ℕ)) (runs : List NodeRun) (words : Option ℕ) (node : Node) (runs_left : List NodeRun)
     (words_left : Option ℕ) : Type 0 where
   pub before : List NodeRun

@@ -28,7 +28,7 @@ object_traversed object = landing_pad_words object.far + traversed_of object.bod
 abbrev pub further : Place → ℕ → Place
 further place words = record { segment = place.segment; word = min (place.word + words) (2 ^ 64 - 1) }
 
--- The object to which the pointer at a place leads: as a reader finds it.
+-- The object that the pointer at a place leads to, as a reader finds it.
 pub record IsFoundObject (segments : List (List ℕ)) (place : Place) (object : Object) : Type 0 where
   pub landing : Target
   pub lands : Lands (message_of segments) place landing
@@ -42,6 +42,6 @@ pub record IsFoundObject (segments : List (List ℕ)) (place : Place) (object : 
   -- its landing pad is where the pointer says
   pub far_pointer : IfSome object.far (λ far. (word : ℕ) × (word_at (message_of segments) place ≡ Some word) × IsFarPointer word far)
 
--- the pointer at a place leads to no object, for this reason, at whatever nesting depth left
+-- the pointer at a place leads to no object, for this reason, at any nesting depth left
 abbrev pub PlaceError : List (List ℕ) → Place → ErrorKind → Type 0
 PlaceError segments place kind = (nesting : ℕ) → 0 < nesting → PointerError (message_of segments) place nesting kind

@@ -27,15 +27,15 @@ use Rattle.capnp_layout.specs.declared.object.Body.TheVariants.{Struct, Numbers,
 abbrev pub IsControl : ℕ → Type 0
 IsControl character = (character ≤ 31) ⊎ ((127 ≤ character) × (character ≤ 159))
 
--- The characters that JSON has a letter for (RFC 8259, section 7), and that letter: the quotation mark and the backslash are
--- for themselves, a line feed is n, a carriage return r, a tab t.
+-- The characters that JSON has a letter for (RFC 8259, section 7), and that letter. The quotation mark and
+-- the backslash have themselves; a line feed is n, a carriage return r, a tab t.
 abbrev pub HasJsonLetter : ℕ → ℕ → Type 0
 HasJsonLetter character letter =
     ((character ≡ 34) × (letter ≡ 34)) ⊎ ((character ≡ 92) × (letter ≡ 92)) ⊎ ((character ≡ 10) × (letter ≡ 110))
     ⊎ ((character ≡ 13) × (letter ≡ 114)) ⊎ ((character ≡ 9) × (letter ≡ 116))
 
--- How a character is shown within quotation marks: one way for each. A control character that has no letter is shown by its
--- number, and what is neither is shown as it is.
+-- How a character is shown within quotation marks: one way for each. A control character that has no letter
+-- is shown by its number, and any other character as itself.
 abbrev pub IsJsonEscapeOf : ℕ → Escape → Type 0
 IsJsonEscapeOf character Plain = (IsControl character → ⊥) × (character ≢ 34) × (character ≢ 92)
 IsJsonEscapeOf character (Letter letter) = HasJsonLetter character letter
@@ -120,7 +120,7 @@ abbrev pub listed_members : Listed → List ℕ
 listed_members listed = member (codes "index") listed.index ++ (member (codes "offset") listed.offset
     ++ (member (codes "bytes") listed.bytes ++ (member (codes "segments") listed.segments ++ member (codes "words") listed.words)))
 
--- the name of a message in a page, and that of one of its words
+-- the name of a message in a page, and the name of one of its words
 abbrev pub message_name : Anchor → List ℕ
 message_name anchor = with_number (codes "m") anchor.input ++ with_number (codes "-") anchor.message
 
@@ -143,7 +143,7 @@ owner_classes Free = codes "free"
 owner_classes Root = codes "pointer root"
 owner_classes (Object number role) = role_class role ++ (with_number (codes " o") number ++ with_number (codes " c") (number % 9))
 
--- and that of a null pointer, and of a pointer that is not followed
+-- and the class of a null pointer, and of a pointer that is not followed
 abbrev pub null_class : Owner → Lead → List ℕ
 null_class Root Null = codes " null"
 null_class (Object number PointerRole) Null = codes " null"
@@ -156,7 +156,7 @@ error_class (Some kind) = codes " refused"
 abbrev pub word_classes : Word → List ℕ
 word_classes word = owner_classes word.owner ++ (null_class word.owner word.lead ++ error_class word.error)
 
--- what is said of a word whose pointer is followed: where it is, and its role in which object
+-- what is said of a word whose pointer is followed: where it is, its role, and in which object
 abbrev pub role_name : Role → List ℕ
 role_name Data = codes "data"
 role_name PointerRole = codes "pointer"

@@ -13,8 +13,7 @@ use Rattle.capnp_show.specs.declared.owners.Word.{Word}
 use Rattle.capnp_show.specs.declared.owners.Owners.{Owners}
 use Rattle.capnp_show.specs.Objects.{words_of_struct}
 
--- the word is a pointer of one of some structs, by how many words it comes after the first one's
--- start
+-- the word is a pointer of one of some structs, by how many words it comes after the start of the first one
 pub record IsPointerOfElement (size : StructSize) (count index : ℕ) : Type 0 where
   pub element : ℕ
   pub among : element < count

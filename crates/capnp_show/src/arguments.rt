@@ -88,7 +88,7 @@ struct NumberEntry {
     help: &'static str,
 }
 
-// How much is read of it.
+// How much of it is read.
 const NUMBERS: [NumberEntry; 3] = [
     NumberEntry {
         name: "first",
@@ -136,8 +136,8 @@ fn flagged<'a>(alloc: Global, command: Command<'a>) -> Result<Command<'a>, Alloc
     with_flags(alloc, command, &FLAGS)
 }
 
-// The command with these further flags. It is returned at once, since each `?` drops what is made
-// already.
+// The command with these further flags. It is returned at once, since each `?` drops what is
+// already made.
 fn with_flags<'a>(
     alloc: Global,
     command: Command<'a>,

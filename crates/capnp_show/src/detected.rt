@@ -15,7 +15,7 @@ use std::alloc::AllocError;
 use std::io;
 use std::io::Read;
 
-/// How many bytes are enough to decide: more than a whole segment table has.
+/// How many bytes are enough to decide; a whole segment table has fewer.
 const FRONT_BYTES: usize = 4096;
 
 /// What the bytes at the front of an input say.
@@ -26,7 +26,7 @@ pub enum Look {
     More,
 }
 
-/// What the bytes at the front of an input say: it is framed where they are a segment table whose
+/// What the bytes at the front of an input say. It is framed where they are a segment table whose
 /// segments are within the limit of words, and are there or may follow.
 pub fn look_at(front: &[u8], limits: ReaderOptions) -> Look
     ensures { Says FRONT_BYTES limits.traversal_limit_in_words front.now result }
@@ -47,9 +47,9 @@ pub fn look_at(front: &[u8], limits: ReaderOptions) -> Look
 }
 
 /// Reads bytes of a device into `front` until they say which format its messages have, or the
-/// device ends; where it fails before that, its error. An interrupted read is tried again. Bytes
-/// that begin a framed message within the limit of words are framed, also where they end too early;
-/// only bytes that begin none are packed.
+/// device ends. Returns the device's error where it fails before that. An interrupted read is tried
+/// again. Bytes that begin a framed message within the limit of words are framed, even where they
+/// end too early; only bytes that begin none are packed.
 pub fn detect<D: Read>(
     device: &mut D,
     front: &mut Vec<u8>,

@@ -67,7 +67,7 @@ pub fn colour_of(number: u64) -> u64
     number % COLOURS
 }
 
-/// Adds a row of words, the first of which is at this place.
+/// Adds a row of words; the first word is at this place.
 pub fn push_row(
     markup: &mut String,
     drawn: Drawn<'_>,
@@ -107,8 +107,8 @@ fn push_cell(
     markup.push_str("</td>")
 }
 
-// Adds the link of a word that leads to the word at which an object begins, with its arrow, so that
-// a mouse over one of the two is over both.
+// Adds the link of a word that leads to the first word of an object, with its arrow, so that a
+// mouse over one of the two is over both.
 fn push_link(
     markup: &mut String,
     drawn: Drawn<'_>,
@@ -178,7 +178,7 @@ fn push_not_followed(markup: &mut String, word: &Word) -> Result<(), AllocError>
     Ok(())
 }
 
-// Adds what is said of a word: why its pointer is not followed, or where it is, and its role in
+// Adds what is said of a word: why its pointer is not followed, or where it is, its role, and in
 // which object.
 fn push_title(markup: &mut String, place: Place, word: &Word) -> Result<(), AllocError>
     ensures { word.now.error ≡ None → OnOk result
@@ -203,7 +203,7 @@ fn push_where(markup: &mut String, place: Place) -> Result<(), AllocError>
     markup.push_str(", ")
 }
 
-// Adds the role of a word in which object.
+// Adds the role of a word, and in which object.
 fn push_owner_name(markup: &mut String, owner: Owner) -> Result<(), AllocError>
     ensures { OnOk result (string_bytes markup.new ≡ string_bytes markup.old ++ owner_name owner) }
 {
@@ -223,7 +223,7 @@ fn push_owner_name(markup: &mut String, owner: Owner) -> Result<(), AllocError>
     }
 }
 
-// Adds where a word leads that is drawn as a pointer.
+// Adds where a word that is drawn as a pointer leads.
 fn push_lead(markup: &mut String, word: &Word) -> Result<(), AllocError>
     ensures { OnOk result (string_bytes markup.new
         ≡ string_bytes markup.old ++ drawn_lead word.now.owner word.now.lead) }

@@ -53,10 +53,10 @@ pub fn push_error(output: &mut String, kind: ErrorKind) -> Result<(), AllocError
     write!(output, "refused, since {said} ({kind})")
 }
 
-/// Why the messages of an input are not shown to its end.
+/// Why the messages of an input are not all shown.
 #[derive(Drop)]
 pub enum Stop {
-    /// Reading the message of this index failed, whose first byte is at this offset.
+    /// Reading the message of this index failed; its first byte is at this offset.
     Unread {
         index: u64,
         offset: u64,

@@ -17,8 +17,8 @@ use std::{fs, io};
 
 /// Shows the messages of the files of these names, or of standard input where none is named.
 ///
-/// It returns whether all were read to their ends. Where what is shown can't be written, it fails,
-/// and reads no further.
+/// Returns whether all were read to their ends. Where output can't be written, it fails, and reads
+/// no further.
 pub fn show_files<W: Write>(
     rt: HostRuntime,
     settings: Settings,
@@ -114,7 +114,7 @@ fn say_unopened(rt: HostRuntime, name: &str, error: &io::Error) -> Result<()> {
     Ok(())
 }
 
-// Shows the name of an input where a page is shown.
+// Shows the name of an input, if a page is shown.
 fn show_name<W: Write>(rt: HostRuntime, showing: Showing<'_>, sink: &mut W) -> Result<()> {
     if !matches!(showing.settings.form, Form::Html) {
         return Ok(());

@@ -62,7 +62,7 @@ pub fn push_large(markup: &mut String) -> Result<(), AllocError>
     markup.push_str("<p class=\"large\">A message of more than 4096 words is not drawn.</p>\n")
 }
 
-/// Adds why a root pointer for which there is no word is not followed.
+/// Adds why the root pointer is not followed, where there is no word for it.
 pub fn push_no_root(markup: &mut String, kind: ErrorKind) -> Result<(), AllocError> {
     markup.push_str("<p class=\"refused\">root: ")?;
     push_error(markup, kind)?;

@@ -92,7 +92,8 @@ fn convert<W: Write>(
     requires whole { AllByRecursion IsWholeWords message.now }
     ensures written { OnOk result (IfKnown (W.written sink.old) (W.written sink.new)
         (Adds (Transcodes way W.appends index message.now))) }
-    // It fails only as the writer of that format does, and leaves of the message what that leaves.
+    // It fails only as the writer of that format does, and leaves of the message what the writer
+    // leaves.
     ensures errors { IfErr result (λ error. WritingError
         (TranscodedErrors way W.appends W.leaves W.refuses) index message.now error.kind) }
     ensures failed { IfErr result (λ error. error.kind ≡ ErrorKind.DeviceFailed →
@@ -120,7 +121,7 @@ fn say_progress(
     Ok(())
 }
 
-/// Reads the next message of a stream of this format, of zero padding.
+/// Reads the next message of a stream of this format, with zero padding.
 fn next_message<R: BufRead>(
     alloc: Global,
     source: &mut R,
@@ -146,7 +147,7 @@ fn listed<S: ReaderSegments>(index: u64, offset: u64, bytes: u64, segments: &S) 
     }
 }
 
-// How many segments a message has, `SEGMENTS_COUNT_LIMIT` at most, and the words of these.
+// How many segments a message has, `SEGMENTS_COUNT_LIMIT` at most, and how many words these have.
 fn segments_and_words<S: ReaderSegments>(segments: &S) -> (u64, u64)
     ensures segments { result.0 ≡ min (length (S.segments segments.now)) SEGMENTS_COUNT_LIMIT }
     ensures words { result.1

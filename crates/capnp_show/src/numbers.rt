@@ -9,8 +9,8 @@ use std::str::from_utf8;
 
 /// Adds a number in decimal digits.
 ///
-/// A page has several numbers for each word, so most numbers are added without a formatter, and
-/// those of one digit, which are the most, without a buffer either.
+/// A page has several numbers for each word, so most numbers are added without a formatter. Numbers
+/// of one digit, which are the most frequent, are added without a buffer, too.
 pub fn push_decimal(output: &mut String, number: u64) -> Result<(), AllocError>
     ensures { OnOk result (string_bytes output.new ≡ string_bytes output.old ++ decimal number) }
 {

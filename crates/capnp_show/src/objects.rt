@@ -69,8 +69,8 @@ pub fn words_of_landing_pad(far: FarPointer) -> u64
 }
 
 impl Object {
-    /// The number of words from its start on; a list of structs may have more than its elements
-    /// need.
+    /// The number of words from its start on. A list of structs may have more words than its
+    /// elements need.
     pub fn words(&self) -> u64
         ensures { result ≡ room_of self.now.body }
     {
@@ -80,7 +80,7 @@ impl Object {
         }
     }
 
-    /// The number of words that count against the limit, with those of the landing pad.
+    /// The number of words that count against the limit, with the words of the landing pad.
     pub fn traversed(&self) -> u64
         ensures { result ≡ object_traversed self.now }
     {

@@ -6,10 +6,10 @@ use crate::errors::named_line;
 use std::alloc::{AllocError, Global};
 use std::fmt::Write;
 
-/// After how many bytes a line is due each time.
+/// After how many bytes each further line is due.
 pub const STEP_BYTES: u64 = 64_000_000;
 
-// The number of bytes of a MB.
+// How many bytes are a MB.
 const MEGABYTE: u64 = 1_000_000;
 
 /// How far the reading of an input is.
@@ -22,8 +22,8 @@ pub struct Progress {
 }
 
 impl Progress {
-    /// The progress of an input of this many bytes, if the number is known, of which nothing is
-    /// read yet. No line is due for an input of at most `STEP_BYTES`, nor where none is wanted.
+    /// The progress of an input of this many bytes, if the number is known, with nothing read yet.
+    /// No line is due for an input of at most `STEP_BYTES`, or where none is wanted.
     pub fn new(is_wanted: bool, total: Option<u64>) -> Progress
         ensures due { IsSome result.next
             ↔ (IsTrue is_wanted × IfSome total (λ bytes. STEP_BYTES < bytes)) }

@@ -35,7 +35,7 @@ pub fn push_run(output: &mut String, run: &str) -> Result<(), AllocError>
     output.push_str(run)
 }
 
-// How many bytes there are in front of the first one that is not plain.
+// How many bytes there are in front of the first byte that is not plain.
 fn plain_length(bytes: &[u8]) -> usize
     ensures within { result ≤ length bytes.now }
     ensures plain { All IsPlainByte (take result bytes.now) }

@@ -7,11 +7,11 @@ use capnp::message::ReaderOptions;
 pub enum Reading {
     Framed,
     Packed,
-    /// The one that the bytes at the front have.
+    /// The format that the bytes at the front have.
     Detected,
 }
 
-/// In which form messages are shown.
+/// The form in which messages are shown.
 #[derive(Clone, Copy)]
 pub enum Form {
     /// A line for each message, and what was asked for below it.

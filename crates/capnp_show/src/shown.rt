@@ -18,7 +18,7 @@ use capnp::message::{Reader, ReaderSegments};
 use capnp::streams::Format;
 use std::alloc::Global;
 
-// From how many bytes on output is written to the sink.
+// Output of this many bytes or more is written to the sink.
 const OUTPUT_BYTES: usize = 32768;
 
 /// How an input is shown.
@@ -192,7 +192,7 @@ fn show_node<S: ReaderSegments, W: Write>(
     write_full(output, sink)
 }
 
-/// Writes output that has grown to `OUTPUT_BYTES`, and clears it; shorter output is left as it is.
+/// Writes output that has grown to `OUTPUT_BYTES`, and clears it; shorter output is left unchanged.
 pub fn write_full<W: Write>(output: &mut String, sink: &mut W) -> Result<()>
     ensures short { OnOk result (string_len output.new < OUTPUT_BYTES) }
     ensures writes { OnOk result (WritesFull OUTPUT_BYTES W.appends (string_bytes output.old)

@@ -13,7 +13,7 @@ use capnp::layout::{Body, Place, StructSize};
 use capnp::message::{ReaderOptions, ReaderSegments};
 use std::alloc::{AllocError, Global};
 
-/// Which place in its parent a node has.
+/// The place of a node in its parent.
 #[derive(Clone, Copy)]
 pub enum Label {
     Root,
@@ -256,7 +256,7 @@ impl NodeRun {
         )
     }
 
-    // Nodes one step deeper than those of this run.
+    // Nodes one step deeper than the nodes of this run.
     fn run(self, kind: NodeRunKind, next: Place, count: u64, nesting: u64) -> NodeRun
         ensures { result ≡ record {
           index = 0;

@@ -2,8 +2,7 @@
 use crate::imports::is_definition;
 
 /// Words that are no names of modules: words of the language, crates that the code names, and what
-/// else the module of a struct declares, apart from the modules of groups and of declarations in
-/// it.
+/// a struct's module declares apart from the modules of groups and of declarations in it.
 const MODULES: &[&str] = &[
     "abstract",
     "any_pointer",

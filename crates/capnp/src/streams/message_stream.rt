@@ -100,8 +100,8 @@ impl<R: BufRead + Drop> Iterator for MessageStream<R> {
 /// The messages of the file at this path, in this format and by this rule of padding.
 ///
 /// Fails with the system's error where the file can't be opened, and with std's `OutOfMemory` where
-/// there is no memory for the buffer. Each message fails as `next_message` does; a read that fails
-/// is `DeviceFailed`.
+/// there is no memory for the buffer. Each item fails as `next_message` does; a read that fails is
+/// `DeviceFailed`.
 pub fn open_file<R: Files + AllocGlobal, P: AsPath>(
     rt: &R,
     path: P,

@@ -18,8 +18,7 @@ pub fn push_float32(alloc: Global, output: &mut String, number: f32) -> Result<(
     push_digits(output, more.as_str(), 8)
 }
 
-/// Adds a float: in 15 significant digits where these are read back as the same number, and else in
-/// 17.
+/// Adds a float: in 15 significant digits where these are read back as the same number, else in 17.
 ///
 /// Fails only when out of memory.
 pub fn push_float64(alloc: Global, output: &mut String, number: f64) -> Result<(), AllocError> {

@@ -1,4 +1,5 @@
--- The next segment counts one more, and its words; where none follows, or 512 are counted, the others are not listed.
+-- The next segment adds one, and its words; where none follows, or 512 are counted, the others are not
+-- listed.
 use Rattle.std.proofs.Common.{◌≡◌, ◌<◌, ◌≤◌, ◌-◌, ◌^◌, ℕ, List, None, Some, inl, inr, length, slice_get, take, min, sym, ap, subst, ◌∙◌, arith, take_all}
 use Rattle.std.proofs.lemmas.Option.{slice_get_within, slice_get_cases, none-some}
 use Rattle.capnp_frame.specs.Prelude.{size_in_words}

@@ -1,4 +1,4 @@
--- So far as many segments are counted as are gone over, and their words.
+-- So far the segments that were visited are counted, and their words.
 use Rattle.std.proofs.Common.{◌≡◌, ◌≤◌, ◌-◌, ◌^◌, length, min, take}
 use Rattle.capnp_frame.specs.Prelude.{size_in_words}
 use Rattle.capnp_show.proofs.messages.segments_and_words.Given as goal
