@@ -18,7 +18,7 @@ pub enum Kind {
     Structs,
 }
 
-/// A tree in which each object above the lowest points to as many others.
+/// A tree in which each object above the lowest ones points to this many others.
 #[derive(Clone, Copy)]
 pub struct Shape {
     kind: Kind,

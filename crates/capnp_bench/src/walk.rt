@@ -15,8 +15,8 @@ const MOST_DEEP: u32 = 40;
 /// How many structs a message has at most: some 800,000 words.
 const MOST_STRUCTS: u32 = 50_000;
 
-/// Walks messages of lists of this many structs in all, trees of as many nodes, and as many lists in
-/// lists.
+/// Walks messages of lists of this many structs in all, trees of as many nodes, and as many lists
+/// in lists.
 pub fn digest_of(alloc: Global, seed: u32, count: u32) -> Result<u64> {
     let mut random = Random::new(seed);
     let mut digest = Digest::new();

@@ -1,10 +1,10 @@
 //! The arrows of a drawing, from each pointer to the object that it leads to.
 //!
-//! An arrow runs only in the gaps between the cells: from the right of its pointer in the gap after
-//! that column, then in the gap above the object's row, to the left of the object's first cell.
-//! Cells, gaps and headings have fixed sizes, so its corners are computed. In a segment of up to
-//! eight rows no arrow runs over an arrow to another object. In the gap after a column each row has
-//! a lane of its own, and in the gap above a row each column has one.
+//! An arrow runs only in the gaps between the cells. From the right of its pointer it runs in the
+//! gap after that column, then in the gap above the object's row, to the left of the object's first
+//! cell. Cells, gaps and headings have fixed sizes, so its corners are computed. In a segment of up
+//! to eight rows no arrow runs over an arrow to another object. In the gap after a column each row
+//! has a lane of its own, and in the gap above a row each column has one.
 ghost use Rattle.std.specs.Prelude.{◌≡◌, ◌⊎◌, ◌+◌, ◌*◌, ◌/◌, ◌^◌, ◌<◌, ℕ, None, length, slice_get, MatchOption, ◌++◌, IfOk, OnOk, codes, string_bytes};
 ghost use Rattle.capnp_show.specs.Arrows.{height_of, AreTops, IsCorner, AddsArrowOf, HasNoArrow, arrow_front, arrow_head, arrow_of, turns_between, sizes_rule};
 ghost use Rattle.capnp_show.specs.Output.{with_number};

@@ -8,8 +8,8 @@ ghost use Rattle.capnp_show.specs.Plain.{IsPlainByte};
 
 use std::alloc::AllocError;
 
-/// The front of a string up to the first character that is not written as it is, that character, and
-/// what follows it; `None` where all characters are written as they are.
+/// The front of a string up to the first character that is not written as it is, that character,
+/// and what follows it; `None` where all characters are written as they are.
 #[inline(always)]
 pub fn next_run(shown: &str) -> Option<(&str, char, &str)>
     ensures whole { result ≡ None → IsUtf8 shown.now × All IsPlainByte shown.now }

@@ -137,7 +137,8 @@ impl Code {
         self.lines.push('\n')
     }
 
-    // Adds the value of a hole, in a line that begins with some spaces. A hole without a value stays.
+    // Adds the value of a hole, in a line that begins with some spaces. A hole without a value
+    // stays.
     fn add_hole(&mut self, name: &str, holes: &Holes, spaces: usize) -> Result<(), AllocError> {
         let Some(value) = holes.value_of(name) else {
             self.lines.push('@')?;

@@ -157,8 +157,8 @@ fn enum_of(field: &Field) -> Option<u64> {
     }
 }
 
-/// The paths by which a module of a struct imports the enums of its fields, so that clauses may name
-/// their variants.
+/// The paths by which a module of a struct imports the enums of its fields, so that clauses may
+/// name their variants.
 pub fn enum_paths(alloc: Global, site: Site<'_>) -> Result<Vec<String>, AllocError> {
     let mut paths: Vec<String> = Vec::new(alloc);
     for id in enums_of(alloc, site.node)?.as_slice() {

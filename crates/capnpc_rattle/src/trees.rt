@@ -1,5 +1,5 @@
-//! Trees of values that pointers point to, as clauses have them: terms of `Trees` of `capnp_wire`, in
-//! the names under which `imports.rt` imports its constructors.
+//! Trees of values that pointers point to, as clauses have them: terms of `Trees` of `capnp_wire`,
+//! in the names under which `imports.rt` imports its constructors.
 use crate::part::WIDTH;
 use anyhow::Result;
 use capnp_frame::message::ReaderSegments;
@@ -9,7 +9,7 @@ use capnp_wire::{any_object, any_pointer, struct_list};
 use std::alloc::{AllocError, Global};
 use std::fmt::Write;
 
-/// The most bytes of a tree's code; the proof of a clause with a longer one takes a second and more.
+/// The most bytes of a tree's code; a clause with a longer tree takes a second and more to prove.
 const MAX_TREE: usize = 32768;
 
 /// What is still to be written of a tree.
@@ -62,8 +62,8 @@ fn is_full(written: &str) -> bool {
 }
 
 impl<'a, S: ReaderSegments> TreeWriter<'a, S> {
-    // Adds the form of what a pointer points to; its pointers, and the end of their trees, are still
-    // to be written. Returns whether the form is known.
+    // Adds the form of what a pointer points to; its pointers, and the end of their trees, are
+    // still to be written. Returns whether the form is known.
     fn add_object(&mut self, pointer: &any_pointer::Reader<'a, S>) -> Result<bool> {
         self.written.push_str("(TreeOf ")?;
         match pointer.get_as()? {

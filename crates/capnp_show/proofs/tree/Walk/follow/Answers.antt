@@ -1,4 +1,4 @@
--- No pointer fails because words are missing.
+-- No pointer fails with `ReadLimitExceeded`, since the view has no limit of words.
 use Rattle.std.proofs.Common.{refl, arith}
 use Rattle.capnp_wire.proofs.views.ViewErrorLemmas.{pointer_error_unlimited}
 use Rattle.capnp_show.proofs.tree.Walk.follow.Goals as goal
