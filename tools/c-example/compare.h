@@ -1,5 +1,5 @@
 /* What calls.c and options.c share: messages that are spelled out by the Cap'n Proto encoding document, and
- * comparisons, of which each that fails prints a line. */
+ * comparisons. Each comparison that fails prints a line. */
 #ifndef COMPARE_H
 #define COMPARE_H
 
@@ -44,9 +44,9 @@ static const uint8_t framed[] = {0, 0, 0,    0, 2, 0, 0, 0, 0x08, 0, 0, 0, 0x03,
 static const uint8_t packed[] = {0x10, 2, 0x51, 0x08, 0x03, 0x02, 0x31, 0x19, 0xaa, 0x01};
 enum { FRAMED_LEN = sizeof framed - 1, FRAMED_WORDS = 2, PACKED_LEN = sizeof packed };
 
-/* "Canonicalization": a struct of two pointers that lead to one struct, of the words 7 and 0. Its canonical
- * form has that struct twice, each without the zero at its end. The message has five words, of which a walk
- * visits six: the two pointers, and two words twice. */
+/* "Canonicalization": a struct of two pointers that point to one struct, of the words 7 and 0. Its canonical
+ * form has that struct twice, each without the zero at its end. The message has five words. A
+ * walk visits six: the two pointers, and two words twice. */
 static const uint8_t shared[] = {0, 0, 0, 0, 5, 0, 0, 0, 0, 0, 0, 0, 0, 0, 2, 0, 4, 0, 0, 0, 2, 0, 0, 0,
                                  0, 0, 0, 0, 2, 0, 0, 0, 7, 0, 0, 0, 0, 0, 0, 0, 0, 0, 0, 0, 0, 0, 0, 0};
 static const uint8_t form[] = {0, 0, 0, 0, 0, 0, 2, 0, 4, 0, 0, 0, 1, 0, 0, 0, 4, 0, 0, 0,

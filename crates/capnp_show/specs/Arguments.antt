@@ -29,8 +29,8 @@ pub record AsksReading (found : Found) (reading : Reading) : Type 0 where
   pub framed : IsAbsent found (codes "packed") → IsAbsent found (codes "unpack") → IsAbsent found (codes "detect")
       → reading ≡ Framed
 
--- in which form they are shown: --count goes before --json, then --html, --pack and --unpack, and lines where
--- none is given
+-- in which form they are shown: by the first of --count, --json, --html, --pack and --unpack that is given,
+-- and as lines where none is
 pub record AsksForm (found : Found) (form : Form) : Type 0 where
   pub count : IsGiven found (codes "count") → form ≡ Count
   pub json : IsAbsent found (codes "count") → IsGiven found (codes "json") → form ≡ Json

@@ -107,8 +107,8 @@ LeavesWords (AnObject object) words left = left ≡ option_map (λ most. most - 
 LeavesWords (Element start size) words left = left ≡ words
 LeavesWords (Unread kind) words left = kind ≢ ReadLimitExceeded → left ≡ words
 
--- A node comes of some runs: the next node of the last run that has one left. It leaves some of the runs and
--- words before it.
+-- A node comes of some runs: the next node of the last run that has one left. `runs_left` and `words_left`
+-- are the runs and words that are left after it.
 pub record Comes (segments : List (List ℕ)) (runs : List NodeRun) (words : Option ℕ) (node : Node) (runs_left : List NodeRun)
     (words_left : Option ℕ) : Type 0 where
   pub before : List NodeRun

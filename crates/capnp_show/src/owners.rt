@@ -92,8 +92,8 @@ impl Word {
     }
 }
 
-/// The words of a message, each with the object that it belongs to: the first object from which the
-/// walk reaches it.
+/// The words of a message, each with the object that it belongs to: the first object through which
+/// the walk reaches it.
 #[derive(Drop)]
 pub struct Owners {
     segments: Vec<Vec<Word>>,

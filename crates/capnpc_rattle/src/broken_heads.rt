@@ -67,8 +67,8 @@ fn push_end<'a>(parts: &mut Vec<Part<'a>>, indent: usize, end: &'a str) -> Resul
     Ok(())
 }
 
-/// Breaks the head of an implementation. One of a trait is broken before the type. Another one is
-/// broken within the type, and between the parameters if the line is still too wide.
+/// Breaks the head of an implementation. The head for a trait is broken before `for`. Another one
+/// is broken within the type, and between the parameters if the line is still too wide.
 pub fn break_implementation<'a>(
     alloc: Global,
     parts: &mut Vec<Part<'a>>,

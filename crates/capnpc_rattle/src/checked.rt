@@ -54,7 +54,7 @@ fn push_groups(left: &mut Vec<u64>, body: &Struct) -> Result<()> {
     Ok(())
 }
 
-// Fails for a field of a struct whose type the request doesn't declare, or isn't known.
+// Fails for a field of a struct whose type is not known, or not declared in the request.
 fn check_fields(request: &Request, node: &Node, body: &Struct) -> Result<()> {
     for field in body.fields.as_slice() {
         let is_known = match &field.slot {

@@ -129,7 +129,7 @@ fn push_line(lines: &mut String) -> Result<(), AllocError> {
     lines.push('\n')
 }
 
-// What the group of a site has, and the groups in it.
+// The fields and pointers of the group of a site, and of the groups in it.
 fn cleared_by(alloc: Global, site: Site<'_>) -> Result<Cleared, AllocError> {
     let mut cleared = Cleared {
         fields: Vec::new(alloc),

@@ -70,7 +70,7 @@ pub fn enumerants_of(request: &Request, id: u64) -> &[String] {
 }
 
 /// The name of an enum in the module of a struct that has a field of it: its own, unless an enum of
-/// that name is in the module already. Then it comes after the name of what it is declared in.
+/// that name is in the module already. Then the name of what it is declared in comes in front.
 pub fn enum_name(alloc: Global, site: Site<'_>, id: u64) -> Result<String, AllocError> {
     let Some(node) = site.request.find(id) else {
         return String::from_str(alloc, "u16");
