@@ -222,9 +222,9 @@ uint8_t linsjoar_canonical_with_options(const uint8_t *bytes, size_t len,
 /* Packs whole words into an encoding, and counts the bytes that this takes. It returns 0 exactly where the
  * words are whole ones and there is room for what they are packed to. It returns 14 where the last word is
  * cut, and 2 where there is no room. For n words an encoding has at most 8 n + (n + 3) / 2 bytes.
- * Given a framed message it makes an encoding that no reader of packed messages reads: in a packed message
- * the first word of its table, the table's other words, and each segment are packed one by one, which
- * linsjoar_pack_message does. */
+ * Given a framed message it makes an encoding that no reader of packed messages reads. In a packed message
+ * the first word of its table, the table's other words, and each segment are packed one by one;
+ * linsjoar_pack_message does that. */
 uint8_t linsjoar_pack(const uint8_t *words, size_t words_len, uint8_t *encoding, size_t encoding_len,
                       size_t *written);
 
