@@ -86,7 +86,7 @@ pub mod parking_lot {
         }
     }
 
-    /// A list of such structs in a message; their first fields alone, where an older writer had these.
+    /// A list of such structs in a message, or of their first fields where an older writer had these.
     #[derive(Drop)]
     pub struct ListReader<'a, S: ReaderSegments> {
         /// The list whose elements these are.
@@ -112,7 +112,7 @@ pub mod parking_lot {
             }
         }
 
-        /// The element of this index, or `None` where there are no more elements than it.
+        /// The element of this index, or `None` past the last element.
         pub fn try_get(&self, index: u32) -> Option<Reader<'a, S>>
             ensures { let list = upgraded_structs_of S.segments self.now.elements in
                 FindsElement (length list.elements) index
@@ -227,7 +227,7 @@ pub mod parking_lot {
     }
 
     impl Builder {
-        /// One in which nothing is set, so that each field has its default.
+        /// A builder in which nothing is set: each field has its default.
         pub fn new() -> Builder
             ensures words { result.draft.words ≡ replicate 0 0 }
             ensures pointers { result.draft.pointers ≡ replicate 1 0 }
@@ -237,14 +237,14 @@ pub mod parking_lot {
             }
         }
 
-        /// One of what a reader shows, to be changed and written again. What its pointers point to is
-        /// copied, each object as an orphan, and null stays null. What a writer of another version of
-        /// the type left out is zero and null, and what it had beyond this one is left out.
+        /// A builder with what a reader shows, to be changed and written again. Each object that its
+        /// pointers point to is copied, as an orphan, and null stays null. What a writer of another
+        /// version of the type left out is zero or null; what it had in addition is left out.
         ///
-        /// What a setter replaces after that was copied, and stays in the bytes of the message, where no
-        /// pointer points to it. Canonical words of the message are without it.
+        /// A copy that a setter then replaces stays in the bytes of the message, where no pointer
+        /// points to it. Canonical words of the message are without it.
         ///
-        /// It fails as `Orphanage::set` of the first pointer does that can't be copied.
+        /// Fails as `Orphanage::set` does, for the first pointer that can't be copied.
         pub fn from_reader<R: ReaderSegments, S: GrowingSegment>(
             read: &Reader<'_, R>,
             objects: &mut Orphanage<S>,
@@ -260,8 +260,8 @@ pub mod parking_lot {
             }
         }
 
-        /// One of the numbers, bools and enums that a reader shows, as `from_reader` has them. Its
-        /// pointers are null.
+        /// A builder with the numbers, bools and enums that a reader shows, as `from_reader` has
+        /// them. Its pointers are null.
         pub fn from_data_section<R: ReaderSegments>(read: &Reader<'_, R>) -> Builder
             ensures words { result.draft.words
                 ≡ data_up_to (struct_of R.segments read.now.fields) 0 }
@@ -394,7 +394,7 @@ pub mod total_value {
         }
     }
 
-    /// A list of such structs in a message; their first fields alone, where an older writer had these.
+    /// A list of such structs in a message, or of their first fields where an older writer had these.
     #[derive(Drop)]
     pub struct ListReader<'a, S: ReaderSegments> {
         /// The list whose elements these are.
@@ -420,7 +420,7 @@ pub mod total_value {
             }
         }
 
-        /// The element of this index, or `None` where there are no more elements than it.
+        /// The element of this index, or `None` past the last element.
         pub fn try_get(&self, index: u32) -> Option<Reader<'a, S>>
             ensures { let list = upgraded_structs_of S.segments self.now.elements in
                 FindsElement (length list.elements) index
@@ -535,7 +535,7 @@ pub mod total_value {
     }
 
     impl Builder {
-        /// One in which nothing is set, so that each field has its default.
+        /// A builder in which nothing is set: each field has its default.
         pub fn new() -> Builder
             ensures words { result.draft.words ≡ replicate 1 0 }
             ensures pointers { result.draft.pointers ≡ replicate 0 0 }
@@ -545,14 +545,14 @@ pub mod total_value {
             }
         }
 
-        /// One of what a reader shows, to be changed and written again. What its pointers point to is
-        /// copied, each object as an orphan, and null stays null. What a writer of another version of
-        /// the type left out is zero and null, and what it had beyond this one is left out.
+        /// A builder with what a reader shows, to be changed and written again. Each object that its
+        /// pointers point to is copied, as an orphan, and null stays null. What a writer of another
+        /// version of the type left out is zero or null; what it had in addition is left out.
         ///
-        /// What a setter replaces after that was copied, and stays in the bytes of the message, where no
-        /// pointer points to it. Canonical words of the message are without it.
+        /// A copy that a setter then replaces stays in the bytes of the message, where no pointer
+        /// points to it. Canonical words of the message are without it.
         ///
-        /// It fails as `Orphanage::set` of the first pointer does that can't be copied.
+        /// Fails as `Orphanage::set` does, for the first pointer that can't be copied.
         pub fn from_reader<R: ReaderSegments, S: GrowingSegment>(
             read: &Reader<'_, R>,
             objects: &mut Orphanage<S>,
@@ -568,8 +568,8 @@ pub mod total_value {
             }
         }
 
-        /// One of the numbers, bools and enums that a reader shows, as `from_reader` has them. Its
-        /// pointers are null.
+        /// A builder with the numbers, bools and enums that a reader shows, as `from_reader` has
+        /// them. Its pointers are null.
         pub fn from_data_section<R: ReaderSegments>(read: &Reader<'_, R>) -> Builder
             ensures words { result.draft.words
                 ≡ data_up_to (struct_of R.segments read.now.fields) 1 }
@@ -901,7 +901,7 @@ pub mod car {
         }
     }
 
-    /// A list of such structs in a message; their first fields alone, where an older writer had these.
+    /// A list of such structs in a message, or of their first fields where an older writer had these.
     #[derive(Drop)]
     pub struct ListReader<'a, S: ReaderSegments> {
         /// The list whose elements these are.
@@ -927,7 +927,7 @@ pub mod car {
             }
         }
 
-        /// The element of this index, or `None` where there are no more elements than it.
+        /// The element of this index, or `None` past the last element.
         pub fn try_get(&self, index: u32) -> Option<Reader<'a, S>>
             ensures { let list = upgraded_structs_of S.segments self.now.elements in
                 FindsElement (length list.elements) index
@@ -1042,7 +1042,7 @@ pub mod car {
     }
 
     impl Builder {
-        /// One in which nothing is set, so that each field has its default.
+        /// A builder in which nothing is set: each field has its default.
         pub fn new() -> Builder
             ensures words { result.draft.words ≡ replicate 3 0 }
             ensures pointers { result.draft.pointers ≡ replicate 4 0 }
@@ -1052,14 +1052,14 @@ pub mod car {
             }
         }
 
-        /// One of what a reader shows, to be changed and written again. What its pointers point to is
-        /// copied, each object as an orphan, and null stays null. What a writer of another version of
-        /// the type left out is zero and null, and what it had beyond this one is left out.
+        /// A builder with what a reader shows, to be changed and written again. Each object that its
+        /// pointers point to is copied, as an orphan, and null stays null. What a writer of another
+        /// version of the type left out is zero or null; what it had in addition is left out.
         ///
-        /// What a setter replaces after that was copied, and stays in the bytes of the message, where no
-        /// pointer points to it. Canonical words of the message are without it.
+        /// A copy that a setter then replaces stays in the bytes of the message, where no pointer
+        /// points to it. Canonical words of the message are without it.
         ///
-        /// It fails as `Orphanage::set` of the first pointer does that can't be copied.
+        /// Fails as `Orphanage::set` does, for the first pointer that can't be copied.
         pub fn from_reader<R: ReaderSegments, S: GrowingSegment>(
             read: &Reader<'_, R>,
             objects: &mut Orphanage<S>,
@@ -1075,8 +1075,8 @@ pub mod car {
             }
         }
 
-        /// One of the numbers, bools and enums that a reader shows, as `from_reader` has them. Its
-        /// pointers are null.
+        /// A builder with the numbers, bools and enums that a reader shows, as `from_reader` has
+        /// them. Its pointers are null.
         pub fn from_data_section<R: ReaderSegments>(read: &Reader<'_, R>) -> Builder
             ensures words { result.draft.words
                 ≡ data_up_to (struct_of R.segments read.now.fields) 3 }
@@ -1634,7 +1634,7 @@ pub mod wheel {
         }
     }
 
-    /// A list of such structs in a message; their first fields alone, where an older writer had these.
+    /// A list of such structs in a message, or of their first fields where an older writer had these.
     #[derive(Drop)]
     pub struct ListReader<'a, S: ReaderSegments> {
         /// The list whose elements these are.
@@ -1660,7 +1660,7 @@ pub mod wheel {
             }
         }
 
-        /// The element of this index, or `None` where there are no more elements than it.
+        /// The element of this index, or `None` past the last element.
         pub fn try_get(&self, index: u32) -> Option<Reader<'a, S>>
             ensures { let list = upgraded_structs_of S.segments self.now.elements in
                 FindsElement (length list.elements) index
@@ -1775,7 +1775,7 @@ pub mod wheel {
     }
 
     impl Builder {
-        /// One in which nothing is set, so that each field has its default.
+        /// A builder in which nothing is set: each field has its default.
         pub fn new() -> Builder
             ensures words { result.draft.words ≡ replicate 1 0 }
             ensures pointers { result.draft.pointers ≡ replicate 0 0 }
@@ -1785,14 +1785,14 @@ pub mod wheel {
             }
         }
 
-        /// One of what a reader shows, to be changed and written again. What its pointers point to is
-        /// copied, each object as an orphan, and null stays null. What a writer of another version of
-        /// the type left out is zero and null, and what it had beyond this one is left out.
+        /// A builder with what a reader shows, to be changed and written again. Each object that its
+        /// pointers point to is copied, as an orphan, and null stays null. What a writer of another
+        /// version of the type left out is zero or null; what it had in addition is left out.
         ///
-        /// What a setter replaces after that was copied, and stays in the bytes of the message, where no
-        /// pointer points to it. Canonical words of the message are without it.
+        /// A copy that a setter then replaces stays in the bytes of the message, where no pointer
+        /// points to it. Canonical words of the message are without it.
         ///
-        /// It fails as `Orphanage::set` of the first pointer does that can't be copied.
+        /// Fails as `Orphanage::set` does, for the first pointer that can't be copied.
         pub fn from_reader<R: ReaderSegments, S: GrowingSegment>(
             read: &Reader<'_, R>,
             objects: &mut Orphanage<S>,
@@ -1808,8 +1808,8 @@ pub mod wheel {
             }
         }
 
-        /// One of the numbers, bools and enums that a reader shows, as `from_reader` has them. Its
-        /// pointers are null.
+        /// A builder with the numbers, bools and enums that a reader shows, as `from_reader` has
+        /// them. Its pointers are null.
         pub fn from_data_section<R: ReaderSegments>(read: &Reader<'_, R>) -> Builder
             ensures words { result.draft.words
                 ≡ data_up_to (struct_of R.segments read.now.fields) 1 }
@@ -2004,7 +2004,7 @@ pub mod engine {
         }
     }
 
-    /// A list of such structs in a message; their first fields alone, where an older writer had these.
+    /// A list of such structs in a message, or of their first fields where an older writer had these.
     #[derive(Drop)]
     pub struct ListReader<'a, S: ReaderSegments> {
         /// The list whose elements these are.
@@ -2030,7 +2030,7 @@ pub mod engine {
             }
         }
 
-        /// The element of this index, or `None` where there are no more elements than it.
+        /// The element of this index, or `None` past the last element.
         pub fn try_get(&self, index: u32) -> Option<Reader<'a, S>>
             ensures { let list = upgraded_structs_of S.segments self.now.elements in
                 FindsElement (length list.elements) index
@@ -2145,7 +2145,7 @@ pub mod engine {
     }
 
     impl Builder {
-        /// One in which nothing is set, so that each field has its default.
+        /// A builder in which nothing is set: each field has its default.
         pub fn new() -> Builder
             ensures words { result.draft.words ≡ replicate 1 0 }
             ensures pointers { result.draft.pointers ≡ replicate 0 0 }
@@ -2155,14 +2155,14 @@ pub mod engine {
             }
         }
 
-        /// One of what a reader shows, to be changed and written again. What its pointers point to is
-        /// copied, each object as an orphan, and null stays null. What a writer of another version of
-        /// the type left out is zero and null, and what it had beyond this one is left out.
+        /// A builder with what a reader shows, to be changed and written again. Each object that its
+        /// pointers point to is copied, as an orphan, and null stays null. What a writer of another
+        /// version of the type left out is zero or null; what it had in addition is left out.
         ///
-        /// What a setter replaces after that was copied, and stays in the bytes of the message, where no
-        /// pointer points to it. Canonical words of the message are without it.
+        /// A copy that a setter then replaces stays in the bytes of the message, where no pointer
+        /// points to it. Canonical words of the message are without it.
         ///
-        /// It fails as `Orphanage::set` of the first pointer does that can't be copied.
+        /// Fails as `Orphanage::set` does, for the first pointer that can't be copied.
         pub fn from_reader<R: ReaderSegments, S: GrowingSegment>(
             read: &Reader<'_, R>,
             objects: &mut Orphanage<S>,
@@ -2178,8 +2178,8 @@ pub mod engine {
             }
         }
 
-        /// One of the numbers, bools and enums that a reader shows, as `from_reader` has them. Its
-        /// pointers are null.
+        /// A builder with the numbers, bools and enums that a reader shows, as `from_reader` has
+        /// them. Its pointers are null.
         pub fn from_data_section<R: ReaderSegments>(read: &Reader<'_, R>) -> Builder
             ensures words { result.draft.words
                 ≡ data_up_to (struct_of R.segments read.now.fields) 1 }

@@ -86,7 +86,7 @@ pub mod search_result_list {
         }
     }
 
-    /// A list of such structs in a message; their first fields alone, where an older writer had these.
+    /// A list of such structs in a message, or of their first fields where an older writer had these.
     #[derive(Drop)]
     pub struct ListReader<'a, S: ReaderSegments> {
         /// The list whose elements these are.
@@ -112,7 +112,7 @@ pub mod search_result_list {
             }
         }
 
-        /// The element of this index, or `None` where there are no more elements than it.
+        /// The element of this index, or `None` past the last element.
         pub fn try_get(&self, index: u32) -> Option<Reader<'a, S>>
             ensures { let list = upgraded_structs_of S.segments self.now.elements in
                 FindsElement (length list.elements) index
@@ -227,7 +227,7 @@ pub mod search_result_list {
     }
 
     impl Builder {
-        /// One in which nothing is set, so that each field has its default.
+        /// A builder in which nothing is set: each field has its default.
         pub fn new() -> Builder
             ensures words { result.draft.words ≡ replicate 0 0 }
             ensures pointers { result.draft.pointers ≡ replicate 1 0 }
@@ -237,14 +237,14 @@ pub mod search_result_list {
             }
         }
 
-        /// One of what a reader shows, to be changed and written again. What its pointers point to is
-        /// copied, each object as an orphan, and null stays null. What a writer of another version of
-        /// the type left out is zero and null, and what it had beyond this one is left out.
+        /// A builder with what a reader shows, to be changed and written again. Each object that its
+        /// pointers point to is copied, as an orphan, and null stays null. What a writer of another
+        /// version of the type left out is zero or null; what it had in addition is left out.
         ///
-        /// What a setter replaces after that was copied, and stays in the bytes of the message, where no
-        /// pointer points to it. Canonical words of the message are without it.
+        /// A copy that a setter then replaces stays in the bytes of the message, where no pointer
+        /// points to it. Canonical words of the message are without it.
         ///
-        /// It fails as `Orphanage::set` of the first pointer does that can't be copied.
+        /// Fails as `Orphanage::set` does, for the first pointer that can't be copied.
         pub fn from_reader<R: ReaderSegments, S: GrowingSegment>(
             read: &Reader<'_, R>,
             objects: &mut Orphanage<S>,
@@ -260,8 +260,8 @@ pub mod search_result_list {
             }
         }
 
-        /// One of the numbers, bools and enums that a reader shows, as `from_reader` has them. Its
-        /// pointers are null.
+        /// A builder with the numbers, bools and enums that a reader shows, as `from_reader` has
+        /// them. Its pointers are null.
         pub fn from_data_section<R: ReaderSegments>(read: &Reader<'_, R>) -> Builder
             ensures words { result.draft.words
                 ≡ data_up_to (struct_of R.segments read.now.fields) 0 }
@@ -434,7 +434,7 @@ pub mod search_result {
         }
     }
 
-    /// A list of such structs in a message; their first fields alone, where an older writer had these.
+    /// A list of such structs in a message, or of their first fields where an older writer had these.
     #[derive(Drop)]
     pub struct ListReader<'a, S: ReaderSegments> {
         /// The list whose elements these are.
@@ -460,7 +460,7 @@ pub mod search_result {
             }
         }
 
-        /// The element of this index, or `None` where there are no more elements than it.
+        /// The element of this index, or `None` past the last element.
         pub fn try_get(&self, index: u32) -> Option<Reader<'a, S>>
             ensures { let list = upgraded_structs_of S.segments self.now.elements in
                 FindsElement (length list.elements) index
@@ -575,7 +575,7 @@ pub mod search_result {
     }
 
     impl Builder {
-        /// One in which nothing is set, so that each field has its default.
+        /// A builder in which nothing is set: each field has its default.
         pub fn new() -> Builder
             ensures words { result.draft.words ≡ replicate 1 0 }
             ensures pointers { result.draft.pointers ≡ replicate 2 0 }
@@ -585,14 +585,14 @@ pub mod search_result {
             }
         }
 
-        /// One of what a reader shows, to be changed and written again. What its pointers point to is
-        /// copied, each object as an orphan, and null stays null. What a writer of another version of
-        /// the type left out is zero and null, and what it had beyond this one is left out.
+        /// A builder with what a reader shows, to be changed and written again. Each object that its
+        /// pointers point to is copied, as an orphan, and null stays null. What a writer of another
+        /// version of the type left out is zero or null; what it had in addition is left out.
         ///
-        /// What a setter replaces after that was copied, and stays in the bytes of the message, where no
-        /// pointer points to it. Canonical words of the message are without it.
+        /// A copy that a setter then replaces stays in the bytes of the message, where no pointer
+        /// points to it. Canonical words of the message are without it.
         ///
-        /// It fails as `Orphanage::set` of the first pointer does that can't be copied.
+        /// Fails as `Orphanage::set` does, for the first pointer that can't be copied.
         pub fn from_reader<R: ReaderSegments, S: GrowingSegment>(
             read: &Reader<'_, R>,
             objects: &mut Orphanage<S>,
@@ -608,8 +608,8 @@ pub mod search_result {
             }
         }
 
-        /// One of the numbers, bools and enums that a reader shows, as `from_reader` has them. Its
-        /// pointers are null.
+        /// A builder with the numbers, bools and enums that a reader shows, as `from_reader` has
+        /// them. Its pointers are null.
         pub fn from_data_section<R: ReaderSegments>(read: &Reader<'_, R>) -> Builder
             ensures words { result.draft.words
                 ≡ data_up_to (struct_of R.segments read.now.fields) 1 }

@@ -303,7 +303,7 @@ pub mod printed {
         }
     }
 
-    /// A list of such structs in a message; their first fields alone, where an older writer had these.
+    /// A list of such structs in a message, or of their first fields where an older writer had these.
     #[derive(Drop)]
     pub struct ListReader<'a, S: ReaderSegments> {
         /// The list whose elements these are.
@@ -329,7 +329,7 @@ pub mod printed {
             }
         }
 
-        /// The element of this index, or `None` where there are no more elements than it.
+        /// The element of this index, or `None` past the last element.
         pub fn try_get(&self, index: u32) -> Option<Reader<'a, S>>
             ensures { let list = upgraded_structs_of S.segments self.now.elements in
                 FindsElement (length list.elements) index
@@ -563,7 +563,7 @@ pub mod printed {
             }
         }
 
-        /// A list of such structs in a message; their first fields alone, where an older writer had these.
+        /// A list of such structs in a message, or of their first fields where an older writer had these.
         #[derive(Drop)]
         pub struct ListReader<'a, S: ReaderSegments> {
             /// The list whose elements these are.
@@ -589,7 +589,7 @@ pub mod printed {
                 }
             }
 
-            /// The element of this index, or `None` where there are no more elements than it.
+            /// The element of this index, or `None` past the last element.
             pub fn try_get(&self, index: u32) -> Option<Reader<'a, S>>
                 ensures { let list = upgraded_structs_of S.segments self.now.elements in
                     FindsElement (length list.elements) index
@@ -664,7 +664,7 @@ pub mod printed {
     }
 }
 
-/// How the structs of this file are printed: by a table of the types that they point to.
+/// How the structs of this file are printed: by a table of them and of the types in them.
 pub mod the_schema {
     use capnp::stringify::{self, Base, DefaultValue, Field, Schema, StructType, Type};
     use capnp_frame::message::ReaderSegments;
@@ -705,10 +705,10 @@ pub mod the_schema {
 
     impl<'a, S: ReaderSegments> super::printed::Reader<'a, S> {
         /// The struct as text, as `capnp decode --short` prints it. `depth` says how many structs
-        /// and lists may be within one another; below, they are shown as `(..)` and `[..]`. What
+        /// and lists may be within one another; deeper ones are shown as `(..)` and `[..]`. What
         /// can't be read is shown as its error, `<PointerOutOfBounds>`.
         ///
-        /// Fails only where memory is lacking.
+        /// Fails only when out of memory.
         pub fn to_text(&self, alloc: Global, depth: u32) -> Result<String, AllocError> {
             stringify::to_text(alloc, &self.fields, &SCHEMA, 0, depth)
         }
@@ -716,10 +716,10 @@ pub mod the_schema {
 
     impl<'a, S: ReaderSegments> super::printed::point::Reader<'a, S> {
         /// The struct as text, as `capnp decode --short` prints it. `depth` says how many structs
-        /// and lists may be within one another; below, they are shown as `(..)` and `[..]`. What
+        /// and lists may be within one another; deeper ones are shown as `(..)` and `[..]`. What
         /// can't be read is shown as its error, `<PointerOutOfBounds>`.
         ///
-        /// Fails only where memory is lacking.
+        /// Fails only when out of memory.
         pub fn to_text(&self, alloc: Global, depth: u32) -> Result<String, AllocError> {
             stringify::to_text(alloc, &self.fields, &SCHEMA, 1, depth)
         }

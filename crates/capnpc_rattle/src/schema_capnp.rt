@@ -284,7 +284,7 @@ pub mod node {
         }
     }
 
-    /// A list of such structs in a message; their first fields alone, where an older writer had these.
+    /// A list of such structs in a message, or of their first fields where an older writer had these.
     #[derive(Drop)]
     pub struct ListReader<'a, S: ReaderSegments> {
         /// The list whose elements these are.
@@ -310,7 +310,7 @@ pub mod node {
             }
         }
 
-        /// The element of this index, or `None` where there are no more elements than it.
+        /// The element of this index, or `None` past the last element.
         pub fn try_get(&self, index: u32) -> Option<Reader<'a, S>>
             ensures { let list = upgraded_structs_of S.segments self.now.elements in
                 FindsElement (length list.elements) index
@@ -904,7 +904,7 @@ pub mod node {
             }
         }
 
-        /// A list of such structs in a message; their first fields alone, where an older writer had these.
+        /// A list of such structs in a message, or of their first fields where an older writer had these.
         #[derive(Drop)]
         pub struct ListReader<'a, S: ReaderSegments> {
             /// The list whose elements these are.
@@ -930,7 +930,7 @@ pub mod node {
                 }
             }
 
-            /// The element of this index, or `None` where there are no more elements than it.
+            /// The element of this index, or `None` past the last element.
             pub fn try_get(&self, index: u32) -> Option<Reader<'a, S>>
                 ensures { let list = upgraded_structs_of S.segments self.now.elements in
                     FindsElement (length list.elements) index
@@ -1084,7 +1084,7 @@ pub mod node {
             }
         }
 
-        /// A list of such structs in a message; their first fields alone, where an older writer had these.
+        /// A list of such structs in a message, or of their first fields where an older writer had these.
         #[derive(Drop)]
         pub struct ListReader<'a, S: ReaderSegments> {
             /// The list whose elements these are.
@@ -1110,7 +1110,7 @@ pub mod node {
                 }
             }
 
-            /// The element of this index, or `None` where there are no more elements than it.
+            /// The element of this index, or `None` past the last element.
             pub fn try_get(&self, index: u32) -> Option<Reader<'a, S>>
                 ensures { let list = upgraded_structs_of S.segments self.now.elements in
                     FindsElement (length list.elements) index
@@ -1292,7 +1292,7 @@ pub mod node {
             }
         }
 
-        /// A list of such structs in a message; their first fields alone, where an older writer had these.
+        /// A list of such structs in a message, or of their first fields where an older writer had these.
         #[derive(Drop)]
         pub struct ListReader<'a, S: ReaderSegments> {
             /// The list whose elements these are.
@@ -1318,7 +1318,7 @@ pub mod node {
                 }
             }
 
-            /// The element of this index, or `None` where there are no more elements than it.
+            /// The element of this index, or `None` past the last element.
             pub fn try_get(&self, index: u32) -> Option<Reader<'a, S>>
                 ensures { let list = upgraded_structs_of S.segments self.now.elements in
                     FindsElement (length list.elements) index
@@ -1463,7 +1463,7 @@ pub mod node {
                 }
             }
 
-            /// A list of such structs in a message; their first fields alone, where an older writer had these.
+            /// A list of such structs in a message, or of their first fields where an older writer had these.
             #[derive(Drop)]
             pub struct ListReader<'a, S: ReaderSegments> {
                 /// The list whose elements these are.
@@ -1489,7 +1489,7 @@ pub mod node {
                     }
                 }
 
-                /// The element of this index, or `None` where there are no more elements than it.
+                /// The element of this index, or `None` past the last element.
                 pub fn try_get(&self, index: u32) -> Option<Reader<'a, S>>
                     ensures { let list = upgraded_structs_of S.segments self.now.elements in
                         FindsElement (length list.elements) index
@@ -1740,7 +1740,7 @@ pub mod field {
         }
     }
 
-    /// A list of such structs in a message; their first fields alone, where an older writer had these.
+    /// A list of such structs in a message, or of their first fields where an older writer had these.
     #[derive(Drop)]
     pub struct ListReader<'a, S: ReaderSegments> {
         /// The list whose elements these are.
@@ -1766,7 +1766,7 @@ pub mod field {
             }
         }
 
-        /// The element of this index, or `None` where there are no more elements than it.
+        /// The element of this index, or `None` past the last element.
         pub fn try_get(&self, index: u32) -> Option<Reader<'a, S>>
             ensures { let list = upgraded_structs_of S.segments self.now.elements in
                 FindsElement (length list.elements) index
@@ -2114,7 +2114,7 @@ pub mod enumerant {
         }
     }
 
-    /// A list of such structs in a message; their first fields alone, where an older writer had these.
+    /// A list of such structs in a message, or of their first fields where an older writer had these.
     #[derive(Drop)]
     pub struct ListReader<'a, S: ReaderSegments> {
         /// The list whose elements these are.
@@ -2140,7 +2140,7 @@ pub mod enumerant {
             }
         }
 
-        /// The element of this index, or `None` where there are no more elements than it.
+        /// The element of this index, or `None` past the last element.
         pub fn try_get(&self, index: u32) -> Option<Reader<'a, S>>
             ensures { let list = upgraded_structs_of S.segments self.now.elements in
                 FindsElement (length list.elements) index
@@ -2297,7 +2297,7 @@ pub mod superclass {
         }
     }
 
-    /// A list of such structs in a message; their first fields alone, where an older writer had these.
+    /// A list of such structs in a message, or of their first fields where an older writer had these.
     #[derive(Drop)]
     pub struct ListReader<'a, S: ReaderSegments> {
         /// The list whose elements these are.
@@ -2323,7 +2323,7 @@ pub mod superclass {
             }
         }
 
-        /// The element of this index, or `None` where there are no more elements than it.
+        /// The element of this index, or `None` past the last element.
         pub fn try_get(&self, index: u32) -> Option<Reader<'a, S>>
             ensures { let list = upgraded_structs_of S.segments self.now.elements in
                 FindsElement (length list.elements) index
@@ -2591,7 +2591,7 @@ pub mod method {
         }
     }
 
-    /// A list of such structs in a message; their first fields alone, where an older writer had these.
+    /// A list of such structs in a message, or of their first fields where an older writer had these.
     #[derive(Drop)]
     pub struct ListReader<'a, S: ReaderSegments> {
         /// The list whose elements these are.
@@ -2617,7 +2617,7 @@ pub mod method {
             }
         }
 
-        /// The element of this index, or `None` where there are no more elements than it.
+        /// The element of this index, or `None` past the last element.
         pub fn try_get(&self, index: u32) -> Option<Reader<'a, S>>
             ensures { let list = upgraded_structs_of S.segments self.now.elements in
                 FindsElement (length list.elements) index
@@ -2928,7 +2928,7 @@ pub mod type_ {
         }
     }
 
-    /// A list of such structs in a message; their first fields alone, where an older writer had these.
+    /// A list of such structs in a message, or of their first fields where an older writer had these.
     #[derive(Drop)]
     pub struct ListReader<'a, S: ReaderSegments> {
         /// The list whose elements these are.
@@ -2954,7 +2954,7 @@ pub mod type_ {
             }
         }
 
-        /// The element of this index, or `None` where there are no more elements than it.
+        /// The element of this index, or `None` past the last element.
         pub fn try_get(&self, index: u32) -> Option<Reader<'a, S>>
             ensures { let list = upgraded_structs_of S.segments self.now.elements in
                 FindsElement (length list.elements) index
@@ -3493,7 +3493,7 @@ pub mod brand {
         }
     }
 
-    /// A list of such structs in a message; their first fields alone, where an older writer had these.
+    /// A list of such structs in a message, or of their first fields where an older writer had these.
     #[derive(Drop)]
     pub struct ListReader<'a, S: ReaderSegments> {
         /// The list whose elements these are.
@@ -3519,7 +3519,7 @@ pub mod brand {
             }
         }
 
-        /// The element of this index, or `None` where there are no more elements than it.
+        /// The element of this index, or `None` past the last element.
         pub fn try_get(&self, index: u32) -> Option<Reader<'a, S>>
             ensures { let list = upgraded_structs_of S.segments self.now.elements in
                 FindsElement (length list.elements) index
@@ -3721,7 +3721,7 @@ pub mod brand {
             }
         }
 
-        /// A list of such structs in a message; their first fields alone, where an older writer had these.
+        /// A list of such structs in a message, or of their first fields where an older writer had these.
         #[derive(Drop)]
         pub struct ListReader<'a, S: ReaderSegments> {
             /// The list whose elements these are.
@@ -3747,7 +3747,7 @@ pub mod brand {
                 }
             }
 
-            /// The element of this index, or `None` where there are no more elements than it.
+            /// The element of this index, or `None` past the last element.
             pub fn try_get(&self, index: u32) -> Option<Reader<'a, S>>
                 ensures { let list = upgraded_structs_of S.segments self.now.elements in
                     FindsElement (length list.elements) index
@@ -3928,7 +3928,7 @@ pub mod brand {
             }
         }
 
-        /// A list of such structs in a message; their first fields alone, where an older writer had these.
+        /// A list of such structs in a message, or of their first fields where an older writer had these.
         #[derive(Drop)]
         pub struct ListReader<'a, S: ReaderSegments> {
             /// The list whose elements these are.
@@ -3954,7 +3954,7 @@ pub mod brand {
                 }
             }
 
-            /// The element of this index, or `None` where there are no more elements than it.
+            /// The element of this index, or `None` past the last element.
             pub fn try_get(&self, index: u32) -> Option<Reader<'a, S>>
                 ensures { let list = upgraded_structs_of S.segments self.now.elements in
                     FindsElement (length list.elements) index
@@ -4358,7 +4358,7 @@ pub mod value {
         }
     }
 
-    /// A list of such structs in a message; their first fields alone, where an older writer had these.
+    /// A list of such structs in a message, or of their first fields where an older writer had these.
     #[derive(Drop)]
     pub struct ListReader<'a, S: ReaderSegments> {
         /// The list whose elements these are.
@@ -4384,7 +4384,7 @@ pub mod value {
             }
         }
 
-        /// The element of this index, or `None` where there are no more elements than it.
+        /// The element of this index, or `None` past the last element.
         pub fn try_get(&self, index: u32) -> Option<Reader<'a, S>>
             ensures { let list = upgraded_structs_of S.segments self.now.elements in
                 FindsElement (length list.elements) index
@@ -4577,7 +4577,7 @@ pub mod annotation {
         }
     }
 
-    /// A list of such structs in a message; their first fields alone, where an older writer had these.
+    /// A list of such structs in a message, or of their first fields where an older writer had these.
     #[derive(Drop)]
     pub struct ListReader<'a, S: ReaderSegments> {
         /// The list whose elements these are.
@@ -4603,7 +4603,7 @@ pub mod annotation {
             }
         }
 
-        /// The element of this index, or `None` where there are no more elements than it.
+        /// The element of this index, or `None` past the last element.
         pub fn try_get(&self, index: u32) -> Option<Reader<'a, S>>
             ensures { let list = upgraded_structs_of S.segments self.now.elements in
                 FindsElement (length list.elements) index
@@ -4807,7 +4807,7 @@ pub mod capnp_version {
         }
     }
 
-    /// A list of such structs in a message; their first fields alone, where an older writer had these.
+    /// A list of such structs in a message, or of their first fields where an older writer had these.
     #[derive(Drop)]
     pub struct ListReader<'a, S: ReaderSegments> {
         /// The list whose elements these are.
@@ -4833,7 +4833,7 @@ pub mod capnp_version {
             }
         }
 
-        /// The element of this index, or `None` where there are no more elements than it.
+        /// The element of this index, or `None` past the last element.
         pub fn try_get(&self, index: u32) -> Option<Reader<'a, S>>
             ensures { let list = upgraded_structs_of S.segments self.now.elements in
                 FindsElement (length list.elements) index
@@ -5052,7 +5052,7 @@ pub mod code_generator_request {
         }
     }
 
-    /// A list of such structs in a message; their first fields alone, where an older writer had these.
+    /// A list of such structs in a message, or of their first fields where an older writer had these.
     #[derive(Drop)]
     pub struct ListReader<'a, S: ReaderSegments> {
         /// The list whose elements these are.
@@ -5078,7 +5078,7 @@ pub mod code_generator_request {
             }
         }
 
-        /// The element of this index, or `None` where there are no more elements than it.
+        /// The element of this index, or `None` past the last element.
         pub fn try_get(&self, index: u32) -> Option<Reader<'a, S>>
             ensures { let list = upgraded_structs_of S.segments self.now.elements in
                 FindsElement (length list.elements) index
@@ -5261,7 +5261,7 @@ pub mod code_generator_request {
             }
         }
 
-        /// A list of such structs in a message; their first fields alone, where an older writer had these.
+        /// A list of such structs in a message, or of their first fields where an older writer had these.
         #[derive(Drop)]
         pub struct ListReader<'a, S: ReaderSegments> {
             /// The list whose elements these are.
@@ -5287,7 +5287,7 @@ pub mod code_generator_request {
                 }
             }
 
-            /// The element of this index, or `None` where there are no more elements than it.
+            /// The element of this index, or `None` past the last element.
             pub fn try_get(&self, index: u32) -> Option<Reader<'a, S>>
                 ensures { let list = upgraded_structs_of S.segments self.now.elements in
                     FindsElement (length list.elements) index
@@ -5445,7 +5445,7 @@ pub mod code_generator_request {
                 }
             }
 
-            /// A list of such structs in a message; their first fields alone, where an older writer had these.
+            /// A list of such structs in a message, or of their first fields where an older writer had these.
             #[derive(Drop)]
             pub struct ListReader<'a, S: ReaderSegments> {
                 /// The list whose elements these are.
@@ -5471,7 +5471,7 @@ pub mod code_generator_request {
                     }
                 }
 
-                /// The element of this index, or `None` where there are no more elements than it.
+                /// The element of this index, or `None` past the last element.
                 pub fn try_get(&self, index: u32) -> Option<Reader<'a, S>>
                     ensures { let list = upgraded_structs_of S.segments self.now.elements in
                         FindsElement (length list.elements) index

@@ -144,7 +144,7 @@ pub mod person {
         }
     }
 
-    /// A list of such structs in a message; their first fields alone, where an older writer had these.
+    /// A list of such structs in a message, or of their first fields where an older writer had these.
     #[derive(Drop)]
     pub struct ListReader<'a, S: ReaderSegments> {
         /// The list whose elements these are.
@@ -170,7 +170,7 @@ pub mod person {
             }
         }
 
-        /// The element of this index, or `None` where there are no more elements than it.
+        /// The element of this index, or `None` past the last element.
         pub fn try_get(&self, index: u32) -> Option<Reader<'a, S>>
             ensures { let list = upgraded_structs_of S.segments self.now.elements in
                 FindsElement (length list.elements) index
@@ -285,7 +285,7 @@ pub mod person {
     }
 
     impl Builder {
-        /// One in which nothing is set, so that each field has its default.
+        /// A builder in which nothing is set: each field has its default.
         pub fn new() -> Builder
             ensures words { result.draft.words ≡ replicate 1 0 }
             ensures pointers { result.draft.pointers ≡ replicate 4 0 }
@@ -295,14 +295,14 @@ pub mod person {
             }
         }
 
-        /// One of what a reader shows, to be changed and written again. What its pointers point to is
-        /// copied, each object as an orphan, and null stays null. What a writer of another version of
-        /// the type left out is zero and null, and what it had beyond this one is left out.
+        /// A builder with what a reader shows, to be changed and written again. Each object that its
+        /// pointers point to is copied, as an orphan, and null stays null. What a writer of another
+        /// version of the type left out is zero or null; what it had in addition is left out.
         ///
-        /// What a setter replaces after that was copied, and stays in the bytes of the message, where no
-        /// pointer points to it. Canonical words of the message are without it.
+        /// A copy that a setter then replaces stays in the bytes of the message, where no pointer
+        /// points to it. Canonical words of the message are without it.
         ///
-        /// It fails as `Orphanage::set` of the first pointer does that can't be copied.
+        /// Fails as `Orphanage::set` does, for the first pointer that can't be copied.
         pub fn from_reader<R: ReaderSegments, S: GrowingSegment>(
             read: &Reader<'_, R>,
             objects: &mut Orphanage<S>,
@@ -318,8 +318,8 @@ pub mod person {
             }
         }
 
-        /// One of the numbers, bools and enums that a reader shows, as `from_reader` has them. Its
-        /// pointers are null.
+        /// A builder with the numbers, bools and enums that a reader shows, as `from_reader` has
+        /// them. Its pointers are null.
         pub fn from_data_section<R: ReaderSegments>(read: &Reader<'_, R>) -> Builder
             ensures words { result.draft.words
                 ≡ data_up_to (struct_of R.segments read.now.fields) 1 }
@@ -709,7 +709,7 @@ pub mod person {
             }
         }
 
-        /// A list of such structs in a message; their first fields alone, where an older writer had these.
+        /// A list of such structs in a message, or of their first fields where an older writer had these.
         #[derive(Drop)]
         pub struct ListReader<'a, S: ReaderSegments> {
             /// The list whose elements these are.
@@ -735,7 +735,7 @@ pub mod person {
                 }
             }
 
-            /// The element of this index, or `None` where there are no more elements than it.
+            /// The element of this index, or `None` past the last element.
             pub fn try_get(&self, index: u32) -> Option<Reader<'a, S>>
                 ensures { let list = upgraded_structs_of S.segments self.now.elements in
                     FindsElement (length list.elements) index
@@ -850,7 +850,7 @@ pub mod person {
         }
 
         impl Builder {
-            /// One in which nothing is set, so that each field has its default.
+            /// A builder in which nothing is set: each field has its default.
             pub fn new() -> Builder
                 ensures words { result.draft.words ≡ replicate 1 0 }
                 ensures pointers { result.draft.pointers ≡ replicate 1 0 }
@@ -860,14 +860,14 @@ pub mod person {
                 }
             }
 
-            /// One of what a reader shows, to be changed and written again. What its pointers point to is
-            /// copied, each object as an orphan, and null stays null. What a writer of another version of
-            /// the type left out is zero and null, and what it had beyond this one is left out.
+            /// A builder with what a reader shows, to be changed and written again. Each object that its
+            /// pointers point to is copied, as an orphan, and null stays null. What a writer of another
+            /// version of the type left out is zero or null; what it had in addition is left out.
             ///
-            /// What a setter replaces after that was copied, and stays in the bytes of the message, where no
-            /// pointer points to it. Canonical words of the message are without it.
+            /// A copy that a setter then replaces stays in the bytes of the message, where no pointer
+            /// points to it. Canonical words of the message are without it.
             ///
-            /// It fails as `Orphanage::set` of the first pointer does that can't be copied.
+            /// Fails as `Orphanage::set` does, for the first pointer that can't be copied.
             pub fn from_reader<R: ReaderSegments, S: GrowingSegment>(
                 read: &Reader<'_, R>,
                 objects: &mut Orphanage<S>,
@@ -883,8 +883,8 @@ pub mod person {
                 }
             }
 
-            /// One of the numbers, bools and enums that a reader shows, as `from_reader` has them. Its
-            /// pointers are null.
+            /// A builder with the numbers, bools and enums that a reader shows, as `from_reader` has
+            /// them. Its pointers are null.
             pub fn from_data_section<R: ReaderSegments>(read: &Reader<'_, R>) -> Builder
                 ensures words { result.draft.words
                     ≡ data_up_to (struct_of R.segments read.now.fields) 1 }
@@ -1119,7 +1119,7 @@ pub mod address_book {
         }
     }
 
-    /// A list of such structs in a message; their first fields alone, where an older writer had these.
+    /// A list of such structs in a message, or of their first fields where an older writer had these.
     #[derive(Drop)]
     pub struct ListReader<'a, S: ReaderSegments> {
         /// The list whose elements these are.
@@ -1145,7 +1145,7 @@ pub mod address_book {
             }
         }
 
-        /// The element of this index, or `None` where there are no more elements than it.
+        /// The element of this index, or `None` past the last element.
         pub fn try_get(&self, index: u32) -> Option<Reader<'a, S>>
             ensures { let list = upgraded_structs_of S.segments self.now.elements in
                 FindsElement (length list.elements) index
@@ -1260,7 +1260,7 @@ pub mod address_book {
     }
 
     impl Builder {
-        /// One in which nothing is set, so that each field has its default.
+        /// A builder in which nothing is set: each field has its default.
         pub fn new() -> Builder
             ensures words { result.draft.words ≡ replicate 0 0 }
             ensures pointers { result.draft.pointers ≡ replicate 1 0 }
@@ -1270,14 +1270,14 @@ pub mod address_book {
             }
         }
 
-        /// One of what a reader shows, to be changed and written again. What its pointers point to is
-        /// copied, each object as an orphan, and null stays null. What a writer of another version of
-        /// the type left out is zero and null, and what it had beyond this one is left out.
+        /// A builder with what a reader shows, to be changed and written again. Each object that its
+        /// pointers point to is copied, as an orphan, and null stays null. What a writer of another
+        /// version of the type left out is zero or null; what it had in addition is left out.
         ///
-        /// What a setter replaces after that was copied, and stays in the bytes of the message, where no
-        /// pointer points to it. Canonical words of the message are without it.
+        /// A copy that a setter then replaces stays in the bytes of the message, where no pointer
+        /// points to it. Canonical words of the message are without it.
         ///
-        /// It fails as `Orphanage::set` of the first pointer does that can't be copied.
+        /// Fails as `Orphanage::set` does, for the first pointer that can't be copied.
         pub fn from_reader<R: ReaderSegments, S: GrowingSegment>(
             read: &Reader<'_, R>,
             objects: &mut Orphanage<S>,
@@ -1293,8 +1293,8 @@ pub mod address_book {
             }
         }
 
-        /// One of the numbers, bools and enums that a reader shows, as `from_reader` has them. Its
-        /// pointers are null.
+        /// A builder with the numbers, bools and enums that a reader shows, as `from_reader` has
+        /// them. Its pointers are null.
         pub fn from_data_section<R: ReaderSegments>(read: &Reader<'_, R>) -> Builder
             ensures words { result.draft.words
                 ≡ data_up_to (struct_of R.segments read.now.fields) 0 }

@@ -113,7 +113,7 @@ pub mod point {
         }
     }
 
-    /// A list of such structs in a message; their first fields alone, where an older writer had these.
+    /// A list of such structs in a message, or of their first fields where an older writer had these.
     #[derive(Drop)]
     pub struct ListReader<'a, S: ReaderSegments> {
         /// The list whose elements these are.
@@ -139,7 +139,7 @@ pub mod point {
             }
         }
 
-        /// The element of this index, or `None` where there are no more elements than it.
+        /// The element of this index, or `None` past the last element.
         pub fn try_get(&self, index: u32) -> Option<Reader<'a, S>>
             ensures { let list = upgraded_structs_of S.segments self.now.elements in
                 FindsElement (length list.elements) index
@@ -254,7 +254,7 @@ pub mod point {
     }
 
     impl Builder {
-        /// One in which nothing is set, so that each field has its default.
+        /// A builder in which nothing is set: each field has its default.
         pub fn new() -> Builder
             ensures words { result.draft.words ≡ replicate 1 0 }
             ensures pointers { result.draft.pointers ≡ replicate 0 0 }
@@ -264,14 +264,14 @@ pub mod point {
             }
         }
 
-        /// One of what a reader shows, to be changed and written again. What its pointers point to is
-        /// copied, each object as an orphan, and null stays null. What a writer of another version of
-        /// the type left out is zero and null, and what it had beyond this one is left out.
+        /// A builder with what a reader shows, to be changed and written again. Each object that its
+        /// pointers point to is copied, as an orphan, and null stays null. What a writer of another
+        /// version of the type left out is zero or null; what it had in addition is left out.
         ///
-        /// What a setter replaces after that was copied, and stays in the bytes of the message, where no
-        /// pointer points to it. Canonical words of the message are without it.
+        /// A copy that a setter then replaces stays in the bytes of the message, where no pointer
+        /// points to it. Canonical words of the message are without it.
         ///
-        /// It fails as `Orphanage::set` of the first pointer does that can't be copied.
+        /// Fails as `Orphanage::set` does, for the first pointer that can't be copied.
         pub fn from_reader<R: ReaderSegments, S: GrowingSegment>(
             read: &Reader<'_, R>,
             objects: &mut Orphanage<S>,
@@ -287,8 +287,8 @@ pub mod point {
             }
         }
 
-        /// One of the numbers, bools and enums that a reader shows, as `from_reader` has them. Its
-        /// pointers are null.
+        /// A builder with the numbers, bools and enums that a reader shows, as `from_reader` has
+        /// them. Its pointers are null.
         pub fn from_data_section<R: ReaderSegments>(read: &Reader<'_, R>) -> Builder
             ensures words { result.draft.words
                 ≡ data_up_to (struct_of R.segments read.now.fields) 1 }
@@ -481,7 +481,7 @@ pub mod tree {
         }
     }
 
-    /// A list of such structs in a message; their first fields alone, where an older writer had these.
+    /// A list of such structs in a message, or of their first fields where an older writer had these.
     #[derive(Drop)]
     pub struct ListReader<'a, S: ReaderSegments> {
         /// The list whose elements these are.
@@ -507,7 +507,7 @@ pub mod tree {
             }
         }
 
-        /// The element of this index, or `None` where there are no more elements than it.
+        /// The element of this index, or `None` past the last element.
         pub fn try_get(&self, index: u32) -> Option<Reader<'a, S>>
             ensures { let list = upgraded_structs_of S.segments self.now.elements in
                 FindsElement (length list.elements) index
@@ -622,7 +622,7 @@ pub mod tree {
     }
 
     impl Builder {
-        /// One in which nothing is set, so that each field has its default.
+        /// A builder in which nothing is set: each field has its default.
         pub fn new() -> Builder
             ensures words { result.draft.words ≡ replicate 1 0 }
             ensures pointers { result.draft.pointers ≡ replicate 2 0 }
@@ -632,14 +632,14 @@ pub mod tree {
             }
         }
 
-        /// One of what a reader shows, to be changed and written again. What its pointers point to is
-        /// copied, each object as an orphan, and null stays null. What a writer of another version of
-        /// the type left out is zero and null, and what it had beyond this one is left out.
+        /// A builder with what a reader shows, to be changed and written again. Each object that its
+        /// pointers point to is copied, as an orphan, and null stays null. What a writer of another
+        /// version of the type left out is zero or null; what it had in addition is left out.
         ///
-        /// What a setter replaces after that was copied, and stays in the bytes of the message, where no
-        /// pointer points to it. Canonical words of the message are without it.
+        /// A copy that a setter then replaces stays in the bytes of the message, where no pointer
+        /// points to it. Canonical words of the message are without it.
         ///
-        /// It fails as `Orphanage::set` of the first pointer does that can't be copied.
+        /// Fails as `Orphanage::set` does, for the first pointer that can't be copied.
         pub fn from_reader<R: ReaderSegments, S: GrowingSegment>(
             read: &Reader<'_, R>,
             objects: &mut Orphanage<S>,
@@ -655,8 +655,8 @@ pub mod tree {
             }
         }
 
-        /// One of the numbers, bools and enums that a reader shows, as `from_reader` has them. Its
-        /// pointers are null.
+        /// A builder with the numbers, bools and enums that a reader shows, as `from_reader` has
+        /// them. Its pointers are null.
         pub fn from_data_section<R: ReaderSegments>(read: &Reader<'_, R>) -> Builder
             ensures words { result.draft.words
                 ≡ data_up_to (struct_of R.segments read.now.fields) 1 }
@@ -1188,7 +1188,7 @@ pub mod sample {
         }
     }
 
-    /// A list of such structs in a message; their first fields alone, where an older writer had these.
+    /// A list of such structs in a message, or of their first fields where an older writer had these.
     #[derive(Drop)]
     pub struct ListReader<'a, S: ReaderSegments> {
         /// The list whose elements these are.
@@ -1214,7 +1214,7 @@ pub mod sample {
             }
         }
 
-        /// The element of this index, or `None` where there are no more elements than it.
+        /// The element of this index, or `None` past the last element.
         pub fn try_get(&self, index: u32) -> Option<Reader<'a, S>>
             ensures { let list = upgraded_structs_of S.segments self.now.elements in
                 FindsElement (length list.elements) index
@@ -1329,7 +1329,7 @@ pub mod sample {
     }
 
     impl Builder {
-        /// One in which nothing is set, so that each field has its default.
+        /// A builder in which nothing is set: each field has its default.
         pub fn new() -> Builder
             ensures words { result.draft.words ≡ replicate 4 0 }
             ensures pointers { result.draft.pointers ≡ replicate 9 0 }
@@ -1339,14 +1339,14 @@ pub mod sample {
             }
         }
 
-        /// One of what a reader shows, to be changed and written again. What its pointers point to is
-        /// copied, each object as an orphan, and null stays null. What a writer of another version of
-        /// the type left out is zero and null, and what it had beyond this one is left out.
+        /// A builder with what a reader shows, to be changed and written again. Each object that its
+        /// pointers point to is copied, as an orphan, and null stays null. What a writer of another
+        /// version of the type left out is zero or null; what it had in addition is left out.
         ///
-        /// What a setter replaces after that was copied, and stays in the bytes of the message, where no
-        /// pointer points to it. Canonical words of the message are without it.
+        /// A copy that a setter then replaces stays in the bytes of the message, where no pointer
+        /// points to it. Canonical words of the message are without it.
         ///
-        /// It fails as `Orphanage::set` of the first pointer does that can't be copied.
+        /// Fails as `Orphanage::set` does, for the first pointer that can't be copied.
         pub fn from_reader<R: ReaderSegments, S: GrowingSegment>(
             read: &Reader<'_, R>,
             objects: &mut Orphanage<S>,
@@ -1362,8 +1362,8 @@ pub mod sample {
             }
         }
 
-        /// One of the numbers, bools and enums that a reader shows, as `from_reader` has them. Its
-        /// pointers are null.
+        /// A builder with the numbers, bools and enums that a reader shows, as `from_reader` has
+        /// them. Its pointers are null.
         pub fn from_data_section<R: ReaderSegments>(read: &Reader<'_, R>) -> Builder
             ensures words { result.draft.words
                 ≡ data_up_to (struct_of R.segments read.now.fields) 4 }
@@ -1945,7 +1945,7 @@ pub mod shape {
         }
     }
 
-    /// A list of such structs in a message; their first fields alone, where an older writer had these.
+    /// A list of such structs in a message, or of their first fields where an older writer had these.
     #[derive(Drop)]
     pub struct ListReader<'a, S: ReaderSegments> {
         /// The list whose elements these are.
@@ -1971,7 +1971,7 @@ pub mod shape {
             }
         }
 
-        /// The element of this index, or `None` where there are no more elements than it.
+        /// The element of this index, or `None` past the last element.
         pub fn try_get(&self, index: u32) -> Option<Reader<'a, S>>
             ensures { let list = upgraded_structs_of S.segments self.now.elements in
                 FindsElement (length list.elements) index
@@ -2086,7 +2086,7 @@ pub mod shape {
     }
 
     impl Builder {
-        /// One in which nothing is set, so that each field has its default.
+        /// A builder in which nothing is set: each field has its default.
         pub fn new() -> Builder
             ensures words { result.draft.words ≡ replicate 2 0 }
             ensures pointers { result.draft.pointers ≡ replicate 1 0 }
@@ -2096,14 +2096,14 @@ pub mod shape {
             }
         }
 
-        /// One of what a reader shows, to be changed and written again. What its pointers point to is
-        /// copied, each object as an orphan, and null stays null. What a writer of another version of
-        /// the type left out is zero and null, and what it had beyond this one is left out.
+        /// A builder with what a reader shows, to be changed and written again. Each object that its
+        /// pointers point to is copied, as an orphan, and null stays null. What a writer of another
+        /// version of the type left out is zero or null; what it had in addition is left out.
         ///
-        /// What a setter replaces after that was copied, and stays in the bytes of the message, where no
-        /// pointer points to it. Canonical words of the message are without it.
+        /// A copy that a setter then replaces stays in the bytes of the message, where no pointer
+        /// points to it. Canonical words of the message are without it.
         ///
-        /// It fails as `Orphanage::set` of the first pointer does that can't be copied.
+        /// Fails as `Orphanage::set` does, for the first pointer that can't be copied.
         pub fn from_reader<R: ReaderSegments, S: GrowingSegment>(
             read: &Reader<'_, R>,
             objects: &mut Orphanage<S>,
@@ -2119,8 +2119,8 @@ pub mod shape {
             }
         }
 
-        /// One of the numbers, bools and enums that a reader shows, as `from_reader` has them. Its
-        /// pointers are null.
+        /// A builder with the numbers, bools and enums that a reader shows, as `from_reader` has
+        /// them. Its pointers are null.
         pub fn from_data_section<R: ReaderSegments>(read: &Reader<'_, R>) -> Builder
             ensures words { result.draft.words
                 ≡ data_up_to (struct_of R.segments read.now.fields) 2 }
@@ -2463,7 +2463,7 @@ pub mod palette {
         }
     }
 
-    /// A list of such structs in a message; their first fields alone, where an older writer had these.
+    /// A list of such structs in a message, or of their first fields where an older writer had these.
     #[derive(Drop)]
     pub struct ListReader<'a, S: ReaderSegments> {
         /// The list whose elements these are.
@@ -2489,7 +2489,7 @@ pub mod palette {
             }
         }
 
-        /// The element of this index, or `None` where there are no more elements than it.
+        /// The element of this index, or `None` past the last element.
         pub fn try_get(&self, index: u32) -> Option<Reader<'a, S>>
             ensures { let list = upgraded_structs_of S.segments self.now.elements in
                 FindsElement (length list.elements) index
@@ -2604,7 +2604,7 @@ pub mod palette {
     }
 
     impl Builder {
-        /// One in which nothing is set, so that each field has its default.
+        /// A builder in which nothing is set: each field has its default.
         pub fn new() -> Builder
             ensures words { result.draft.words ≡ replicate 0 0 }
             ensures pointers { result.draft.pointers ≡ replicate 2 0 }
@@ -2614,14 +2614,14 @@ pub mod palette {
             }
         }
 
-        /// One of what a reader shows, to be changed and written again. What its pointers point to is
-        /// copied, each object as an orphan, and null stays null. What a writer of another version of
-        /// the type left out is zero and null, and what it had beyond this one is left out.
+        /// A builder with what a reader shows, to be changed and written again. Each object that its
+        /// pointers point to is copied, as an orphan, and null stays null. What a writer of another
+        /// version of the type left out is zero or null; what it had in addition is left out.
         ///
-        /// What a setter replaces after that was copied, and stays in the bytes of the message, where no
-        /// pointer points to it. Canonical words of the message are without it.
+        /// A copy that a setter then replaces stays in the bytes of the message, where no pointer
+        /// points to it. Canonical words of the message are without it.
         ///
-        /// It fails as `Orphanage::set` of the first pointer does that can't be copied.
+        /// Fails as `Orphanage::set` does, for the first pointer that can't be copied.
         pub fn from_reader<R: ReaderSegments, S: GrowingSegment>(
             read: &Reader<'_, R>,
             objects: &mut Orphanage<S>,
@@ -2637,8 +2637,8 @@ pub mod palette {
             }
         }
 
-        /// One of the numbers, bools and enums that a reader shows, as `from_reader` has them. Its
-        /// pointers are null.
+        /// A builder with the numbers, bools and enums that a reader shows, as `from_reader` has
+        /// them. Its pointers are null.
         pub fn from_data_section<R: ReaderSegments>(read: &Reader<'_, R>) -> Builder
             ensures words { result.draft.words
                 ≡ data_up_to (struct_of R.segments read.now.fields) 0 }
