@@ -12,7 +12,7 @@ use Rattle.capnp_frame.proofs.slices.SliceAgreementLemmas.{index_below}
 use Rattle.capnp_frame.proofs.encodings.UniqueEncodingLemmas.{frames_part}
 use Rattle.capnp_layout.specs.Prelude.{words_of, message_of, root, NoWord, no_word, at_pointer}
 use Rattle.capnp_wire.specs.Prelude.{Pointer, IsCanonicalForm, PointsToTree, WalkErrorFrom}
-use Rattle.capnp_wire.proofs.views.OneValueLemmas.{one_of_pointer, measured_exactly, measured_found}
+use Rattle.capnp_wire.proofs.views.UniqueValueLemmas.{one_of_pointer, measured_exactly, measured_found}
 use Rattle.capnp_c.specs.Fronts.{IsAtFront, root_within, root_by, RootHasForm, RootCanonicalFormError, IsShort}
 
 pub one_front : (options : ReaderOptions) (bytes rest left : List ℕ) (segments others : List (List ℕ)) → IsAtFront options bytes segments rest → IsAtFront options bytes others left → segments ≡ others

@@ -7,7 +7,7 @@ use Rattle.capnp_layout.specs.declared.place.Place.{Place}
 use Rattle.capnp_wire.proofs.forms.DistinctLayoutLemmas.{root_of_canon}
 use Rattle.capnp_layout.proofs.trees.TrimmedTreeLemmas.{trim_twice, room_trim}
 use Rattle.capnp_layout.proofs.trees.TrimmedPlaceLemmas.{shallow_narrowed}
-use Rattle.capnp_wire.proofs.views.OneValueLemmas.{one_of_pointer}
+use Rattle.capnp_wire.proofs.views.UniqueValueLemmas.{one_of_pointer}
 use Rattle.capnp_wire.proofs.views.TargetValueLemmas.{form_is_canonical}
 use Rattle.capnp_message.specs.Canonical.{HasForm}
 use Rattle.capnp_message.specs.Seen.{ReadMessage, root_of}

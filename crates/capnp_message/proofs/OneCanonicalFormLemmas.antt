@@ -7,7 +7,7 @@ use Rattle.capnp_frame.specs.declared.error.ErrorKind.TheVariants.{OutOfMemory}
 use Rattle.capnp_layout.specs.Prelude.{Trees, total_words, trim, root, NoWord, WalkError, no_word, at_pointer}
 use Rattle.capnp_wire.specs.Prelude.{Pointer, TreeAt, IsCanonicalForm}
 use Rattle.capnp_wire.proofs.walks.WalkErrorLemmas.{walk_error_has_no_trees}
-use Rattle.capnp_wire.proofs.views.OneValueLemmas.{one_of_pointer}
+use Rattle.capnp_wire.proofs.views.UniqueValueLemmas.{one_of_pointer}
 use Rattle.capnp_message.specs.Canonical.{HasForm, CanonicalFormError, ReturnsForm}
 use Rattle.capnp_message.specs.Seen.{ReadMessage, root_of}
 

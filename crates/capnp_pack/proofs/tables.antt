@@ -1,7 +1,7 @@
 -- Tables with an entry for each tag: the places and the order of a word's bytes.
 pub mod TagTableLemmas
 pub mod BytePlaceLemmas
-pub mod SingleWordLemmas
+pub mod SingleWordGroupLemmas
 pub mod MarkedByteLemmas
 pub mod FrontLaneLemmas
 pub mod GroupSizeLemmas

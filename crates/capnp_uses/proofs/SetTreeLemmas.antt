@@ -7,7 +7,7 @@ use Rattle.capnp_frame.specs.Prelude.{Fails, SegmentCountError, Adds, ByKind}
 use Rattle.capnp_wire.specs.Prelude.{Form, null, struct, numbers, pointers, structs, Trees, none, tree, At, at, root, Root, canon, Pointer, HasData, TakesStruct, StructFormError, PointsToTree}
 use Rattle.capnp_wire.specs.Reached.{nowhere}
 use Rattle.capnp_layout.proofs.pointers.InvalidPointerLemmas.{word_of_object}
-use Rattle.capnp_wire.proofs.views.OneValueLemmas.{one_there}
+use Rattle.capnp_wire.proofs.views.UniqueValueLemmas.{one_there}
 use Rattle.capnp_build.specs.Prelude.{Space, Built, message, IsSet, IsWhole, RootFormError, IsFieldSet, FirstSegmentError}
 use Rattle.capnp_build.specs.declared.allocator.Allocator.{Ghosts}
 use Rattle.capnp.proofs.MessageChunkLemmas.{framed_memory}

@@ -8,8 +8,8 @@ pub mod UpgradedNumberLemmas
 pub mod UpgradedPointerLemmas
 pub mod MeasuredValueLemmas
 pub mod TargetValueLemmas
-pub mod OneValueLemmas
+pub mod UniqueValueLemmas
 pub mod PartWordLemmas
 pub mod ListValueLemmas
-pub mod NumberValueLemmas
+pub mod NumberListValueLemmas
 pub mod UpgradedValueLemmas

@@ -10,7 +10,7 @@ use Rattle.capnp_wire.specs.Prelude.{HasRoomAt}
 use Rattle.capnp_layout.proofs.words.WordByteLemmas.{length-words_of}
 use Rattle.capnp_layout.proofs.words.PutBytesLemmas.{put_mid_words}
 use Rattle.capnp_wire.proofs.layouts.FreeBlockLemmas.{numbers_total as numbers_total_of}
-use Rattle.capnp_wire.proofs.views.OneValueLemmas.{IsOne}
+use Rattle.capnp_wire.proofs.views.UniqueValueLemmas.{IsOne}
 use Rattle.capnp_layout.proofs.objects.ListWordLemmas.{low_digit, high_digits}
 use Rattle.capnp_layout.proofs.words.DigitLemmas.{number_below, pow-mul}
 use Rattle.capnp_values.specs.NumberLists.{IsNumberList, ManyNumbers}

@@ -2,7 +2,7 @@
 use Rattle.std.proofs.Common.{◌≡◌, Bool, true, false, refl, sym, ◌∙◌, arith}
 use Rattle.capnp_layout.specs.Prelude.{null, Trees, none, tree, total_words, output}
 use Rattle.capnp_wire.specs.Prelude.{HasWords}
-use Rattle.capnp_wire.proofs.views.OneValueLemmas.{IsOne}
+use Rattle.capnp_wire.proofs.views.UniqueValueLemmas.{IsOne}
 
 abbrev pub IsNull : Trees → Type 0
 IsNull trees = trees ≡ tree null none none

@@ -25,7 +25,7 @@ use Rattle.capnp_layout.proofs.layouts.CopiedTargetLemmas.{error_no_tree}
 use Rattle.capnp_wire.proofs.layouts.CopiedTargetLemmas.{in_run}
 use Rattle.capnp_wire.proofs.layouts.CopyPlanLemmas.{Opened, OpenedElements, pointers_open, room_output}
 use Rattle.capnp_wire.proofs.layouts.ObjectCopyLemmas.{elements_plain, elements_trimmed}
-use Rattle.capnp_wire.proofs.views.OneValueLemmas.{IsOne}
+use Rattle.capnp_wire.proofs.views.UniqueValueLemmas.{IsOne}
 
 -- a list is one tree
 pub one_of_list : (form : Form) (list : PointerList) → IsOne (IsListTree form list) (WalkErrorInList list)

@@ -7,9 +7,9 @@ use Rattle.capnp_wire.specs.Prelude.{struct_list_of, structs_form, pointers_in, 
 use Rattle.capnp_wire.specs.declared.upgraded.pointer_list.PointerList.{PointerList}
 use Rattle.capnp_wire.specs.declared.upgraded.struct_list.StructElements.{StructElements}
 use Rattle.capnp_wire.specs.declared.upgraded.struct_list.StructElements.TheVariants.{InPlace, Numbers}
-use Rattle.capnp_wire.proofs.views.OneValueLemmas.{IsOne}
+use Rattle.capnp_wire.proofs.views.UniqueValueLemmas.{IsOne}
 use Rattle.capnp_wire.proofs.views.ListValueLemmas.{one_of_list}
-use Rattle.capnp_wire.proofs.views.NumberValueLemmas.{one_of_numbers}
+use Rattle.capnp_wire.proofs.views.NumberListValueLemmas.{one_of_numbers}
 
 -- one that is read as a list of structs is one tree
 pub one_of_elements : {S : Type 0} {ghosts : Ghosts S} (segments : S → List (List ℕ)) (elements : StructElements S ghosts) → IsOne (IsElementsValue segments elements) (ElementsValueError segments elements)

@@ -1,6 +1,6 @@
 -- Groups after groups.
 use Rattle.std.proofs.Common.{rules, ◌∙◌}
-use Rattle.capnp_pack.proofs.tables.SingleWordLemmas.{unpacked_on}
+use Rattle.capnp_pack.proofs.tables.SingleWordGroupLemmas.{unpacked_on}
 use Rattle.capnp_pack.proofs.single_word.unpack_single_words.Goals as goal
 
 pub loop-used-preserved : goal.loop-used-preserved

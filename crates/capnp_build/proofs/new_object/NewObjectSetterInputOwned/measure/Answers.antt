@@ -1,7 +1,7 @@
 -- A new object is one tree, which is measured.
 use Rattle.std.proofs.Common.{◌≡◌, ap, ◌∙◌, sym, Ok}
 use Rattle.capnp_layout.specs.Prelude.{none, tree}
-use Rattle.capnp_wire.proofs.views.OneValueLemmas.{IsOne, measured_found, measured_exactly}
+use Rattle.capnp_wire.proofs.views.UniqueValueLemmas.{IsOne, measured_found, measured_exactly}
 use Rattle.capnp_build.specs.Prelude.{zero_form, words_of_body}
 use Rattle.capnp_build.specs.declared.object.NewBody.{NewBody}
 use Rattle.capnp_build.proofs.layouts.NewObjectLemmas.{new_object_words}

@@ -5,7 +5,7 @@ use Rattle.capnp_wire.specs.Prelude.{struct_of, limit_of, Struct, HasWords, Word
 use Rattle.capnp_layout.proofs.objects.StructFieldLemmas.{length-words_from}
 use Rattle.capnp_wire.proofs.objects.NumberStructLemmas.{whole, alone}
 use Rattle.capnp_layout.proofs.objects.NumberStructLemmas.{one_word}
-use Rattle.capnp_wire.proofs.views.OneValueLemmas.{one_of_struct, measured_found, measured_exactly}
+use Rattle.capnp_wire.proofs.views.UniqueValueLemmas.{one_of_struct, measured_found, measured_exactly}
 use Rattle.capnp_wire.proofs.any_struct.StructReaderSetterInputOwned.measure.Goals as goal
 
 pub returns-in-None : goal.returns-in-None

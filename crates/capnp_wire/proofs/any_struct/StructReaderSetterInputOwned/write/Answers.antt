@@ -6,7 +6,7 @@ use Rattle.capnp_layout.proofs.objects.StructFieldLemmas.{length-words_from}
 use Rattle.capnp_wire.proofs.objects.NumberStructLemmas.{whole, alone}
 use Rattle.capnp_layout.proofs.objects.NumberStructLemmas.{one_word}
 use Rattle.capnp_wire.proofs.layouts.FreeBlockLemmas.{tree_body_long}
-use Rattle.capnp_wire.proofs.views.OneValueLemmas.{one_of_struct}
+use Rattle.capnp_wire.proofs.views.UniqueValueLemmas.{one_of_struct}
 use Rattle.capnp_wire.proofs.any_struct.StructReaderSetterInputOwned.write.Goals as goal
 
 pub write-requires-in-Some-clause-value : goal.write-requires-in-Some-clause-value

@@ -2,7 +2,7 @@
 use Rattle.std.proofs.Common.{ℕ, ◌-◌, ◌∙◌, ap, sym, arith}
 use Rattle.capnp_layout.specs.Prelude.{words_of, code_of, width, words_for, elements, list_pointer}
 use Rattle.capnp_wire.proofs.layouts.FreeBlockLemmas.{numbers_copied}
-use Rattle.capnp_wire.proofs.views.NumberValueLemmas.{numbers_long}
+use Rattle.capnp_wire.proofs.views.NumberListValueLemmas.{numbers_long}
 use Rattle.capnp_wire.proofs.layout.value.write_numbers.Goals as goal
 
 pub returns-clause-written : goal.returns-clause-written

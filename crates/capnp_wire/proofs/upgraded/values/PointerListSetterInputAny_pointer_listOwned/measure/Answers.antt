@@ -1,7 +1,7 @@
 -- A list that is read as a list of pointers has the words of its tree.
 use Rattle.std.proofs.Common.{rules}
 use Rattle.capnp_wire.specs.Prelude.{IsPointerListValue, PointerListValueError}
-use Rattle.capnp_wire.proofs.views.OneValueLemmas.{measured_found, measured_exactly}
+use Rattle.capnp_wire.proofs.views.UniqueValueLemmas.{measured_found, measured_exactly}
 use Rattle.capnp_wire.proofs.views.UpgradedValueLemmas.{one_of_pointers}
 use Rattle.capnp_wire.proofs.upgraded.values.PointerListSetterInputAny_pointer_listOwned.measure.Goals as goal
 

@@ -1,8 +1,8 @@
 -- A list that is read as a list of structs has the words of its tree.
 use Rattle.capnp_layout.specs.Prelude.{words_of}
 use Rattle.capnp_wire.specs.Prelude.{IsElementsValue, ElementsValueError}
-use Rattle.capnp_wire.proofs.views.OneValueLemmas.{measured_found, measured_exactly}
-use Rattle.capnp_wire.proofs.views.NumberValueLemmas.{numbers_measured}
+use Rattle.capnp_wire.proofs.views.UniqueValueLemmas.{measured_found, measured_exactly}
+use Rattle.capnp_wire.proofs.views.NumberListValueLemmas.{numbers_measured}
 use Rattle.capnp_wire.proofs.views.UpgradedValueLemmas.{one_of_elements}
 use Rattle.capnp_wire.proofs.upgraded.values.StructListSetterInputStruct_listOwned.measure.Goals as goal
 

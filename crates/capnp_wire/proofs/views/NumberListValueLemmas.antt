@@ -11,7 +11,7 @@ use Rattle.std.proofs.lemmas.Nat.{pow_pos}
 use Rattle.capnp_layout.proofs.words.DigitLemmas.{length-digits}
 use Rattle.capnp_layout.proofs.trees.FieldRoomLemmas.{digits_below}
 use Rattle.capnp_wire.proofs.layouts.FreeBlockLemmas.{numbers_total}
-use Rattle.capnp_wire.proofs.views.OneValueLemmas.{IsOne}
+use Rattle.capnp_wire.proofs.views.UniqueValueLemmas.{IsOne}
 
 -- a list of numbers is one tree
 pub one_of_numbers : (code : ℕ) (values : List ℕ) → IsOne (IsNumbersTree code values) (TooManyNumbers code values)
