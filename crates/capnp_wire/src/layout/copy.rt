@@ -7,10 +7,8 @@ use crate::layout::copy_pointers::{copy_pointers, copy_run};
 use crate::layout::pending::{StructCopy, begin, begin_list, begin_struct, copy_list};
 use capnp_frame::message::ReaderSegments;
 use capnp_layout::block::BlockItem;
-use capnp_layout::fast_path::{
-    has_fast_path, local_list, local_pointers, local_struct, null_or_empty_struct,
-};
-use capnp_layout::place::{Place, word};
+use capnp_layout::fast_path::{local_list, local_pointers, local_struct, null_or_empty_struct};
+use capnp_layout::place::Place;
 
 /// The pointer word to a copy, and the first free word after it.
 #[derive(Clone, Copy)]
@@ -57,14 +55,7 @@ pub(crate) fn copy<S: ReaderSegments, T: BlockItem>(
     ensures len { length (T.as_words block.new) ≡ length (T.as_words block.old) }
 {
     match source.segments.get_segment(place.segment) {
-        Some(found) => {
-            if let Some(pointer) = word(found, place.word)
-                && !has_fast_path(pointer)
-            {
-                return copy_object(source, found, place, nesting, block, to);
-            }
-            copy_target(source, found, place, nesting, block, to)
-        }
+        Some(found) => copy_target(source, found, place, nesting, block, to),
         // There is a tree at the place, so this can't happen.
         None => Copied {
             pointer: 0,

@@ -8,9 +8,6 @@ use Rattle.capnp_wire.proofs.layout.copy.copy.Goals as goal
 pub copy_target-requires-clause-content : goal.copy_target-requires-clause-content
 copy_target-requires-clause-content g c = segment_is_there _ c.args.place.segment _ (sym c.in-Some.ensures)
 
-pub copy_object-requires-clause-content : goal.copy_object-requires-clause-content
-copy_object-requires-clause-content g c = segment_is_there _ c.args.place.segment _ (sym c.in-Some.ensures)
-
 pub returns-in-None-clause-copied : goal.returns-in-None-clause-copied
 returns-in-None-clause-copied g c =
     let can = c.requires.there in
