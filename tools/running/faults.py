@@ -1,4 +1,4 @@
-"""Devices that move little at a time, are interrupted, or fail, and memory that is refused."""
+"""Devices that move little at a time, are interrupted, or fail, and allocations that fail."""
 import os
 import subprocess
 
@@ -69,24 +69,24 @@ def try_diagnostics(program):
         program.compare(wanted._replace(said=b""), ended, name_of(words, given) + " 2> /dev/full")
 
 
-def try_growths(program):
-    """One growth of memory is refused, and each in turn: the run stops at its message by 12, or lists them all."""
-    counted, number, growths, stops = program.file("counted"), 0, 1, 0
-    while number < growths:
+def try_allocations(program):
+    """One allocation fails, and each in turn: the run stops at its message by 12, or lists them all."""
+    counted, number, allocations, stops = program.file("counted"), 0, 1, 0
+    while number < allocations:
         number += 1
-        ended = program.run(["list"], STREAM, LD_PRELOAD=program.refusing, REFUSED=str(number), COUNTED=counted)
-        growths = max(growths, int(program.read("counted")))
+        ended = program.run(["list"], STREAM, LD_PRELOAD=program.failing, FAILED=str(number), COUNTED=counted)
+        allocations = max(allocations, int(program.read("counted")))
         message = next((count for count in range(4) if ended.printed == b"".join(LINES[:count])), 0)
         wanted = whole(b"".join(LINES), None)
         if ended.status != 0:
             stops += 1
             wanted = stopped(min(message, 2), "12 OutOfMemory", b"".join(LINES[:min(message, 2)]), None)
-        program.compare(wanted, ended, "list, growth %d refused" % number)
+        program.compare(wanted, ended, "list, failed allocation %d" % number)
     if not stops:
         program.wrong += 1
-        print("try-program: of %d growths that were refused none stops the program" % growths)
+        print("try-program: of %d failed allocations none stops the program" % allocations)
 
 
 def try_faults(program):
-    for part in try_reads, try_writes, try_devices, try_diagnostics, try_growths:
+    for part in try_reads, try_writes, try_devices, try_diagnostics, try_allocations:
         part(program)

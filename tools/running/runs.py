@@ -5,7 +5,7 @@ from collections import namedtuple
 
 USAGE = b"usage: capnp_ls list [--packed] [--lenient] | pack [--lenient] | unpack [--lenient] | canon [--packed]\n"
 SHIM = os.path.join(os.path.dirname(os.path.abspath(__file__)), "devices.c")
-REFUSING = os.path.join(os.path.dirname(os.path.abspath(__file__)), "../refusing/refuse.c")
+FAILING = os.path.join(os.path.dirname(os.path.abspath(__file__)), "../failing/fail.c")
 
 # The status, standard output, standard error, and how many bytes of standard input stay unread, or None
 # where that is not known.
@@ -34,8 +34,8 @@ class Program:
 
     def __init__(self, path, folder):
         self.path, self.folder, self.tried, self.wrong = path, folder, 0, 0
-        self.devices, self.refusing = os.path.join(folder, "devices.so"), os.path.join(folder, "refuse.so")
-        for source, library in (SHIM, self.devices), (REFUSING, self.refusing):
+        self.devices, self.failing = os.path.join(folder, "devices.so"), os.path.join(folder, "fail.so")
+        for source, library in (SHIM, self.devices), (FAILING, self.failing):
             subprocess.run(["cc", "-shared", "-fPIC", "-O2", "-o", library, source], check=True)
 
     def file(self, name):

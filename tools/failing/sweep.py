@@ -1,5 +1,5 @@
-"""Runs each test of a built test program with one growth after another refused, and says how long that
-took: sweep.py PROGRAM SHIM FIRST LAST SECONDS. A test is run as often as it grows, at most to LAST. Those of
+"""Runs each test of a built test program with one allocation after another made to fail, and says how long that
+took: sweep.py PROGRAM SHIM FIRST LAST SECONDS. A test is run as often as it allocates, at most to LAST. Those of
 the module `calls` are left out, which read whole results and may fail then."""
 import os, subprocess, sys, tempfile, time
 
@@ -9,8 +9,8 @@ counted = os.path.join(folder, "counted")
 started = time.monotonic()
 
 
-def run(test, refused):
-    environment = {"LD_PRELOAD": shim, "REFUSED": str(refused), "COUNTED": counted}
+def run(test, failing):
+    environment = {"LD_PRELOAD": shim, "FAILED": str(failing), "COUNTED": counted}
     try:
         ran = subprocess.run([program, test], env=environment, stdin=subprocess.DEVNULL, stdout=subprocess.PIPE,
                              stderr=subprocess.STDOUT, timeout=60)
@@ -19,7 +19,7 @@ def run(test, refused):
         return 124, "no answer within 60 seconds"
 
 
-def growths(test):
+def allocations(test):
     status, said = run(test, 0)
     with open(counted) as file:
         return status, int(file.read()), said
@@ -27,13 +27,13 @@ def growths(test):
 
 listed = subprocess.run([program, "--list"], stdout=subprocess.PIPE, check=True).stdout.decode().split("\n")
 tests = [line[:-len(": test")] for line in listed if line.endswith(": test") and not line.startswith("calls::")]
-own = growths("no test has this name")[1]
+own = allocations("no test has this name")[1]
 runs = failed = left = longest = 0
 for test in tests:
-    status, count, said = growths(test)
+    status, count, said = allocations(test)
     if status:
         failed += 1
-        print("%s: status %d with no growth refused\n%s" % (test, status, said))
+        print("%s: status %d with no failed allocation\n%s" % (test, status, said))
         continue
     count -= own
     longest = max(longest, count)
@@ -45,8 +45,8 @@ for test in tests:
         runs += 1
         if status:
             failed += 1
-            print("%s: status %d with growth %d of %d refused\n%s" % (test, status, number, count, said))
-print("refuse-growths: %d tests, %d runs, each with one growth from %d to %d refused; the longest test has %d; %d failed, "
+            print("%s: status %d with failed allocation %d of %d\n%s" % (test, status, number, count, said))
+print("fail-allocations: %d tests, %d runs, each with one failed allocation from %d to %d; the longest test has %d; %d failed, "
       "%d left; %.0f seconds" % (len(tests), runs, first, min(last, longest), longest, failed, left,
                                  time.monotonic() - started))
 sys.exit(1 if failed or left else 0)

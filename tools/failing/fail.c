@@ -1,6 +1,6 @@
-// Preloaded into a program, it refuses one of the program's growths: the call of malloc or realloc
-// whose number, counted from 1, REFUSED names. Calls of libraries are not counted. At the end it
-// writes the number of growths to the file that COUNTED names.
+// Preloaded into a program, it makes one of the program's allocations fail: the call of malloc or realloc
+// whose number, counted from 1, FAILED names. Calls of libraries are not counted. At the end it
+// writes the number of allocations to the file that COUNTED names.
 #define _GNU_SOURCE
 #include <link.h>
 #include <stdint.h>
@@ -11,7 +11,7 @@ void *__libc_malloc(size_t);
 void *__libc_realloc(void *, size_t);
 
 static uintptr_t first, behind;
-static unsigned long calls, refused;
+static unsigned long calls, failed;
 
 // The program itself comes first.
 static int note(struct dl_phdr_info *info, size_t size, void *data) {
@@ -27,8 +27,8 @@ static int note(struct dl_phdr_info *info, size_t size, void *data) {
 }
 
 __attribute__((constructor)) static void begin(void) {
-    const char *number = getenv("REFUSED");
-    refused = number ? strtoul(number, NULL, 10) : 0;
+    const char *number = getenv("FAILED");
+    failed = number ? strtoul(number, NULL, 10) : 0;
     dl_iterate_phdr(note, NULL);
 }
 
@@ -41,15 +41,15 @@ __attribute__((destructor)) static void end(void) {
     }
 }
 
-static int refuses(void *caller) {
+static int fails(void *caller) {
     uintptr_t at = (uintptr_t)caller;
-    return at >= first && at < behind && ++calls == refused;
+    return at >= first && at < behind && ++calls == failed;
 }
 
 void *malloc(size_t size) {
-    return refuses(__builtin_return_address(0)) ? NULL : __libc_malloc(size);
+    return fails(__builtin_return_address(0)) ? NULL : __libc_malloc(size);
 }
 
 void *realloc(void *block, size_t size) {
-    return refuses(__builtin_return_address(0)) ? NULL : __libc_realloc(block, size);
+    return fails(__builtin_return_address(0)) ? NULL : __libc_realloc(block, size);
 }

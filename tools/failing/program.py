@@ -1,4 +1,4 @@
-"""Runs the built program on texts with one growth after another refused: program.py PROGRAM SHIM FOLDER,
+"""Runs the built program on texts with one allocation after another made to fail: program.py PROGRAM SHIM FOLDER,
 the folder being what `driver texts` wrote. Each run answers as without, or stops by 12 (OutOfMemory)
 with a front of the output; a message that the line counts as done is in it. Where the line of a stop itself
 has no room, it is left out."""
@@ -9,8 +9,8 @@ counted = os.path.join(tempfile.mkdtemp(), "counted")
 started = time.monotonic()
 
 
-def run(words, text, refused):
-    environment = {"LD_PRELOAD": shim, "REFUSED": str(refused), "COUNTED": counted}
+def run(words, text, failing):
+    environment = {"LD_PRELOAD": shim, "FAILED": str(failing), "COUNTED": counted}
     with open(text, "rb") as source:
         ran = subprocess.run([program, *words], env=environment, stdin=source, stdout=subprocess.PIPE,
                              stderr=subprocess.PIPE, timeout=60)
@@ -42,10 +42,10 @@ for name in sorted(os.listdir(folder)):
         runs += 1
         if not passes(words, wanted, found):
             failed += 1
-            print("capnp_ls %s, growth %d of %d refused: status %d, %r, output %s" % (
+            print("capnp_ls %s, failed allocation %d of %d: status %d, %r, output %s" % (
                 " ".join(words), number, wanted[3], found[0], found[2], found[1].hex()))
             with open(path, "rb") as source:
                 print("text %s" % source.read().hex())
-print("refuse-growths: %d runs of the program, each with one growth refused, at most the 60th; the longest has %d; %d failed; "
+print("fail-allocations: %d runs of the program, each with one failed allocation, at most the 60th; the longest has %d; %d failed; "
       "%.0f seconds" % (runs, most, failed, time.monotonic() - started))
 sys.exit(1 if failed else 0)
