@@ -1,4 +1,4 @@
-//! A sample that is built and read back, as docs/GUIDE.md has it.
+//! A sample that is built and read back: the example that docs/GUIDE.md names.
 use crate::sample_capnp::{point, sample};
 use capnp::Result;
 use capnp::message::DEFAULT_READER_OPTIONS;
