@@ -11,7 +11,7 @@ returns-in-InPlace-clause-found g c = rw c.in-InPlace.is c.measure.ensures.found
 
 pub returns-in-Numbers-clause-returned : goal.returns-in-Numbers-clause-returned
 returns-in-Numbers-clause-returned g c =
-    let elements = c.in-Numbers.elements in
+    let elements = c.in-Numbers.numbers in
     rw c.in-Numbers.is (numbers_measured elements.size (words_of elements.bytes.now) elements.count c.args.canonical c.measure_numbers.result c.measure_numbers.ensures)
 
 pub returns-in-Numbers-clause-found : goal.returns-in-Numbers-clause-found

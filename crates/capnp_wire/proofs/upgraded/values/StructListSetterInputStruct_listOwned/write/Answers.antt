@@ -9,13 +9,13 @@ use Rattle.capnp_wire.proofs.upgraded.values.StructListSetterInputStruct_listOwn
 
 pub write_numbers-requires-clause-few : goal.write_numbers-requires-clause-few
 write_numbers-requires-clause-few g c =
-    let elements = c.in-Numbers.elements in
+    let elements = c.in-Numbers.numbers in
     let value = rw c.in-Numbers.is at c.requires.value in
     omega (arith, value.tree_is.0, c.as_value.ensures.count, numbers_long (words_of elements.bytes.now) 0 (code_of elements.size) elements.count)
 
 pub write_numbers-requires-clause-room : goal.write_numbers-requires-clause-room
 write_numbers-requires-clause-room g c =
-    let elements = c.in-Numbers.elements in
+    let elements = c.in-Numbers.numbers in
     let code : ℕ = code_of elements.size in
     let value = rw c.in-Numbers.is at c.requires.value in
     let long = numbers_long (words_of elements.bytes.now) 0 code elements.count in
