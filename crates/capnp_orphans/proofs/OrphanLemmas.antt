@@ -101,7 +101,7 @@ value_is_orphan body form children start is rooms room = record {
       let linked : Linked segment start (slots form (count children)) (links_of form children) = subst (λ (n : ℕ). Linked segment start (slots form n) (links_of form children)) long read.linked in
       let object : PointsTo (segment ∷ []) (record { segment = 0; word = place }) (record { form = form; children = placed 0 start (slots form (count children)); traversed = read.traversed }) =
       subst (λ (n : ℕ). PointsTo (segment ∷ []) (record { segment = 0; word = place }) (record { form = form; children = placed 0 start (slots form n); traversed = read.traversed })) long read.object in
-      let inner = is_at (segment ∷ []) 0 segment refl start (slots form (count children)) (object_size form (count children)) children (few_reach (slots form (count children)) (object_size form (count children)) children (omega (arith, room)))
+      let inner = trees_are_at (segment ∷ []) 0 segment refl start (slots form (count children)) (object_size form (count children)) children (few_reach (slots form (count children)) (object_size form (count children)) children (omega (arith, room)))
       rooms.1 (length-slots form (count children) rooms.0) (slots_before form (count children) rooms.0) linked inner_there in
       (read.traversed + inner.0 + 0, at object inner.1 nowhere);
 }
