@@ -1,0 +1,185 @@
+"""The list of public items, docs/API.md: a line for each public item of the libraries and one for the arguments of each
+function, from their sources.
+
+An item stands under the path that its user writes: by its modules, or where one of these is private by
+the `pub use` that names it. A line has the item's kind and the first sentence of its documentation; the line below a
+function has what it takes and returns, without its contract. The page has two parts: the crates that programs name,
+of which `capnp` also has what it re-exports, and what else the crates below have, for authors of views and
+allocators. `laws`, whose functions do nothing, are left out.
+"""
+import re
+
+from .tree import ROOT, text_of
+
+PAGE = "docs/API.md"
+PARTS = [
+    ("For programs", ["capnp", "capnp_orphans", "capnp_values"]),
+    ("For authors of views and allocators",
+     ["capnp_message", "capnp_frame", "capnp_pack", "capnp_layout", "capnp_wire", "capnp_build"]),
+]
+LEFT_OUT = {"laws"}
+ITEM = re.compile(r"( *)pub (?:const (?=fn))?(?:unsafe )?(?:extern \"C\" )?(fn|struct|enum|trait|const|type) (\w+)")
+MEMBER = re.compile(r"    (fn) (\w+)")
+BLOCK = re.compile(r"(?:unsafe )?impl(?:<.*?>)? (.*?) \{|pub trait (\w+)")
+
+
+def first_sentence(lines):
+    """The first sentence of a documentation comment, without the links' targets."""
+    text = " ".join(lines).strip()
+    text = re.sub(r"\[([^\]]*)\]\([^)]*\)", r"\1", text)
+    match = re.match(r"(.*?[.:])(?= |$)", text)
+    return (match.group(1) if match else text).rstrip(":").rstrip(".")
+
+
+def file_of(source, path):
+    """The file of a module."""
+    return source / ("lib.rt" if not path else "/".join(path) + ".rt")
+
+
+def is_public(source, path):
+    """Whether each module on the way is public."""
+    for depth in range(len(path)):
+        parent = file_of(source, path[:depth])
+        if not re.search(rf"^pub mod {path[depth]};", text_of(parent), re.M):
+            return False
+    return True
+
+
+def used_in(source, path, name):
+    """The module that names an item of a private module by `pub use`."""
+    for depth in range(len(path) - 1, -1, -1):
+        if not is_public(source, path[:depth]):
+            continue
+        for used in re.findall(r"^pub use ([^;]*);", text_of(file_of(source, path[:depth])), re.M):
+            if re.search(rf"\b{name}\b", used):
+                return path[:depth]
+    private = "crate::" + "::".join(path) + "::"
+    for file in sorted(source.rglob("*.rt")):
+        module = list(file.relative_to(source).with_suffix("").parts)
+        if is_public(source, module) and re.search(rf"^pub use {private}[^;]*\b{name}\b", text_of(file), re.M):
+            return module
+    return None
+
+
+def block_name(header):
+    """The type that an `impl` block is of, or none for the block of a trait."""
+    if " for " in header:
+        return None
+    return re.match(r"[\w:]+", header).group(0).split("::")[-1]
+
+
+def signature(lines):
+    """What a function takes and returns, of the lines that begin with its name: all before its contract and body."""
+    words = []
+    for line in lines:
+        if re.match(r"\s*(requires|ensures|decreases|ghost)\b|\s*\{", line):
+            break
+        words.append(re.sub(r"\s*(//.*|[{;])?$", "", line.strip()))
+        if line.rstrip().endswith((";", "{")):
+            break
+    text = re.sub(r"\s+", " ", " ".join(words)).strip().removeprefix("pub ")
+    return re.sub(r",? ([)>])", r"\1", re.sub(r"([(<]) ", r"\1", text)).rstrip(",")
+
+
+def items(source, file):
+    """The public items of a file: path, kind, first sentence, signature."""
+    path = list(file.relative_to(source).with_suffix("").parts)
+    path = [] if path == ["lib"] else path
+    block, trait, comment = None, False, []
+    lines = text_of(file).splitlines()
+    for number, line in enumerate(lines):
+        stripped = line.strip()
+        if stripped.startswith("#[cfg(test)]"):
+            break
+        if stripped.startswith("///"):
+            comment.append(stripped[3:].strip())
+            continue
+        if stripped.startswith("#["):
+            continue
+        opened = BLOCK.match(line)
+        if opened:
+            trait = opened.group(2) is not None
+            block = opened.group(2) if trait else block_name(opened.group(1))
+        elif line == "}":
+            block, trait = None, False
+        item = ITEM.match(line) or (trait and MEMBER.match(line))
+        if item:
+            kind, name = item.groups()[-2:]
+            inner = line.startswith("    ")
+            if not inner or block:
+                outer = block if inner else name
+                where = path if is_public(source, path) else used_in(source, path, outer)
+                if where is not None and not LEFT_OUT & set(path):
+                    own = where + ([block, name] if inner else [name])
+                    sentence = first_sentence(comment[: comment.index("") if "" in comment else None])
+                    yield "::".join(own), kind, sentence, signature(lines[number:]) if kind == "fn" else None
+        if stripped:
+            comment = []
+
+
+def leaves(text):
+    """The paths that a `use` names."""
+    opened = re.match(r"((?:\w+::)*)\{(.*)\}$", text.strip(), re.S)
+    if not opened:
+        return [text.strip()]
+    parts = re.findall(r"(?:[^,{}]|\{[^{}]*\})+", opened.group(2))
+    return [opened.group(1) + leaf for part in parts if part.strip() for leaf in leaves(part)]
+
+
+def passed_on(crate):
+    """What a crate re-exports of others: the crate, the path there, the path here."""
+    source = ROOT / "crates" / crate / "src"
+    for file in sorted(source.rglob("*.rt")):
+        path = list(file.relative_to(source).with_suffix("").parts)
+        path = [] if path == ["lib"] else path
+        if is_public(source, path) and not LEFT_OUT & set(path):
+            for used in re.findall(r"^pub use (capnp_[^;]*);", text_of(file), re.M):
+                for leaf in leaves(used):
+                    other, *names = leaf.split("::")
+                    yield other, names, "::".join(path + names[-1:])
+
+
+def take(found, names, here):
+    """Takes an item, or all of a module, out of a crate's items, and gives it its path here. What the root of a crate
+    names may be in a public module of it, too."""
+    origins = {"::".join(names)}
+    if len(names) == 1:
+        origins |= {path for path, *_ in found if re.fullmatch(rf"([a-z_]+::)*{names[0]}", path)}
+    taken = set()
+    for origin in origins:
+        for item in [item for item in found if (item[0] + "::").startswith(origin + "::")]:
+            found.discard(item)
+            taken.add((here + item[0][len(origin):], *item[1:]))
+    return taken
+
+
+def page():
+    lines = ["# The public items of the libraries", ""]
+    lines += ["Made by `tools/api` from the documentation in the sources, which says more, as do the contracts there.", ""]
+    found = {}
+    for crate in [crate for _, crates in PARTS for crate in crates]:
+        source = ROOT / "crates" / crate / "src"
+        files = [file for file in sorted(source.rglob("*.rt")) if "tests" not in file.stem]
+        found[crate] = {item for file in files for item in items(source, file)}
+    for other, names, here in passed_on("capnp"):
+        found["capnp"] |= take(found[other], names, here)
+    for part, crates in PARTS:
+        lines += [f"## {part}", ""]
+        for crate in filter(found.get, crates):
+            lines += [f"### {crate}", ""]
+            for path, kind, sentence, taken in sorted(found[crate], key=lambda item: (item[0].lower(), item[1], item[3] or "")):
+                lines.append(f"- `{path}`, {kind}" + (f": {sentence}." if sentence else ""))
+                if taken:
+                    lines.append(f"  `{taken}`")
+            lines.append("")
+    return "\n".join(lines)
+
+
+def check(tree):
+    text = page()
+    tree.seen(text.count("\n- "))
+    has = tree.text(PAGE) if tree.has(PAGE) else ""
+    if has != text:
+        lines = zip(has.split("\n") + [""], text.split("\n") + [""])
+        line = next((number for number, (old, new) in enumerate(lines, 1) if old != new), 1)
+        tree.wrong(PAGE, line, "not what the sources say: run tools/api")

@@ -1,0 +1,111 @@
+"""What a rename by a script leaves behind in comments and pages, and lists of headings.
+
+It finds a doc comment within a doc comment; a comment that goes on as a sentence after the name of a definition; a
+page whose list of its own headings isn't its headings; a page that says of something that it is not here yet.
+"""
+import re
+
+from . import tree as files
+
+WITHIN = re.compile(r"^\s*//[/!].*\s///(\s|$)")
+SENTENCE = re.compile(r"^\s*(?://[/!]?|--) ?([A-Z][a-z0-9]+(?:[A-Z][a-z0-9]*)+) [a-z]")
+DEFINED = re.compile(r"^(?:pub )?(?:record |data )?([A-Z]\w*)\b", re.M)
+NOT_HERE = re.compile(r"\bnot here yet\b", re.I)
+HEADING = re.compile(r"^(#+) (.*)$")
+LINK = re.compile(r"\[((?:[^\]]|\n)*?)\]\(#([^)\s]*)\)")
+
+
+def anchor_of(heading):
+    """The anchor that a heading's page has for it."""
+    said = re.sub(r"\[([^\]]*)\]\([^)]*\)", r"\1", heading)
+    return re.sub(r"[^\w\- ]", "", said.strip().lower()).replace(" ", "-")
+
+
+def headings_of(text):
+    """Each heading outside of code: its level, its text and its anchor, with a number where the page has it before."""
+    found, before = [], {}
+    for _, line, is_code in files.lines_of_page(text):
+        heading = HEADING.match(line)
+        if heading and not is_code:
+            anchor = anchor_of(heading[2])
+            before[anchor] = before.get(anchor, -1) + 1
+            found.append((len(heading[1]), heading[2], anchor + (f"-{before[anchor]}" if before[anchor] else "")))
+    return found
+
+
+def front_of(text):
+    """What stands before the page's first heading of the second level."""
+    return text.split("\n## ")[0]
+
+
+def is_nested(text):
+    """Whether the page lists its headings one a line, those of the third level below those of the second."""
+    return "\n  - [" in front_of(text)
+
+
+def wrong_heading(text):
+    """The first heading that the page's list of its headings lacks, or has where the page has another one, if it has a list."""
+    linked = [anchor for _, anchor in LINK.findall(front_of(text))]
+    if len(linked) < 3:
+        return None
+    levels = {anchor: level for level, _, anchor in headings_of(text) if level > 1}
+    deepest = 3 if is_nested(text) else 2
+    wanted = [anchor for anchor, level in levels.items() if level <= deepest or anchor in linked]
+    for number in range(max(len(linked), len(wanted))):
+        if linked[number : number + 1] != wanted[number : number + 1]:
+            return (wanted[number : number + 1] or linked[number : number + 1])[0]
+    return None
+
+
+def with_headings(text):
+    """The page with such a list of all its headings."""
+    front, rest = text.split("\n## ", 1)
+    lines = front.split("\n")
+    first = next(number for number, line in enumerate(lines) if line.startswith("- ["))
+    listed = ["%s- [%s](#%s)" % ("  " * (level - 2), heading, anchor)
+              for level, heading, anchor in headings_of(text) if level > 1]
+    return "\n".join(lines[:first] + listed) + "\n\n## " + rest
+
+
+def write_headings(tree):
+    """Writes such lists anew where they are wrong, and returns the pages."""
+    written = []
+    for path in tree.pages():
+        text = tree.text(path)
+        if is_nested(text) and wrong_heading(text):
+            (tree.root / path).write_text(with_headings(text), encoding="utf-8")
+            written.append(path)
+    return written
+
+
+def check_page(tree, path):
+    text = tree.text(path)
+    for number, line in enumerate(text.split("\n"), 1):
+        if NOT_HERE.search(line):
+            tree.wrong(path, number, "it says that something is not here yet")
+    heading = wrong_heading(text)
+    if heading:
+        at = text.find(f"(#{heading})")
+        tree.wrong(path, files.line_at(text, at) if at >= 0 else 1,
+                   f"the list of headings goes wrong at #{heading}" + (" (tools/headings writes it)" if is_nested(text) else ""))
+
+
+def check_code(tree, path, defined):
+    for number, line in enumerate(tree.text(path).split("\n"), 1):
+        if WITHIN.match(line):
+            tree.wrong(path, number, "a doc comment within a doc comment")
+        begun = SENTENCE.match(line)
+        if begun and begun[1] in defined:
+            tree.wrong(path, number, f"a comment goes on after `{begun[1]}`")
+
+
+def check(tree):
+    defined = {name for path in tree.paths if "/specs/" in path for name in DEFINED.findall(tree.text(path))}
+    for path in tree.paths:
+        if path.endswith(".md"):
+            check_page(tree, path)
+        elif path.endswith((".rt", ".antt")):
+            check_code(tree, path, defined)
+        else:
+            continue
+        tree.seen()

@@ -1,0 +1,65 @@
+"""The tracked files as they stand in the working tree, read once for all checks, and what is found wrong in them."""
+import functools
+import re
+import subprocess
+from pathlib import Path
+
+ROOT = Path(__file__).resolve().parent.parent.parent
+WITHOUT_TEXT = re.compile(r".*\.png|tools/c-example/stored/.*")
+FENCE = re.compile(r"^ *```")
+
+
+@functools.cache
+def text_of(file):
+    """The text of a file, which is read once for all checks."""
+    return file.read_text(encoding="utf-8", errors="replace")
+
+
+class Tree:
+    """The tracked files by their paths, and what a check has found wrong in them."""
+
+    def __init__(self, root=ROOT):
+        self.root = Path(root)
+        listed = subprocess.run(["git", "ls-files", "-z"], cwd=root, stdout=subprocess.PIPE, check=True).stdout.decode()
+        self.paths = [path for path in listed.split("\0") if path and (self.root / path).is_file()]
+        self.folders = {"/".join(path.split("/")[:depth]) for path in self.paths for depth in range(1, path.count("/") + 1)}
+        self.known = {*self.paths, *self.folders}
+        self.faults = []
+        self.counted = 0
+
+    def text(self, path):
+        return "" if WITHOUT_TEXT.fullmatch(path) else text_of(self.root / path)
+
+    def has(self, path):
+        return path in self.known
+
+    def crates(self):
+        """The crates that have sources, sorted."""
+        return sorted({path.split("/")[1] for path in self.paths if re.match(r"crates/\w+/src/", path)})
+
+    def sources(self, pattern):
+        return [path for path in sorted(self.paths) if re.fullmatch(pattern, path)]
+
+    def pages(self):
+        return [path for path in self.paths if path.endswith(".md")]
+
+    def wrong(self, path, line, what):
+        """Notes what is wrong at a place; line 0 is the file itself."""
+        self.faults.append((path, line, what))
+
+    def seen(self, number=1):
+        """Counts what a check has looked at."""
+        self.counted += number
+
+
+def lines_of_page(text):
+    """The lines of a page with their numbers, and whether each is in a block of code."""
+    in_code = False
+    for number, line in enumerate(text.split("\n"), 1):
+        fence = FENCE.match(line) is not None
+        yield number, line, in_code or fence
+        in_code ^= fence
+
+
+def line_at(text, place):
+    return text.count("\n", 0, place) + 1
