@@ -1,9 +1,9 @@
-"""The figures of bench/, which tools/draw-chart and tools/compare-figures read, and what they come to."""
+"""The figures of bench/, which tools/draw-chart and tools/linting/figures.py read, and what they come to."""
 import re
 from collections import namedtuple
-from pathlib import Path
 
-ROOT = Path(__file__).resolve().parent.parent.parent
+from prelude import ROOT
+
 BENCH = ROOT / "bench"
 # The times are kept as texts, with the digits that they were printed with.
 Row = namedtuple("Row", "table group name ours cpp rust sets instructions")

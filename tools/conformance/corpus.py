@@ -1,9 +1,12 @@
 """The cases of conformance/, the library's own driver over them, and what a driver's output says."""
 import subprocess
+import sys
 from dataclasses import dataclass, field
 from pathlib import Path
 
-ROOT = Path(__file__).resolve().parent.parent.parent
+sys.path.insert(0, str(Path(__file__).resolve().parent.parent))
+from prelude import ROOT, copy_tree, tracked
+
 OPTIONS = {"limit", "nesting", "calls", "buffer", "at"}
 # Who may be named in front of a result.
 WHO = {"strict", "lenient", "words", "fields", "lenient words", "lenient fields", "framed", "packed", "null", "text", "data", "struct", "size",
@@ -62,11 +65,7 @@ def cases_of(written):
 
 def copy_of_crates(folder):
     """A copy of the crates in a folder, with the library's own driver as another one."""
-    names = subprocess.run(["git", "ls-files", "-z", "crates", "crates.txt", "HANDLES"], cwd=ROOT, stdout=subprocess.PIPE, check=True)
-    for name in names.stdout.decode().split("\0"):
-        if name and (ROOT / name).exists():
-            (folder / name).parent.mkdir(parents=True, exist_ok=True)
-            (folder / name).write_bytes((ROOT / name).read_bytes())
+    copy_tree(folder, tracked("crates", "crates.txt", "HANDLES"))
     source = folder / "crates/conformance/src"
     source.mkdir(parents=True)
     for path in (ROOT / "tools/conformance").iterdir():

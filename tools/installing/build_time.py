@@ -1,6 +1,6 @@
 """Says how long it takes to prove and build crates, and those that they stand on: build_time.py TOOL ROOT CRATE..
 
-The seconds of processor time of each crate's proof are those of bench/gate.txt, which tools/time-gate writes. What a
+The seconds of processor time of each crate's proof are those of bench/gate.txt, which `tools/time gate` writes. What a
 crate below has in its folder `out` already is left out.
 """
 import os

@@ -73,7 +73,7 @@ def write_headings(tree):
     for path in tree.pages():
         text = tree.text(path)
         if is_nested(text) and wrong_heading(text):
-            (tree.root / path).write_text(with_headings(text), encoding="utf-8")
+            (files.ROOT / path).write_text(with_headings(text), encoding="utf-8")
             written.append(path)
     return written
 

@@ -9,6 +9,8 @@ import subprocess
 import tempfile
 from pathlib import Path
 
+from prelude import copy_tree
+
 OF_A_CRATE = re.compile(r"crates/(\w+)/.*\.(rt|antt)")
 
 
@@ -32,10 +34,7 @@ def check(tree, wanted=()):
         return
     with tempfile.TemporaryDirectory() as folder:
         copy = Path(folder)
-        for path in tree.paths:
-            if path.startswith("crates/") or path == "crates.txt":
-                (copy / path).parent.mkdir(parents=True, exist_ok=True)
-                shutil.copy2(tree.root / path, copy / path)
+        copy_tree(copy, [path for path in tree.paths if path.startswith("crates/") or path == "crates.txt"])
         for name in crates:
             ran = subprocess.run(["rt", "fmt"], cwd=copy / "crates" / name, stdout=subprocess.PIPE, stderr=subprocess.STDOUT)
             if ran.returncode:

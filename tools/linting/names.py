@@ -1,4 +1,4 @@
-"""Files and names that pages give and that are not there.
+"""Files and names that pages give and that are not there, and paths below `tools/` and the like that any file gives.
 
 Of links it looks for the file and the heading. Of what stands in `..` it looks for paths, and for identifiers: with `::`, in
 CamelCase or in snake_case. A path is from the top, from the page's folder, or the end of a path. An identifier has to be in
@@ -26,6 +26,7 @@ STANDS_FOR = re.compile(
     r"(?:^|/)(?:[A-Z][A-Z_]+|N|Y|M)(?=[./_]|$)|\.\.\.|(?:^|/)(?:out|target|must-fail)(?:/|$)|^/?(?:dev|usr|proc|etc|tmp|home)/")
 STANDS_FOR_PART = re.compile(r"(?<![A-Z])[A-Z]+(?=_[a-z])|(?<=[a-z]_)[A-Z]+(?![A-Z])")
 TOPS = ("tools/", "crates/", "docs/", "bench/", "conformance/", ".ci/")
+MENTIONED = re.compile(r"(?<![\w./-])(?:tools|bench|docs|conformance)/[\w.*/-]*[\w*]")
 IDENTIFIER = re.compile(r"[A-Za-z_]\w*(?:::[A-Za-z_]\w*)*")
 CAMEL_OR_SNAKE = re.compile(r"[A-Z][a-z0-9]+[A-Z]\w*|[a-z][a-z0-9]*[A-Z]\w*|[A-Za-z]\w*_\w+")
 WORD = re.compile(r"[A-Za-z_]\w*")
@@ -120,8 +121,18 @@ def check_quoted(tree, page, known, text, of_page):
                 tree.wrong(page, line, f"the name {part} is nowhere" + (f", of {identifier}" if part != identifier else ""))
 
 
+def check_mentioned(tree, path, known):
+    text = tree.text(path)
+    for found in MENTIONED.finditer(text):
+        if not STANDS_FOR.search(found[0]) and not known.has_path(path, found[0]):
+            tree.wrong(path, line_at(text, found.start()), f"the file {found[0]} is not there")
+
+
 def check(tree):
     known = Known(tree)
+    for path in tree.paths:
+        if path not in LEFT_OUT and not path.startswith("tools/linting/"):
+            check_mentioned(tree, path, known)
     for page in tree.pages():
         if page in LEFT_OUT:
             continue

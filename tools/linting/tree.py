@@ -1,10 +1,9 @@
 """The tracked files as they stand in the working tree, read once for all checks, and what is found wrong in them."""
 import functools
 import re
-import subprocess
-from pathlib import Path
 
-ROOT = Path(__file__).resolve().parent.parent.parent
+from prelude import ROOT, tracked
+
 WITHOUT_TEXT = re.compile(r".*\.png|tools/c-example/stored/.*")
 FENCE = re.compile(r"^ *```")
 
@@ -18,17 +17,15 @@ def text_of(file):
 class Tree:
     """The tracked files by their paths, and what a check has found wrong in them."""
 
-    def __init__(self, root=ROOT):
-        self.root = Path(root)
-        listed = subprocess.run(["git", "ls-files", "-z"], cwd=root, stdout=subprocess.PIPE, check=True).stdout.decode()
-        self.paths = [path for path in listed.split("\0") if path and (self.root / path).is_file()]
+    def __init__(self):
+        self.paths = tracked()
         self.folders = {"/".join(path.split("/")[:depth]) for path in self.paths for depth in range(1, path.count("/") + 1)}
         self.known = {*self.paths, *self.folders}
         self.faults = []
         self.counted = 0
 
     def text(self, path):
-        return "" if WITHOUT_TEXT.fullmatch(path) else text_of(self.root / path)
+        return "" if WITHOUT_TEXT.fullmatch(path) else text_of(ROOT / path)
 
     def has(self, path):
         return path in self.known

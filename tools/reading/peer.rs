@@ -3,7 +3,7 @@
 //
 // A crate with the dependency `capnp = "0.14.11"`, built as releases are, with one code generation unit and `lto`:
 //
-//   tools/time-reading Rust=target/release/peer
+//   tools/time reading Rust=target/release/peer
 use capnp::message::{Reader, ReaderOptions};
 use capnp::private::layout::{
     ElementSize, ListReader, PointerReader, PrimitiveElement, StructReader,

@@ -1,0 +1,31 @@
+"""What the tools in Python share: the top of the repository, its tracked files, and copies of these."""
+import shutil
+import subprocess
+from pathlib import Path
+
+ROOT = Path(__file__).resolve().parent.parent
+
+
+def tracked(*below, options=()):
+    """The paths of the tracked files that are there, of all or below some paths."""
+    listed = subprocess.run(["git", "ls-files", "-z", *options, *below], cwd=ROOT, stdout=subprocess.PIPE, check=True).stdout.decode()
+    return [path for path in listed.split("\0") if path and (ROOT / path).is_file()]
+
+
+def copy_tree(to, paths, crates=()):
+    """Copies these files, and what checks here kept of these crates in out/."""
+    for path in paths:
+        (to / path).parent.mkdir(parents=True, exist_ok=True)
+        shutil.copy2(ROOT / path, to / path)
+    for name in crates:
+        if (ROOT / "crates" / name / "out").is_dir():
+            shutil.copytree(ROOT / "crates" / name / "out", to / "crates" / name / "out", symlinks=True)
+
+
+def add_crate(to, line, main):
+    """Adds a crate to such a copy, by its line of crates.txt and the file of its `main`."""
+    source = to / "crates" / line.partition(":")[0] / "src"
+    source.mkdir(parents=True)
+    shutil.copy2(ROOT / main, source / "main.rt")
+    with open(to / "crates.txt", "a") as file:
+        file.write(line + "\n")
