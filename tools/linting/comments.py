@@ -57,25 +57,17 @@ def wrong_heading(text):
     return None
 
 
+def listed_headings(text):
+    """Such a list of all headings, one a line."""
+    return ["%s- [%s](#%s)" % ("  " * (level - 2), heading, anchor) for level, heading, anchor in headings_of(text) if level > 1]
+
+
 def with_headings(text):
-    """The page with such a list of all its headings."""
+    """The page with that list in the place of its own, which begins with a line "- [" and ends before the next heading."""
     front, rest = text.split("\n## ", 1)
     lines = front.split("\n")
-    first = next(number for number, line in enumerate(lines) if line.startswith("- ["))
-    listed = ["%s- [%s](#%s)" % ("  " * (level - 2), heading, anchor)
-              for level, heading, anchor in headings_of(text) if level > 1]
-    return "\n".join(lines[:first] + listed) + "\n\n## " + rest
-
-
-def write_headings(tree):
-    """Writes such lists anew where they are wrong, and returns the pages."""
-    written = []
-    for path in tree.pages():
-        text = tree.text(path)
-        if is_nested(text) and wrong_heading(text):
-            (files.ROOT / path).write_text(with_headings(text), encoding="utf-8")
-            written.append(path)
-    return written
+    first = next((number for number, line in enumerate(lines) if line.startswith("- [")), len(lines))
+    return "\n".join(lines[:first] + listed_headings(text)) + "\n\n## " + rest
 
 
 def check_page(tree, path):
@@ -87,7 +79,7 @@ def check_page(tree, path):
     if heading:
         at = text.find(f"(#{heading})")
         tree.wrong(path, files.line_at(text, at) if at >= 0 else 1,
-                   f"the list of headings goes wrong at #{heading}" + (" (tools/headings writes it)" if is_nested(text) else ""))
+                   f"the list of headings goes wrong at #{heading} (tools/headings prints it)")
 
 
 def check_code(tree, path, defined):
