@@ -38,7 +38,7 @@ part_split n got raw left within spelled =
           let joined = sym spelled ∙ h.0 ∙ ap (λ l. l ++ rest) cut ∙ append_assoc (take (length got) bytes) (drop (length got) bytes) rest in
           let same = same_front got (take (length got) bytes) left (drop (length got) bytes ++ rest) (sym (length-take-le (length got) bytes fits)) joined in
           (drop (length got) bytes, cut ∙ ap (λ l. l ++ drop (length got) bytes) (sym same.0), (same.1, omega (arith, length-drop (length got) bytes, h.1)));
-      errors = λ kind. (λ h. (omega (arith, h.0, long, within), h.1), λ h. (omega (arith, h.0, long, within), h.1));
+      same_errors = λ kind. (λ h. (omega (arith, h.0, long, within), h.1), λ h. (omega (arith, h.0, long, within), h.1));
     }
 
 pub part_given : (known : Bool) (old new : Option (List ℕ)) (count : ℕ) (buffer : List ℕ) → Consumes old new (take count buffer)
