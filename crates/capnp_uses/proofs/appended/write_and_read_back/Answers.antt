@@ -18,8 +18,8 @@ returns-in_err-readers g c =
     let p = err_from_is_err_and c.from_residual-in_err-readers.result c.from_residual-in_err-readers.ensures.1 in
     let reported = c.in_err-readers.ensures in
     let encodings = read_encodings Zero c.args.format c.args.options.traversal_limit_in_words
-    (map g.S.ReaderSegments.segments c.args.messages.now) c.new-encoding.result.items _ c.deref-source.result.now
-    c.new-encoding.ensures.items c.deref-source.ensures.value c.requires.writable c.in_ok-write_messages.ensures.few
+    (map g.S.ReaderSegments.segments c.args.messages.now) c.new-encodings.result.items _ c.deref-source.result.now
+    c.new-encodings.ensures.items c.deref-source.ensures.value c.requires.writable c.in_ok-write_messages.ensures.few
     c.requires.size (c.in_ok-write_messages.ensures.encoding (λ chunk encoding same. same)) in
     let memory = memory_only c.in_err-readers.field-0.0.kind (reported.accepted (map g.S.ReaderSegments.segments c.args.messages.now) [] encodings
     (length-map c.args.messages.now g.S.ReaderSegments.segments)) reported.failed in
@@ -29,8 +29,8 @@ pub returns-in_err-end : goal.returns-in_err-end
 returns-in_err-end g c =
     let p = err_from_is_err_and c.from_residual-in_err-end.result c.from_residual-in_err-end.ensures.1 in
     let encodings = read_encodings Zero c.args.format c.args.options.traversal_limit_in_words
-    (map g.S.ReaderSegments.segments c.args.messages.now) c.new-encoding.result.items _ c.deref-source.result.now
-    c.new-encoding.ensures.items c.deref-source.ensures.value c.requires.writable c.in_ok-write_messages.ensures.few
+    (map g.S.ReaderSegments.segments c.args.messages.now) c.new-encodings.result.items _ c.deref-source.result.now
+    c.new-encodings.ensures.items c.deref-source.ensures.value c.requires.writable c.in_ok-write_messages.ensures.few
     c.requires.size (c.in_ok-write_messages.ensures.encoding (λ chunk encoding same. same)) in
     let same = read_same Zero c.args.format c.args.options.traversal_limit_in_words (λ reader. reader.segments) g.S.ReaderSegments.segments
     c.in_ok-readers.readers.items c.args.messages.now c.deref-source.result.now _ c.in_ok-readers.ensures.found encodings
@@ -43,13 +43,13 @@ returns g c =
     let limit = c.args.options.traversal_limit_in_words in
     let messages = map g.S.ReaderSegments.segments c.args.messages.now in
     let wrote = c.in_ok-write_messages.ensures.encoding (λ chunk encoding same. same) in
-    let encodings = read_encodings Zero c.args.format limit messages c.new-encoding.result.items _ c.deref-source.result.now
-    c.new-encoding.ensures.items c.deref-source.ensures.value c.requires.writable c.in_ok-write_messages.ensures.few c.requires.size wrote in
+    let encodings = read_encodings Zero c.args.format limit messages c.new-encodings.result.items _ c.deref-source.result.now
+    c.new-encodings.ensures.items c.deref-source.ensures.value c.requires.writable c.in_ok-write_messages.ensures.few c.requires.size wrote in
     let same = read_same Zero c.args.format limit (λ reader. reader.segments) g.S.ReaderSegments.segments
     c.in_ok-readers.readers.items c.args.messages.now c.deref-source.result.now _ c.in_ok-readers.ensures.found encodings
     c.in_ok-readers.ensures.counted in
     record {
-      written = appended_alone (AppendsEach (IsEncodingOf c.args.format) messages) c.new-encoding.result.items _ c.new-encoding.ensures.items wrote;
+      written = appended_alone (AppendsEach (IsEncodingOf c.args.format) messages) c.new-encodings.result.items _ c.new-encodings.ensures.items wrote;
       read = rw (← c.deref-source.ensures.value) (rw (← same.0) at encodings);
       back = same.0;
       options_are = c.in_ok-readers.ensures.options_are;
