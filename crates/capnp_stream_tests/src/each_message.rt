@@ -134,7 +134,7 @@ fn write_each(
     let at = at(case, padding);
     assert!(rt;
         failure == ended.failure,
-        "{stop:?} at {}, {}",
+        "{failure:?} at {}, {}",
         at.case,
         at.number
     );
