@@ -11,7 +11,7 @@ use Rattle.capnp_show.specs.declared.tree.Label.{Label}
 use Rattle.capnp_show.specs.declared.tree.Label.TheVariants.{Root as RootLabel, Pointer as PointerLabel, Element as ElementLabel}
 use Rattle.capnp_show.specs.declared.tree.Node.{Node}
 use Rattle.capnp_show.specs.declared.tree.Found.{Found}
-use Rattle.capnp_show.specs.declared.tree.Found.TheVariants.{Null, Object as AnObject, Element, Unread}
+use Rattle.capnp_show.specs.declared.tree.Found.TheVariants.{Null, Object as AnObject, Element, Invalid}
 use Rattle.capnp_show.specs.declared.tree.NodeRun.{NodeRun}
 use Rattle.capnp_show.specs.declared.tree.NodeRunKind.{NodeRunKind}
 use Rattle.capnp_show.specs.declared.tree.NodeRunKind.TheVariants.{Root, Pointers, Elements}
@@ -79,7 +79,7 @@ Finds segments place nesting left Null = word_at (message_of segments) place ≡
 Finds segments place nesting left (AnObject object) = IsFoundObject segments place object × (0 < nesting)
     × IfSome left (λ most. object_traversed object ≤ most)
 Finds segments place nesting left (Element start size) = ⊥
-Finds segments place nesting left (Unread kind) = PlaceError segments place kind
+Finds segments place nesting left (Invalid kind) = PlaceError segments place kind
     ⊎ ((object : Object) × IsFoundObject segments place object × (nesting ≡ 0) × (kind ≡ NestingLimitExceeded))
     ⊎ ((object : Object) × (most : ℕ) × IsFoundObject segments place object × (left ≡ Some most) × (0 < nesting)
     × (most < object_traversed object) × (kind ≡ ReadLimitExceeded))
@@ -98,14 +98,14 @@ abbrev pub LeavesRuns : NodeRun → Found → List NodeRun → List NodeRun → 
 LeavesRuns run Null runs left = left ≡ runs
 LeavesRuns run (AnObject object) runs left = (below : Option NodeRun) × IsBelow run object below × (left ≡ runs ++ option_to_list below)
 LeavesRuns run (Element start size) runs left = left ≡ runs ++ pointers_run run start size run.nesting ∷ []
-LeavesRuns run (Unread kind) runs left = (kind ≡ ReadLimitExceeded → left ≡ []) × (kind ≢ ReadLimitExceeded → left ≡ runs)
+LeavesRuns run (Invalid kind) runs left = (kind ≡ ReadLimitExceeded → left ≡ []) × (kind ≢ ReadLimitExceeded → left ≡ runs)
 
 -- and the words that are left: the words of an object are taken off
 abbrev pub LeavesWords : Found → Option ℕ → Option ℕ → Type 0
 LeavesWords Null words left = left ≡ words
 LeavesWords (AnObject object) words left = left ≡ option_map (λ most. most - object_traversed object) words
 LeavesWords (Element start size) words left = left ≡ words
-LeavesWords (Unread kind) words left = kind ≢ ReadLimitExceeded → left ≡ words
+LeavesWords (Invalid kind) words left = kind ≢ ReadLimitExceeded → left ≡ words
 
 -- A node comes of some runs: the next node of the last run that has one left. `runs_left` and `words_left`
 -- are the runs and words that are left after it.
