@@ -34,7 +34,7 @@ def content(words, at, into):
             packed = struct.pack("<%dQ" % ((bits + 63) // 64), *words[target:target + (bits + 63) // 64])
             into.update(b"%d" % size + packed[:(bits + 7) // 8])
     else:
-        sys.exit("time-building: a pointer that no job makes")
+        sys.exit("time building: a pointer that no job makes")
 
 
 def contents_of(words, at, data, pointers, into):
@@ -60,7 +60,7 @@ def run(program, job, times, processor):
                              preexec_fn=lambda: os.sched_setaffinity(0, {processor}))
     _, status, used = os.wait4(child.pid, 0)
     if status:
-        sys.exit("time-building: %s: %s: status %d" % (program[0], job, status))
+        sys.exit("time building: %s: %s: status %d" % (program[0], job, status))
     return used.ru_utime + used.ru_stime
 
 
@@ -104,8 +104,8 @@ def main():
             digests = {digest(subprocess.run([program, job, seed, count, "2", "write"], stdout=subprocess.PIPE,
                                              check=True).stdout) for program in programs}
             if len(digests) != 1:
-                sys.exit("time-building: %s %s %s: not the same content" % (job, seed, count))
-            print("time-building: %s %s %s: content %s" % (job, seed, count, digests.pop()))
+                sys.exit("time building: %s %s %s: not the same content" % (job, seed, count))
+            print("time building: %s %s %s: content %s" % (job, seed, count, digests.pop()))
     print("\n| | %s | the better over ours |" % " | ".join(names))
     print("|---|" + "---|" * (len(names) + 1))
     for job in JOBS:
@@ -121,7 +121,7 @@ def main():
             asked = [by_times([], program, job, r"heap usage: ([\d,]+) allocs") for program in programs]
             print("| %s, requests for memory | %s | |" % (job, " | ".join("%g" % value for value in asked)), flush=True)
             if asked[0] != 0:
-                sys.exit("time-building: %s: memory is asked for after the first time" % job)
+                sys.exit("time building: %s: memory is asked for after the first time" % job)
 
 
 main()

@@ -13,13 +13,13 @@ ROUNDS = int(os.environ.get("RUNS", "5"))
 def printed(program, words):
     done = subprocess.run([program] + words, stdout=subprocess.PIPE)
     if done.returncode:
-        sys.exit("time-classic: %s %s: status %d" % (program, " ".join(words), done.returncode))
+        sys.exit("time classic: %s %s: status %d" % (program, " ".join(words), done.returncode))
     return done.stdout
 
 
 def same(found, what):
     if len(set(found)) != 1:
-        sys.exit("time-classic: %s: the programs differ: %s" % (what, " ".join(map(str, found))))
+        sys.exit("time classic: %s: the programs differ: %s" % (what, " ".join(map(str, found))))
 
 
 def compare(names, programs, row):
@@ -39,7 +39,7 @@ def seconds(program, row, requests, processor):
                              preexec_fn=lambda: os.sched_setaffinity(0, {processor}))
     _, status, used = os.wait4(child.pid, 0)
     if status:
-        sys.exit("time-classic: %s %s: status %d" % (program, " ".join(row), status))
+        sys.exit("time classic: %s %s: status %d" % (program, " ".join(row), status))
     return used.ru_utime + used.ru_stime
 
 
@@ -80,7 +80,7 @@ def main():
             for mode in MODES for memory in MEMORIES]
     for row in rows:
         compare(names, programs, row)
-    print("time-classic: %s: responses, bytes and canonical forms of %d rows are the same\n" % (" ".join(names), len(rows)))
+    print("time classic: %s: responses, bytes and canonical forms of %d rows are the same\n" % (" ".join(names), len(rows)))
     print("| | %s | the better over ours |" % " | ".join(names))
     print("|---|" + "---|" * (len(names) + 1))
     callgrind = ["--tool=callgrind", "--callgrind-out-file=/dev/null"]

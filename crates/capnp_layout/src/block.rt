@@ -48,7 +48,7 @@ impl BlockItem for u8 {
 
 // Copies bytes.
 // Speed: up to three words, whose number is known here, are copied without a call
-// (`tools/time-building`).
+// (`tools/time building`).
 #[inline(always)]
 fn copy_bytes(to: &mut [u8], bytes: &[u8])
     requires { length to.old ≡ length bytes.now }
@@ -69,7 +69,7 @@ fn copy_bytes(to: &mut [u8], bytes: &[u8])
 }
 
 // Copies more bytes.
-// Speed: a call of its own leaves the registers to the loops that copy (`tools/time-building`).
+// Speed: a call of its own leaves the registers to the loops that copy (`tools/time building`).
 #[inline(never)]
 fn copy_long(to: &mut [u8], bytes: &[u8])
     requires { length to.old ≡ length bytes.now }
@@ -190,7 +190,7 @@ pub fn most_used(segment: &[u8], start: usize, count: usize, step: usize, parts:
     let mut most = 0;
     let mut part = start;
     'parts: for _part in 0..parts {
-        // Speed: no part can need more words, so the others aren't read (`tools/time-building`).
+        // Speed: no part can need more words, so the others aren't read (`tools/time building`).
         if most == count {
             return count;
         }

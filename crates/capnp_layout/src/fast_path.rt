@@ -20,7 +20,7 @@ use crate::struct_list::StructList;
 // Speed: most pointers of most messages are null, or point to structs, to lists of numbers, or to
 // lists of pointers. Code that goes over many pointers of a segment tries these paths first: such a
 // pointer needs no call, and its object has at most one run of pointers (workload `canon`,
-// `tools/time-building`). Copies always try the path for lists of pointers, and walks try it at the
+// `tools/time building`). Copies always try the path for lists of pointers, and walks try it at the
 // root alone: in their loops one more fast path costs more than the calls that it saves. Tests for
 // canonical form never try it.
 
@@ -189,7 +189,7 @@ pub fn local_structs(segment: &[u8], place: Place, nesting: u32) -> Option<Struc
 /// A struct in the segment of its pointer, which has no landing pad.
 ///
 /// Speed: it has a type of its own, since an object whose kind the compiler doesn't know is kept in
-/// memory (`tools/time-building`).
+/// memory (`tools/time building`).
 #[derive(Drop)]
 pub struct LocalStruct<'a> {
     pub segment: &'a [u8],
@@ -260,7 +260,7 @@ impl<'a> LocalStruct<'a> {
     /// Whether its first `count` pointers are null.
     ///
     /// Speed: a struct of null pointers is walked and copied as words, without a call
-    /// (`tools/time-building`).
+    /// (`tools/time building`).
     #[inline(always)]
     pub fn holds_nulls(&self, count: u16) -> bool
         requires room { self.now.start.word + (self.now.size.data_words + self.now.size.pointers)

@@ -10,14 +10,14 @@ use std::marker::Model;
 
 // The bytes that are asked for at first: as many as `HeapAllocator` asks for.
 //
-// Speed: most messages have fewer, and need no further request (`tools/time-classic`, in new
+// Speed: most messages have fewer, and need no further request (`tools/time classic`, in new
 // memory).
 const FIRST_BYTES: usize = 8192;
 
 /// A segment on the heap. The first bytes of its vector are used.
 ///
 /// Speed: the bytes after these have been written or made zero before, so an object is written over
-/// them, and `clear` is one store (`tools/time-building built`, `tree` and `table`).
+/// them, and `clear` is one store (`tools/time building built`, `tree` and `table`).
 #[derive(Drop)]
 pub struct Heap {
     bytes: Vec<u8>,

@@ -124,7 +124,7 @@ impl<S: GrowingSegment> Orphanage<S> {
     // Writes an object.
     //
     // Speed: where the memory needs no preparation the call can't fail, so no result is returned
-    // through memory (`tools/time-building built`, `table`).
+    // through memory (`tools/time building built`, `table`).
     #[inline(always)]
     pub(crate) fn write<T, O: Object>(&mut self, object: &O) -> Result<Orphan<T>>
         ensures adds { AddsOrphan (O.holds object.now (body_of self.old)) self.old self.new
@@ -233,7 +233,7 @@ impl<S: GrowingSegment> Orphanage<S> {
         ensures writes { Writes (TakesStructWords D P) (StructSizeError D P) self.old self.new result }
     {
         // Speed: as in `write`. The other calls get a copy of the draft, so that the draft itself
-        // need not be in memory (`tools/time-building built`, `tree`).
+        // need not be in memory (`tools/time building built`, `tree`).
         let words = draft.measure()?;
         if let Some(word) = self.segment.append_within(draft, words) {
             return Ok(Orphan::of_word(word));

@@ -67,7 +67,7 @@ pub(crate) fn write_over<O: Object>(bytes: &mut [u8], from: usize, words: u32, o
 // Makes `added` bytes zero, from the byte `from` on, if `zeros` says so.
 //
 // Speed: up to 64 bytes are made zero by stores of a constant size. So a short object needs no call
-// whose branches depend on the size (`tools/time-building built`, `texts`).
+// whose branches depend on the size (`tools/time building built`, `texts`).
 #[inline(always)]
 fn prepare(bytes: &mut [u8], from: usize, added: usize, zeros: bool)
     requires { from + added ≤ length bytes.old }

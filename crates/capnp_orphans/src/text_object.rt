@@ -10,7 +10,7 @@ use capnp_wire::traits::SetterInput;
 /// A text, as an object that writes all its words.
 ///
 /// Speed: before the bytes are put its last word alone is made zero, where for other values it is
-/// the whole block (`tools/time-building built`, `table` and `texts`).
+/// the whole block (`tools/time building built`, `table` and `texts`).
 #[derive(Drop)]
 pub(crate) struct TextObject<'a> {
     text: &'a str,

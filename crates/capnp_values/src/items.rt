@@ -36,7 +36,7 @@ pub(crate) fn measure_items<T, S: ValueSource<T>>(items: &S, canonical: bool) ->
 }
 
 // The number of words of all these values, where no canonical form is written.
-// Speed: one sum serves for both numbers, and stays in a register (`tools/time-building`).
+// Speed: one sum serves for both numbers, and stays in a register (`tools/time building`).
 fn untrimmed_items<T, S: ValueSource<T>>(items: &S) -> Result<TreeWords>
     requires { length (S.items items.now) < 2 ^ 29 }
     ensures { MeasuresValue (AreItems (S.has_tree items.now) (S.items items.now))

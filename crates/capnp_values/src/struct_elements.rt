@@ -41,7 +41,7 @@ pub(crate) fn measure_elements<S: StructSource>(items: &S, canonical: bool) -> R
 }
 
 // The number of words of all that these structs point to, where no canonical form is written.
-// Speed: one sum serves for both numbers, and stays in a register (`tools/time-building`).
+// Speed: one sum serves for both numbers, and stays in a register (`tools/time building`).
 fn untrimmed_elements<S: StructSource>(items: &S) -> Result<TreeWords>
     requires pointers { S.Value.size < 2 ^ 16 }
     requires few { length (S.items items.now) * (S.Value.data_words + S.Value.size) < 2 ^ 29 }

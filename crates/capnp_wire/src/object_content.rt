@@ -19,7 +19,7 @@ pub(crate) fn wrong_kind() -> Error
 /// Returns its argument, which the compiler then keeps in registers.
 ///
 /// Speed: a value that is built again keeps the fast path's result in registers. The value that
-/// `enter` returns in memory would not (`tools/time-reading`).
+/// `enter` returns in memory would not (`tools/time reading`).
 #[inline(always)]
 pub(crate) fn by_value<T>(entered: Result<T>) -> Result<T>
     ensures { result ≡ entered }

@@ -60,7 +60,7 @@ pub(crate) fn read<'a, S: ReaderSegments, V: ObjectView<'a, S>>(
 
 // The view of what a pointer points to, wherever that is.
 // Speed: a function of its own, so `read` knows the kind of the fast path's object
-// (`tools/time-reading`).
+// (`tools/time reading`).
 #[inline(never)]
 fn enter<'a, S: ReaderSegments, V: ObjectView<'a, S>>(
     reader: &any_pointer::Reader<'a, S>,

@@ -43,7 +43,7 @@ impl<'b, 'a, S: ReaderSegments> Reader<'b, 'a, S> {
 /// How a struct is read from a pointer.
 ///
 /// Speed: always inlined, since its result would be passed in memory: `eval` takes 0.86 of the
-/// instructions (`tools/time-classic`).
+/// instructions (`tools/time classic`).
 pub const FROM_POINTER: &str = "
 impl<'a, S: ReaderSegments> FromPointerReader<'a, S> for Reader<'a, S> {
     ghost shows = { λ pointer view. IsStruct pointer (struct_of S.segments view.fields) };
@@ -256,7 +256,7 @@ impl @type@ {
 /// Which member of a union is set.
 ///
 /// Speed: always inlined, since its result, which has the member's value, would be passed in
-/// memory: where it is a call, `eval` takes 1.31 times the instructions (`tools/time-classic`).
+/// memory: where it is a call, `eval` takes 1.31 times the instructions (`tools/time classic`).
 pub const WHICH: &str = "
 /// Which member of the union is there, and its value.
 #[inline(always)]

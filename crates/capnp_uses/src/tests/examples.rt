@@ -1,4 +1,4 @@
-//! The examples of public items' documentation, which `tools/compare-page` compares with these.
+//! The examples of public items' documentation, which `tools/lint code` compares with these.
 use capnp::io::{Read, Write};
 use capnp::message::{
     Builder, DEFAULT_READER_OPTIONS, HeapAllocator, SegmentArray, SingleSegmentAllocator,

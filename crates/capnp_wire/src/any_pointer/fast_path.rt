@@ -27,7 +27,7 @@ pub(crate) enum ObjectKind {
 // Speed: everything is inlined, from `get_as`, `get_pointer`, `get_data_field` and the `get` of
 // lists down to the pointer's word. A reader or a result of more than two words would otherwise be
 // passed in memory, and where the code is inlined the kind of the object is known
-// (`tools/time-reading`).
+// (`tools/time reading`).
 
 impl<'a, S: ReaderSegments> Reader<'a, S> {
     /// The object of this kind that the pointer points to without a landing pad, counted against
@@ -72,7 +72,7 @@ impl<'a, S: ReaderSegments> Reader<'a, S> {
 // The object of this kind that the pointer at a place of this segment points to without a landing
 // pad.
 // Speed: the size of numbers is tested first, so the compiler knows it in the code after the test
-// (`tools/time-reading`).
+// (`tools/time reading`).
 #[inline(always)]
 fn local_object(segment: &[u8], place: Place, nesting: u32, kind: ObjectKind) -> Option<Object<'_>>
     ensures { (m : List (List ℕ)) → slice_get m place.segment ≡ Some (words_of segment.now) →

@@ -134,7 +134,7 @@ impl<'a, S: ReaderSegments> Reader<'a, S> {
     /// A copy of this reader, for the slow path.
     ///
     /// Speed: the address of the original never escapes, so it stays in registers
-    /// (`tools/time-reading`).
+    /// (`tools/time reading`).
     #[inline(always)]
     pub(crate) fn copied(&self) -> Reader<'a, S>
         ensures { result ≡ self.now }

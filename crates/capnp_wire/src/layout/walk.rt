@@ -199,7 +199,7 @@ impl Walk {
             WalkError m (places_in pointers) nesting self.old.left error.kind) }
     {
         // Speed: there is a call only for what the children of a child have
-        // (`tools/time-building`).
+        // (`tools/time building`).
         'parents: while let Some(parent) = self.next_parent(
             segments,
             segment,
@@ -258,7 +258,7 @@ impl Walk {
     {
         'pointers: while !pointers.is_empty() {
             let place = pointers.take();
-            // Speed: what most pointers point to needs no call (`tools/time-building`).
+            // Speed: what most pointers point to needs no call (`tools/time building`).
             if let Some(_) = null_or_empty_struct(segment, place.word, nesting) {
                 continue 'pointers;
             }
