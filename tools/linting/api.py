@@ -82,7 +82,7 @@ def signature(lines):
 
 
 def items(source, file):
-    """The public items of a file: path, kind, first sentence, signature."""
+    """The public items of a file: path, kind, first sentence, signature, whether the documentation has an example."""
     path = list(file.relative_to(source).with_suffix("").parts)
     path = [] if path == ["lib"] else path
     block, trait, comment = None, False, []
@@ -112,7 +112,8 @@ def items(source, file):
                 if where is not None and not LEFT_OUT & set(path):
                     own = where + ([block, name] if inner else [name])
                     sentence = first_sentence(comment[: comment.index("") if "" in comment else None])
-                    yield "::".join(own), kind, sentence, signature(lines[number:]) if kind == "fn" else None
+                    taken = signature(lines[number:]) if kind == "fn" else None
+                    yield "::".join(own), kind, sentence, taken, "```" in comment
         if stripped:
             comment = []
 
@@ -153,9 +154,8 @@ def take(found, names, here):
     return taken
 
 
-def page():
-    lines = ["# The public items of the libraries", ""]
-    lines += ["Made by `tools/api` from the documentation in the sources, which says more, as do the contracts there.", ""]
+def found_items():
+    """The items of each crate, each under the crate that programs name it by."""
     found = {}
     for crate in [crate for _, crates in PARTS for crate in crates]:
         source = ROOT / "crates" / crate / "src"
@@ -163,16 +163,34 @@ def page():
         found[crate] = {item for file in files for item in items(source, file)}
     for other, names, here in passed_on("capnp"):
         found["capnp"] |= take(found[other], names, here)
+    return found
+
+
+def page():
+    lines = ["# The public items of the libraries", ""]
+    lines += ["Made by `tools/api` from the documentation in the sources, which says more, as do the contracts there.", ""]
+    found = found_items()
     for part, crates in PARTS:
         lines += [f"## {part}", ""]
         for crate in filter(found.get, crates):
             lines += [f"### {crate}", ""]
-            for path, kind, sentence, taken in sorted(found[crate], key=lambda item: (item[0].lower(), item[1], item[3] or "")):
+            for path, kind, sentence, taken, _ in sorted(found[crate], key=lambda item: (item[0].lower(), item[1], item[3] or "")):
                 lines.append(f"- `{path}`, {kind}" + (f": {sentence}." if sentence else ""))
                 if taken:
                     lines.append(f"  `{taken}`")
             lines.append("")
     return "\n".join(lines)
+
+
+def without_example():
+    """The types and traits that programs name, and the free functions of `capnp`, that have no example."""
+    found = found_items()
+    for crate in PARTS[0][1]:
+        for path, kind, _, _, example in sorted(found[crate], key=lambda item: item[0]):
+            owner = path.split("::")[-2] if "::" in path else ""
+            wanted = kind in ("struct", "enum", "type", "trait") or kind == "fn" and crate == "capnp" and not owner[:1].isupper()
+            if wanted and not example:
+                yield f"{crate}::{path}"
 
 
 def check(tree):
@@ -183,3 +201,5 @@ def check(tree):
         lines = zip(has.split("\n") + [""], text.split("\n") + [""])
         line = next((number for number, (old, new) in enumerate(lines, 1) if old != new), 1)
         tree.wrong(PAGE, line, "not what the sources say: run tools/api")
+    for path in without_example():
+        tree.wrong(PAGE, 0, f"{path} has no example in its documentation")
