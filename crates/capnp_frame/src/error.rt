@@ -6,11 +6,30 @@ ghost use Rattle.capnp_frame.specs.Numbers.{kind_number};
 use std::alloc::{AllocError, AllocFailed};
 
 /// The result of a call that can fail.
+///
+/// ```
+/// fn greeting_len(framed: &[u8]) -> Result<usize> {
+///     let mut rest = framed;
+///     let options = DEFAULT_READER_OPTIONS;
+///     let message = serialize::read_message_from_flat_slice_no_alloc(&mut rest, options)?;
+///     let greeting: text::Reader<'_> = message.get_root()?;
+///     Ok(greeting.as_bytes().len())
+/// }
+/// ```
 pub type Result<T> = std::result::Result<T, Error>;
 
 /// The kind of an error, with the numbers it carries.
 ///
 /// A kind is displayed as its name, with its numbers after it in parentheses.
+///
+/// ```
+/// let mut source = b"".as_slice();
+/// let Err(error) = serialize::read_message(alloc, &mut source, DEFAULT_READER_OPTIONS) else {
+///     panic!(rt; "a message of no bytes");
+/// };
+/// assert_eq!(rt; error.kind, ErrorKind::PrematureEndOfFile);
+/// assert_eq!(rt; error.kind.number(), 9);
+/// ```
 #[derive(Clone, Copy, Debug, PartialEq, Eq, thiserror::Error)]
 pub enum ErrorKind {
     /// The source ended before a read had all the bytes that it asked for.
@@ -133,6 +152,13 @@ impl ErrorKind {
 }
 
 /// The error of a call that failed.
+///
+/// ```
+/// let error = Error::from_kind(ErrorKind::MessageTooLarge(3));
+/// assert_eq!(rt; error.kind, ErrorKind::MessageTooLarge(3));
+/// let shown = format!(in alloc; "{error}")?;
+/// assert_eq!(rt; shown.as_str(), "MessageTooLarge(3)");
+/// ```
 #[derive(Clone, Debug, Drop, thiserror::Error)]
 #[error("{kind}")]
 pub struct Error {

@@ -21,6 +21,15 @@ use crate::error::{Error, ErrorKind, Result};
 /// For implementers: `gives` says which bytes a request of n bytes takes, and `refuses` with which
 /// kind it fails where no bytes are given. A `read` returns some of the bytes that are given, and
 /// what it leaves is given to the requests after it.
+///
+/// ```
+/// let mut source: &[u8] = &[1, 2, 3, 4];
+/// let mut buffer = [0; 3];
+/// source.read_exact(&mut buffer)?;
+/// assert_eq!(rt; buffer, [1, 2, 3]);
+/// assert_eq!(rt; source.read(&mut buffer)?, 1);
+/// assert!(rt; source.is_empty());
+/// ```
 pub trait Read {
     /// The bytes that no read has taken yet, where they are known.
     ghost unread: { Self → Option (List ℕ) };
@@ -95,6 +104,13 @@ pub trait Read {
 }
 
 /// A plain source (it gives its bytes unchanged) that shows the bytes that it gives next.
+///
+/// ```
+/// let mut source: &[u8] = &[1, 2, 3];
+/// assert!(rt; source.fill_buf()? == [1, 2, 3].as_slice());
+/// source.consume(1);
+/// assert!(rt; source.fill_buf()? == [2, 3].as_slice());
+/// ```
 pub trait BufRead: Read {
     /// The bytes that `fill_buf` showed and `consume` may take.
     ghost shown: { Self → List ℕ };
@@ -127,6 +143,13 @@ pub trait BufRead: Read {
 }
 
 /// A sink of bytes: it takes whole chunks, or fails.
+///
+/// ```
+/// let mut sink: Vec<u8> = Vec::new(alloc);
+/// sink.write_all(&[1, 2])?;
+/// sink.write_all(&[3])?;
+/// assert_eq!(rt; sink.as_slice(), [1, 2, 3].as_slice());
+/// ```
 pub trait Write {
     /// The bytes taken so far, where the sink keeps them.
     ghost written: { Self → Option (List ℕ) };

@@ -5,6 +5,14 @@ use std::alloc::Global;
 pub mod literal;
 
 /// Eight bytes, as they are in a message.
+///
+/// ```
+/// let words = Word::allocate_zeroed_vec(alloc, 2)?;
+/// assert_eq!(rt; words.len(), 2);
+/// for zero in words.as_slice() {
+///     assert_eq!(rt; zero.bytes(), [0; 8]);
+/// }
+/// ```
 #[derive(Clone, Copy, Debug, PartialEq, Eq)]
 pub struct Word {
     bytes: [u8; 8],

@@ -6,6 +6,13 @@ use crate::message::segments::ReaderSegments;
 /// A message that is built: its segments are what is written of it.
 ///
 /// For implementers: `can_be_written` does nothing. Its contract is a fact that writers use.
+///
+/// ```
+/// let mut message = Builder::new_default(alloc);
+/// message.set_root::<text::Owned, &str>("Hello, World!")?;
+/// let framed = serialize::write_message_to_words(alloc, &message)?;
+/// assert_eq!(rt; framed.len(), 32);
+/// ```
 pub trait BuiltMessage: ReaderSegments {
     /// It has a segment, so it can be written.
     ghost has_segment: { Self → Type 0 };

@@ -4,6 +4,15 @@ ghost use Rattle.capnp_frame.specs.Limits.{default_limit};
 ghost use Rattle.capnp_frame.specs.declared.message.options.TheConstants.{DEFAULT_READER_OPTIONS};
 
 /// Limits against messages that would cost a reader too much.
+///
+/// ```
+/// let mut options = ReaderOptions::new();
+/// let _ = options.nesting_limit(8).traversal_limit_in_words(Some(2));
+/// let Err(error) = serialize::read_message(alloc, &mut three_words, options) else {
+///     panic!(rt; "a message past the limit");
+/// };
+/// assert_eq!(rt; error.kind, ErrorKind::MessageTooLarge(3));
+/// ```
 #[derive(Clone, Copy, Debug)]
 pub struct ReaderOptions {
     /// The most words that a message may have, and that readers of it may visit. Many pointers may

@@ -7,6 +7,14 @@ use std::marker::Model;
 /// The segments of a message, numbered from 0, each its bytes.
 ///
 /// For implementers: `get_segment` returns item `id` of one list, so the first `None` ends it.
+///
+/// ```
+/// let segments = [[0; 8].as_slice()];
+/// let message = SegmentArray::new(&segments);
+/// assert_eq!(rt; message.len(), 1);
+/// assert_eq!(rt; message.get_segment(0), Some([0; 8].as_slice()));
+/// assert!(rt; message.get_segment(1).is_none());
+/// ```
 pub trait ReaderSegments {
     /// The list of segments.
     ghost segments: { Self → List (List ℕ) };
@@ -52,6 +60,13 @@ impl<S: ReaderSegments> ReaderSegments for &S {
 }
 
 /// The segments of a message, each a slice, wherever its bytes are.
+///
+/// ```
+/// let segments = [segment];
+/// let message = Reader::new(SegmentArray::new(&segments), DEFAULT_READER_OPTIONS);
+/// let greeting: text::Reader<'_> = message.get_root()?;
+/// assert_eq!(rt; greeting.as_bytes(), b"Hello, World!".as_slice());
+/// ```
 #[derive(Drop)]
 pub struct SegmentArray<'a> {
     segments: &'a [&'a [u8]],
@@ -88,6 +103,16 @@ impl ReaderSegments for SegmentArray<'_> {
 }
 
 /// A type whose bytes can be borrowed, always the same ones.
+///
+/// ```
+/// impl AsBytes for Page<'_> {
+///     ghost bytes = { λ page. page.content.now };
+///
+///     fn as_bytes(&self) -> &[u8] {
+///         self.content
+///     }
+/// }
+/// ```
 pub trait AsBytes {
     /// The bytes that are borrowed.
     ghost bytes: { Self → List ℕ };

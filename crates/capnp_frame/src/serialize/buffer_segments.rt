@@ -20,6 +20,16 @@ use std::marker::Model;
 /// A message's segments in a buffer that holds its table and after it the segments.
 ///
 /// Where each segment begins and ends is kept, so no segment is copied and the table is read once.
+///
+/// ```
+/// let message = BufferSegments::new(alloc, buffer, DEFAULT_READER_OPTIONS)?;
+/// assert_eq!(rt; message.len(), 2);
+/// assert_eq!(rt;
+///     message.get_segment(1),
+///     Some([1, 2, 3, 4, 5, 6, 7, 8].as_slice())
+/// );
+/// assert_eq!(rt; message.into_buffer().len(), 24);
+/// ```
 #[derive(Drop)]
 pub struct BufferSegments<T: AsBytes> {
     buffer: T,

@@ -17,6 +17,15 @@ const KEPT_ENDS: usize = 8;
 ///
 /// No segment is copied and no memory is taken. The ends of the first eight segments are kept. To
 /// find a later segment, the table is read again each time, from its ninth length on.
+///
+/// ```
+/// let message = NoAllocBufferSegments::from_buffer(buffer, DEFAULT_READER_OPTIONS)?;
+/// assert_eq!(rt; message.len(), 2);
+/// assert_eq!(rt;
+///     message.get_segment(1),
+///     Some([1, 2, 3, 4, 5, 6, 7, 8].as_slice())
+/// );
+/// ```
 #[derive(Drop)]
 pub struct NoAllocBufferSegments<T: AsBytes> {
     buffer: T,
@@ -26,6 +35,16 @@ pub struct NoAllocBufferSegments<T: AsBytes> {
 }
 
 /// Segments in a slice that are found without memory.
+///
+/// ```
+/// let mut rest = stream;
+/// let message = NoAllocSliceSegments::from_slice(&mut rest, DEFAULT_READER_OPTIONS)?;
+/// assert_eq!(rt;
+///     message.get_segment(1),
+///     Some([1, 2, 3, 4, 5, 6, 7, 8].as_slice())
+/// );
+/// assert!(rt; rest.is_empty());
+/// ```
 pub type NoAllocSliceSegments<'b> = NoAllocBufferSegments<&'b [u8]>;
 
 // Clauses see the buffer and the segments.

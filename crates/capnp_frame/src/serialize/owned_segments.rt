@@ -10,6 +10,13 @@ use std::alloc::Global;
 use std::marker::Model;
 
 /// The segments of a message in one chunk of memory.
+///
+/// ```
+/// let message = serialize::read_message(alloc, &mut source, DEFAULT_READER_OPTIONS)?;
+/// let segments = message.into_segments();
+/// assert_eq!(rt; segments.len(), 2);
+/// assert_eq!(rt; segments.as_bytes(), [1, 2, 3, 4, 5, 6, 7, 8].as_slice());
+/// ```
 #[derive(Drop)]
 pub struct OwnedSegments {
     segment_indices: SegmentIndices,

@@ -11,6 +11,15 @@ use std::alloc::Global;
 use std::marker::Model;
 
 /// Collects the lengths of segments, in words, in the order of the segments.
+///
+/// ```
+/// let mut lengths = SegmentLengthsBuilder::with_capacity(alloc, 2)?;
+/// lengths.try_push_segment(1)?;
+/// lengths.try_push_segment(2)?;
+/// assert_eq!(rt; lengths.total_words(), 3);
+/// let segments = lengths.into_owned_segments()?;
+/// assert_eq!(rt; segments.as_bytes().len(), 24);
+/// ```
 #[derive(Drop)]
 pub struct SegmentLengthsBuilder {
     segment_indices: Vec<(usize, usize)>,

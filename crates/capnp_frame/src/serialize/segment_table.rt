@@ -19,6 +19,17 @@ pub(crate) const LONGEST_TABLE: usize = 4 * SEGMENTS_COUNT_LIMIT;
 
 /// What a reader accepts as the padding of a segment table: the four bytes after an even number of
 /// lengths. Encoding document, "Serialization Over a Stream".
+///
+/// ```
+/// let strict = TableRules::new(Padding::Zero, DEFAULT_READER_OPTIONS);
+/// let Err(error) = NoAllocBufferSegments::from_buffer_with_rules(padded_with_nines, strict) else {
+///     panic!(rt; "a padding of nines");
+/// };
+/// assert_eq!(rt; error.kind, ErrorKind::NonZeroPadding);
+/// let lenient = TableRules::new(Padding::Any, DEFAULT_READER_OPTIONS);
+/// let message = NoAllocBufferSegments::from_buffer_with_rules(padded_with_nines, lenient)?;
+/// assert_eq!(rt; message.len(), 2);
+/// ```
 #[derive(Clone, Copy, Debug, PartialEq, Eq)]
 pub enum Padding {
     /// Any bytes.
@@ -28,6 +39,15 @@ pub enum Padding {
 }
 
 /// What the segment table of a message has to keep for a reader to accept it.
+///
+/// ```
+/// let rules = TableRules {
+///     padding: Padding::Any,
+///     limit_in_words: Some(1),
+/// };
+/// let message = BufferSegments::with_rules(alloc, padded_with_nines, rules)?;
+/// assert_eq!(rt; message.len(), 2);
+/// ```
 #[derive(Clone, Copy, Debug, PartialEq, Eq)]
 pub struct TableRules {
     /// The padding that is accepted.

@@ -14,6 +14,16 @@ use crate::serialize::segment_table::{
 
 /// How many segments a message has, and how long its table and its segments are, as the segment
 /// table at its front declares.
+///
+/// ```
+/// let info = NoAllocSegmentTableInfo {
+///     segments_count: 2,
+///     segment_table_length_bytes: 16,
+///     total_segments_length_bytes: 8,
+/// };
+/// let end = info.segment_table_length_bytes + info.total_segments_length_bytes;
+/// assert_eq!(rt; end, buffer.len());
+/// ```
 #[derive(Clone, Copy, Debug)]
 pub struct NoAllocSegmentTableInfo {
     /// The number of segments.

@@ -1,4 +1,7 @@
-//! The examples of public items' documentation, which `tools/lint code` compares with these.
+//! The examples of public items' documentation, which `tools/compare-page` compares with these.
+mod basics;
+mod framing;
+
 use capnp::io::{Read, Write};
 use capnp::message::{
     Builder, DEFAULT_READER_OPTIONS, HeapAllocator, SegmentArray, SingleSegmentAllocator,
