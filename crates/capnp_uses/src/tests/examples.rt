@@ -1,6 +1,7 @@
 //! The examples of public items' documentation, which `tools/compare-page` compares with these.
-mod basics;
-mod framing;
+mod lists;
+mod pointers;
+mod upgraded;
 
 use capnp::io::{Read, Write};
 use capnp::message::{
