@@ -19,6 +19,13 @@ pub(crate) use fast_path::ObjectKind;
 pub use reader::Reader;
 
 /// A pointer that may point to anything, as a type of a schema.
+///
+/// ```
+/// let root: any_pointer::Reader<'_, OwnedSegments> = message.get_root()?;
+/// let mut copy = Builder::new_default(alloc);
+/// copy.set_root::<any_pointer::Owned, _>(root)?;
+/// assert_eq!(rt; copy.size_in_words(), 5);
+/// ```
 pub struct Owned;
 
 impl<'a, S: ReaderSegments + 'a> traits::Owned<'a, S> for Owned {

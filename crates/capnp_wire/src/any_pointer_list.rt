@@ -10,6 +10,13 @@ use capnp_frame::message::ReaderSegments;
 pub use reader::Reader;
 
 /// A list of pointers that may point to anything, as a type of a schema.
+///
+/// ```
+/// let names: any_pointer_list::Reader<'_, OwnedSegments> = message.get_root()?;
+/// let copy: Orphan<any_pointer_list::Owned> = objects.set(&names)?;
+/// objects.set_root(copy);
+/// assert_eq!(rt; objects.bytes().len(), 8 * 5);
+/// ```
 pub struct Owned;
 
 impl<'a, S: ReaderSegments + 'a> traits::Owned<'a, S> for Owned {

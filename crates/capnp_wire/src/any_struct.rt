@@ -14,6 +14,14 @@ use capnp_layout::place::Place;
 pub use reader::StructReader;
 
 /// A struct, as a type of a schema.
+///
+/// ```
+/// let mut point = StructDraft::<any_struct::Owned, 1, 0>::new();
+/// point.set_data_field::<i32>(0, 640);
+/// point.set_data_field::<i32>(1, -480);
+/// objects.add_root(&point)?;
+/// assert_eq!(rt; objects.bytes().len(), 8 * 2);
+/// ```
 pub struct Owned;
 
 impl<'a, S: ReaderSegments + 'a> traits::Owned<'a, S> for Owned {

@@ -21,6 +21,12 @@ use std::alloc::Global;
 /// Fails where a walk over the tree stops: with the error of a view of one of its objects, or with
 /// `ReadLimitExceeded` where they have more words than the traversal limit. Above 2^29 words it
 /// fails with `CanonicalTooLarge`.
+///
+/// ```
+/// let root: any_pointer::Reader<'_, OwnedSegments> = message.get_root()?;
+/// assert_eq!(rt; root.target_size()?.word_count, 4);
+/// assert_eq!(rt; canonical_size(&root)?, 4);
+/// ```
 #[inline(always)]
 pub fn canonical_size<S: ReaderSegments>(reader: &any_pointer::Reader<'_, S>) -> Result<u32>
     ensures returned { let pointer = pointer_of S.segments reader.now in MatchResult result

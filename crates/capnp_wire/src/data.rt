@@ -11,6 +11,13 @@ pub use hex::Hex;
 pub use reader::Reader;
 
 /// `Data`, as a type of a schema.
+///
+/// ```
+/// let mut message = Builder::new_default(alloc);
+/// message.set_root::<data::Owned, &[u8]>(key)?;
+/// let read: data::Reader<'_> = message.get_root_as_reader()?;
+/// assert_eq!(rt; read, key);
+/// ```
 pub struct Owned;
 
 impl<'a, S: ReaderSegments> traits::Owned<'a, S> for Owned {

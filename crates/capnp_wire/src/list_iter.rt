@@ -4,6 +4,12 @@ ghost use Rattle.std.specs.Iterator.{YieldsFirstBy, item_count};
 ghost use Rattle.capnp_wire.specs.Lists.{FindsElement, elements_left, IsIterator};
 
 /// A list whose elements are read by their index.
+///
+/// ```
+/// let ports: primitive_list::Reader<'_, u16> = message.get_root()?;
+/// assert_eq!(rt; ports.try_index_move(0), Some(80));
+/// assert_eq!(rt; ports.try_index_move(3), None);
+/// ```
 pub trait IndexMove {
     /// What an element is read as.
     type Item;
@@ -43,6 +49,13 @@ pub trait IndexMove {
 }
 
 /// The elements of a list that is read, from the first to the last.
+///
+/// ```
+/// let ports: primitive_list::Reader<'_, u16> = message.get_root()?;
+/// let mut rest = ListIter::new(&ports);
+/// assert_eq!(rt; rest.next(), Some(80));
+/// assert_eq!(rt; rest.len(), 2);
+/// ```
 #[derive(Drop)]
 pub struct ListIter<'l, L> {
     list: &'l L,

@@ -13,6 +13,13 @@ use std::marker::PhantomData;
 pub use view_iter::ViewIter;
 
 /// A list of pointers to objects of one type of a schema, as a type of a schema.
+///
+/// ```
+/// let lists = [objects.numbers(&[1, 2])?, objects.numbers(&[3])?];
+/// let list: Orphan<list_list::Owned<primitive_list::Owned<u16>>> = objects.pointer_list(&lists)?;
+/// objects.set_root(list);
+/// assert_eq!(rt; objects.bytes().len(), 8 * 5);
+/// ```
 pub struct Owned<T> {
     element: PhantomData<T>,
 }

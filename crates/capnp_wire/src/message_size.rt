@@ -1,6 +1,12 @@
 //! Sizes of what pointers point to.
 
 /// The size of an object with all below it.
+///
+/// ```
+/// let root: any_pointer::Reader<'_, OwnedSegments> = message.get_root()?;
+/// let size = root.target_size()?;
+/// assert_eq!(rt; (size.word_count, size.cap_count), (4, 0));
+/// ```
 #[derive(Clone, Copy, Debug)]
 pub struct MessageSize {
     /// The number of words.

@@ -12,6 +12,12 @@ use std::num::{
 };
 
 /// A number or a bool, with its size and the meaning of its bits. An enum is read as `u16`.
+///
+/// ```
+/// assert_eq!(rt; i8::size().bits(), 8);
+/// assert_eq!(rt; i8::from_bits(0xff), -1);
+/// assert_eq!(rt; true.to_bits(), 1);
+/// ```
 pub trait PrimitiveElement: Sized {
     /// The element code of lists of them.
     ghost code: { ℕ };

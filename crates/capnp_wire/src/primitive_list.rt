@@ -11,6 +11,12 @@ pub use reader::Reader;
 use std::marker::PhantomData;
 
 /// A list of numbers, as a type of a schema.
+///
+/// ```
+/// let ports: Orphan<primitive_list::Owned<u16>> = objects.numbers(&[80, 443, 8080])?;
+/// objects.set_root(ports);
+/// assert_eq!(rt; objects.bytes().len(), 8 * 2);
+/// ```
 pub struct Owned<T> {
     element: PhantomData<T>,
 }

@@ -11,6 +11,14 @@ use capnp_frame::message::ReaderSegments;
 pub use reader::Reader;
 
 /// A list of structs, as a type of a schema.
+///
+/// ```
+/// let mut entry = StructDraft::<any_struct::Owned, 1, 0>::new();
+/// entry.set_data_field::<u32>(0, 20);
+/// let entries: Orphan<struct_list::Owned> = objects.struct_list(&[entry])?;
+/// objects.set_root(entries);
+/// assert_eq!(rt; objects.bytes().len(), 8 * 3);
+/// ```
 pub struct Owned;
 
 impl<'a, S: ReaderSegments + 'a> traits::Owned<'a, S> for Owned {

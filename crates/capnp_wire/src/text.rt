@@ -10,6 +10,12 @@ use capnp_frame::message::ReaderSegments;
 pub use reader::Reader;
 
 /// `Text`, as a type of a schema.
+///
+/// ```
+/// let mut message = Builder::new_default(alloc);
+/// message.set_root::<text::Owned, &str>("Alice")?;
+/// assert_eq!(rt; message.size_in_words(), 2);
+/// ```
 pub struct Owned;
 
 impl<'a, S: ReaderSegments> traits::Owned<'a, S> for Owned {

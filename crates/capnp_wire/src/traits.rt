@@ -20,6 +20,12 @@ use capnp_frame::message::ReaderSegments;
 /// A view that doesn't name `S` has a lifetime of its own, as in
 /// `impl<'a: 'v, 'v, S: ReaderSegments> FromPointerReader<'a, S> for View<'v>`. A loop over a list
 /// of such views isn't proved where the impl names the one lifetime `'a` for both.
+///
+/// ```
+/// let root: any_pointer::Reader<'_, OwnedSegments> = message.get_root()?;
+/// let greeting = text::Reader::get_from_pointer(root)?;
+/// assert!(rt; greeting.is("Hello, World!"));
+/// ```
 pub trait FromPointerReader<'a, S: ReaderSegments>: Sized {
     /// The view shows what the pointer points to.
     ghost shows: { Pointer → Self → Type 0 };
@@ -52,6 +58,14 @@ pub trait FromPointerInSegment<'a, S: ReaderSegments>: FromPointerReader<'a, S> 
 }
 
 /// A type of a schema, with its view.
+///
+/// ```
+/// type Names<'a> = <text_list::Owned as Owned<'a, OwnedSegments>>::Reader;
+///
+/// fn count_of(names: &Names<'_>) -> u32 {
+///     names.len()
+/// }
+/// ```
 pub trait Owned<'a, S: ReaderSegments> {
     /// Its view.
     type Reader: FromPointerReader<'a, S>;
@@ -68,6 +82,12 @@ pub struct TreeWords {
 }
 
 /// A value of a type of a schema, to which a pointer can be set.
+///
+/// ```
+/// let greeting = "Hello, World!";
+/// assert!(rt; !SetterInput::<text::Owned>::is_null(&greeting));
+/// assert_eq!(rt; SetterInput::<text::Owned>::measure(&greeting, false)?, 2);
+/// ```
 pub trait SetterInput<T> {
     /// The tree that the value is.
     ghost has_tree: { Self → Trees → Type 0 };

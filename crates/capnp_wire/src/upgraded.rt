@@ -23,7 +23,26 @@ pub use pointer_list::PointerList;
 pub use struct_list::StructList;
 
 /// A list of `Text` in a message, or of structs whose first pointer points to one.
+///
+/// ```
+/// let message = serialize::read_message(alloc, &mut list_of_structs, options)?;
+/// let names: upgraded::TextList<'_, OwnedSegments> = message.get_root()?;
+/// let mut length: usize = 0;
+/// for name in names.iter() {
+///     length = length.saturating_add(name?.len());
+/// }
+/// assert_eq!(rt; (names.len(), length), (2, 8));
+/// ```
 pub type TextList<'a, S> = ListList<'a, S, text::Reader<'a>>;
 
 /// A list of `Data` in a message, or of structs whose first pointer points to one.
+///
+/// ```
+/// let message = serialize::read_message(alloc, &mut list_of_structs, options)?;
+/// let keys: upgraded::DataList<'_, OwnedSegments> = message.get_root()?;
+/// if let Some(key) = keys.try_get(0) {
+///     assert_eq!(rt; key?, [1, 2].as_slice());
+/// }
+/// assert_eq!(rt; keys.len(), 2);
+/// ```
 pub type DataList<'a, S> = ListList<'a, S, data::Reader<'a>>;

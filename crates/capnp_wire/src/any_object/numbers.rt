@@ -7,6 +7,16 @@ use capnp_layout::object::words_fit;
 use capnp_layout::place::word;
 
 /// A list of numbers, of bools or of `Void` in a message, whatever the size of its elements.
+///
+/// ```
+/// let root: any_object::Reader<'_, OwnedSegments> = message.get_root()?;
+/// if let any_object::Reader::Numbers(ports) = root {
+///     assert_eq!(rt; (ports.len(), ports.bits_of_each()), (3, 16));
+///     if ports.len() > 1 {
+///         assert_eq!(rt; ports.get(1), 443);
+///     }
+/// }
+/// ```
 #[derive(Drop)]
 pub struct Numbers<'a> {
     /// The words of the list.

@@ -13,6 +13,14 @@ use capnp_layout::object::{Body, Object, words_fit};
 /// What a pointer points to: null, or a view of the kind of object that is there. The object is
 /// counted once against the traversal limit. What its own pointers point to is counted when they
 /// are followed.
+///
+/// ```
+/// let root: any_object::Reader<'_, OwnedSegments> = message.get_root()?;
+/// if let any_object::Reader::Struct(person) = root {
+///     assert_eq!(rt; (person.data_words(), person.pointers()), (1, 2));
+///     assert_eq!(rt; person.get_word(0), 123);
+/// }
+/// ```
 #[derive(Drop)]
 pub enum Reader<'a, S: ReaderSegments> {
     Null,

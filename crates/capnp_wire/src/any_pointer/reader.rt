@@ -17,6 +17,13 @@ use capnp_layout::object::{Object, object_at};
 use capnp_layout::place::{Place, pointer_at};
 
 /// A pointer of a message. A pointer past the last one of a struct is null.
+///
+/// ```
+/// let root: any_pointer::Reader<'_, OwnedSegments> = message.get_root()?;
+/// assert!(rt; !root.is_null());
+/// let greeting: text::Reader<'_> = root.get_as()?;
+/// assert_eq!(rt; greeting.as_bytes(), b"Hello, World!".as_slice());
+/// ```
 #[derive(Drop)]
 pub struct Reader<'a, S> {
     pub(crate) segments: &'a S,

@@ -15,6 +15,15 @@ use capnp_layout::object::{Object, words_fit};
 use capnp_layout::place::Place;
 
 /// A list of pointers in a message.
+///
+/// ```
+/// let names: any_pointer_list::Reader<'_, OwnedSegments> = message.get_root()?;
+/// if let Some(pointer) = names.try_get(1) {
+///     let name: text::Reader<'_> = pointer.get_as()?;
+///     assert!(rt; name.is("Bob"));
+/// }
+/// assert!(rt; names.try_get(2).is_none());
+/// ```
 #[derive(Drop)]
 pub struct Reader<'a, S> {
     pub(crate) segments: &'a S,

@@ -18,6 +18,14 @@ use capnp_layout::place::{Place, word};
 use capnp_layout::pointer::StructSize;
 
 /// A struct in a message.
+///
+/// ```
+/// let person: any_struct::StructReader<'_, OwnedSegments> = message.get_root()?;
+/// let name: text::Reader<'_> = person.get_pointer_as(0)?;
+/// assert!(rt; name.is("Alice"));
+/// assert_eq!(rt; person.get_data_field::<u32>(0), 123);
+/// assert!(rt; !person.has_pointer(1));
+/// ```
 #[derive(Drop)]
 pub struct StructReader<'a, S: ReaderSegments> {
     pub(crate) segments: &'a S,

@@ -11,6 +11,12 @@ use std::fmt::{Display, Formatter, Write};
 /// `data::Hex(bytes)` is an argument of `println!` or `format!`, as a number is. It takes no
 /// memory, and writes each digit as it comes. Nothing is written between the digits or before
 /// them, even where a width is asked for.
+///
+/// ```
+/// let key = [0, 15, 240, 171].as_slice();
+/// let digits = format!(in alloc; "{}", data::Hex(key))?;
+/// assert_eq!(rt; digits.as_str(), "000ff0ab");
+/// ```
 #[derive(Clone, Copy)]
 pub struct Hex<'a>(pub &'a [u8]);
 

@@ -16,6 +16,11 @@ use capnp_layout::element_size::ElementSize;
 use capnp_layout::object::Object;
 
 /// The bytes of a `Data` in a message.
+///
+/// ```
+/// let key: data::Reader<'_> = message.get_root()?;
+/// assert_eq!(rt; key, [0, 15, 240, 171].as_slice());
+/// ```
 pub type Reader<'a> = &'a [u8];
 
 // Null is empty; a list of bytes shows its bytes; any other object fails with `WrongPointerKind`.

@@ -10,6 +10,15 @@ use capnp_frame::message::ReaderSegments;
 use std::marker::PhantomData;
 
 /// A list of pointers in a message, each read as a view of one type.
+///
+/// ```
+/// let lists: list_list::Reader<'_, OwnedSegments, primitive_list::Reader<'_, u16>> =
+///     message.get_root()?;
+/// if let Some(list) = lists.try_get(0) {
+///     assert_eq!(rt; list?.try_get(1), Some(2));
+/// }
+/// assert_eq!(rt; lists.len(), 2);
+/// ```
 #[derive(Drop)]
 pub struct Reader<'a, S, T> {
     pub(crate) pointers: any_pointer_list::Reader<'a, S>,

@@ -17,6 +17,12 @@ use capnp_layout::place::{Place, word};
 use std::marker::PhantomData;
 
 /// A list of numbers, of bools or of `Void` in a message.
+///
+/// ```
+/// let ports: primitive_list::Reader<'_, u16> = message.get_root()?;
+/// assert_eq!(rt; (ports.try_get(1), ports.try_get(3)), (Some(443), None));
+/// assert_eq!(rt; ports.iter().max(), Some(8080));
+/// ```
 #[derive(Drop)]
 pub struct Reader<'a, T: PrimitiveElement> {
     /// The words of the list.

@@ -18,6 +18,15 @@ use capnp_layout::place::Place;
 use capnp_layout::pointer::{Elements, StructSize};
 
 /// A list of structs in a message, all of one size.
+///
+/// ```
+/// let entries: struct_list::Reader<'_, OwnedSegments> = message.get_root()?;
+/// let mut total: u32 = 0;
+/// for entry in entries.iter() {
+///     total = total.saturating_add(entry.get_data_field::<u32>(0));
+/// }
+/// assert_eq!(rt; total, 42);
+/// ```
 #[derive(Drop)]
 pub struct Reader<'a, S: ReaderSegments> {
     pub(crate) segments: &'a S,

@@ -17,6 +17,13 @@ use capnp_layout::object::Object;
 use std::str::{Utf8Error, from_utf8};
 
 /// A `Text` in a message, by its bytes.
+///
+/// ```
+/// let greeting: text::Reader<'_> = message.get_root()?;
+/// assert!(rt; greeting.is("Hello, World!"));
+/// assert_eq!(rt; greeting.len(), 13);
+/// assert_eq!(rt; greeting.to_str()?, "Hello, World!");
+/// ```
 #[derive(Clone, Copy)]
 pub struct Reader<'a> {
     pub(crate) bytes: &'a [u8],

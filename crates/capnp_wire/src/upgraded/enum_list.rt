@@ -16,6 +16,11 @@ use std::marker::PhantomData;
 ///
 /// Contracts tell its values apart by what its derived `Hash` feeds, which no two of them share:
 /// the index of the variant, and the number that the last one keeps.
+///
+/// ```
+/// assert!(rt; Color::from_number(0) == Color::Red);
+/// assert!(rt; Color::from_number(7) == Color::NotInSchema(7));
+/// ```
 pub trait EnumElement: Hash + Sized {
     /// How many numbers the schema names.
     ghost named: { ℕ };
@@ -28,6 +33,12 @@ pub trait EnumElement: Hash + Sized {
 /// A list of an enum's values in a message, or of structs whose first field is such a value.
 ///
 /// Contracts see it by its numbers, and an element as the value of its number.
+///
+/// ```
+/// let colors: upgraded::EnumList<'_, Color> = message.get_root()?;
+/// assert!(rt; colors.try_get(0) == Some(Color::Green));
+/// assert!(rt; colors.try_get(2) == Some(Color::NotInSchema(7)));
+/// ```
 #[derive(Drop)]
 pub struct EnumList<'a, E> {
     pub(crate) numbers: NumberList<'a, u16>,

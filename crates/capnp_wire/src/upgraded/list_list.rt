@@ -12,6 +12,16 @@ use std::marker::PhantomData;
 
 /// A list of pointers in a message, or of structs whose first pointer is such a pointer, read as
 /// views of one type: of text, data or a list.
+///
+/// ```
+/// let message = serialize::read_message(alloc, &mut list_of_structs, options)?;
+/// let lists: upgraded::ListList<'_, OwnedSegments, upgraded::NumberList<'_, u16>> =
+///     message.get_root()?;
+/// if let Some(list) = lists.try_get(0) {
+///     assert_eq!(rt; list?.try_get(1), Some(2));
+/// }
+/// assert_eq!(rt; lists.len(), 2);
+/// ```
 #[derive(Drop)]
 pub struct ListList<'a, S, T> {
     pub(crate) pointers: PointerList<'a, S>,

@@ -19,6 +19,13 @@ use capnp_layout::pointer::StructSize;
 use std::marker::PhantomData;
 
 /// A list of numbers in a message, or of structs whose first field is such a number.
+///
+/// ```
+/// let message = serialize::read_message(alloc, &mut list_of_structs, options)?;
+/// let ports: upgraded::NumberList<'_, u16> = message.get_root()?;
+/// assert_eq!(rt; ports.len(), 2);
+/// assert_eq!(rt; ports.try_get(1), Some(443));
+/// ```
 #[derive(Drop)]
 pub struct NumberList<'a, T: PrimitiveElement> {
     pub(crate) numbers: Numbers<primitive_list::Reader<'a, T>, FirstFields<'a, T>>,

@@ -15,6 +15,15 @@ use capnp_layout::object::{Object, words_fit};
 use capnp_layout::place::Place;
 
 /// A list of pointers in a message, or of structs whose first pointer is such a pointer.
+///
+/// ```
+/// let message = serialize::read_message(alloc, &mut list_of_structs, options)?;
+/// let pointers: upgraded::PointerList<'_, OwnedSegments> = message.get_root()?;
+/// if let Some(pointer) = pointers.try_get(1) {
+///     let name: text::Reader<'_> = pointer.get_as()?;
+///     assert!(rt; name.is("Bob"));
+/// }
+/// ```
 #[derive(Drop)]
 pub struct PointerList<'a, S> {
     pub(crate) segments: &'a S,

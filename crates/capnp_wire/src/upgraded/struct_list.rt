@@ -20,6 +20,15 @@ use capnp_layout::pointer::{Elements, StructSize};
 
 /// A list of structs, of numbers or of pointers in a message, read as a list of structs. A number
 /// is in the low bits of its struct's one data word, and a pointer is its struct's one pointer.
+///
+/// ```
+/// let message = serialize::read_message(alloc, &mut list_of_numbers, options)?;
+/// let entries: upgraded::StructList<'_, OwnedSegments> = message.get_root()?;
+/// if let Some(entry) = entries.try_get(2) {
+///     assert_eq!(rt; entry.get_data_field::<u16>(0), 7);
+/// }
+/// assert_eq!(rt; entries.len(), 3);
+/// ```
 #[derive(Drop)]
 pub struct StructList<'a, S: ReaderSegments> {
     pub(crate) elements: StructElements<'a, S>,

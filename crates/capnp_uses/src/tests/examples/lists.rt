@@ -4,9 +4,7 @@ use capnp::message::{Builder, DEFAULT_READER_OPTIONS};
 use capnp::primitive_element::PrimitiveElement;
 use capnp::serialize::{self, OwnedSegments};
 use capnp::traits::{IndexMove, ListIter};
-use capnp::{
-    any_struct, data, data_list, list_list, primitive_list, struct_list, text, text_list,
-};
+use capnp::{any_struct, data, data_list, list_list, primitive_list, struct_list, text, text_list};
 use capnp_orphans::{Orphan, Orphanage, StructDraft};
 use std::test::Fail;
 
@@ -33,7 +31,7 @@ const PORTS: &[u8] = b"\0\0\0\0\x02\0\0\0\
     \x50\0\xbb\x01\x90\x1f\0\0";
 
 // A message of five words whose root is a list of lists of numbers: of 1 and 2, and of 3.
-const ROWS: &[u8] = b"\0\0\0\0\x05\0\0\0\
+const LISTS: &[u8] = b"\0\0\0\0\x05\0\0\0\
     \x01\0\0\0\x16\0\0\0\
     \x05\0\0\0\x13\0\0\0\x05\0\0\0\x0b\0\0\0\
     \x01\0\x02\0\0\0\0\0\x03\0\0\0\0\0\0\0";
@@ -165,22 +163,24 @@ fn builds_lists_of_numbers(rt: HostRuntime) -> Result<(), Fail> {
 #[test]
 fn reads_lists_of_lists(rt: HostRuntime) -> Result<(), Fail> {
     let alloc = rt.alloc();
-    let mut source = ROWS;
+    let mut source = LISTS;
     let message = serialize::read_message(alloc, &mut source, DEFAULT_READER_OPTIONS)?;
-    let rows: list_list::Reader<'_, OwnedSegments, primitive_list::Reader<'_, u16>> =
+    let lists: list_list::Reader<'_, OwnedSegments, primitive_list::Reader<'_, u16>> =
         message.get_root()?;
-    if let Some(row) = rows.try_get(0) {
-        assert_eq!(rt; row?.try_get(1), Some(2));
+    if let Some(list) = lists.try_get(0) {
+        assert_eq!(rt; list?.try_get(1), Some(2));
     }
-    assert_eq!(rt; rows.len(), 2);
+    assert_eq!(rt; lists.len(), 2);
     Ok(())
 }
 
 #[test]
 fn builds_lists_of_lists(rt: HostRuntime) -> Result<(), Fail> {
     let mut objects = Orphanage::new(rt.alloc())?;
-    let rows = [objects.numbers(&[1, 2])?, objects.numbers(&[3])?];
-    let list: Orphan<list_list::Owned<primitive_list::Owned<u16>>> = objects.pointer_list(&rows)?;
+    let lists = [objects.numbers(&[1, 2])?, objects.numbers(&[3])?];
+    let list: Orphan<list_list::Owned<primitive_list::Owned<u16>>> = objects.pointer_list(
+        &elements,
+    )?;
     objects.set_root(list);
     assert_eq!(rt; objects.bytes().len(), 8 * 5);
     Ok(())

@@ -113,12 +113,12 @@ fn reads_structs_as_lists(rt: HostRuntime) -> Result<(), Fail> {
     let mut list_of_structs = LISTS_OF_STRUCTS;
     let options = DEFAULT_READER_OPTIONS;
     let message = serialize::read_message(alloc, &mut list_of_structs, options)?;
-    let rows: upgraded::ListList<'_, OwnedSegments, upgraded::NumberList<'_, u16>> =
+    let lists: upgraded::ListList<'_, OwnedSegments, upgraded::NumberList<'_, u16>> =
         message.get_root()?;
-    if let Some(row) = rows.try_get(0) {
-        assert_eq!(rt; row?.try_get(1), Some(2));
+    if let Some(list) = lists.try_get(0) {
+        assert_eq!(rt; list?.try_get(1), Some(2));
     }
-    assert_eq!(rt; rows.len(), 2);
+    assert_eq!(rt; lists.len(), 2);
     Ok(())
 }
 
