@@ -178,9 +178,7 @@ fn reads_lists_of_lists(rt: HostRuntime) -> Result<(), Fail> {
 fn builds_lists_of_lists(rt: HostRuntime) -> Result<(), Fail> {
     let mut objects = Orphanage::new(rt.alloc())?;
     let lists = [objects.numbers(&[1, 2])?, objects.numbers(&[3])?];
-    let list: Orphan<list_list::Owned<primitive_list::Owned<u16>>> = objects.pointer_list(
-        &elements,
-    )?;
+    let list: Orphan<list_list::Owned<primitive_list::Owned<u16>>> = objects.pointer_list(&lists)?;
     objects.set_root(list);
     assert_eq!(rt; objects.bytes().len(), 8 * 5);
     Ok(())
