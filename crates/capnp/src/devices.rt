@@ -23,6 +23,13 @@ pub const BUFFER_BYTES: usize = 4096;
 pub const OUTPUT_BYTES: usize = 32768;
 
 /// How often a device failed, up to 2^64 - 1.
+///
+/// ```
+/// let mut device = [0; 2];
+/// let mut output = Output::new(alloc, 0, device.as_mut_slice())?;
+/// assert!(rt; output.write_all(b"abc").is_err());
+/// assert_eq!(rt; output.failures(), 1);
+/// ```
 #[derive(Clone, Copy, Debug, PartialEq, Eq)]
 pub struct Failures {
     count: u64,

@@ -36,6 +36,13 @@ pub fn append<M: BuiltMessage>(alloc: Global, log: &mut Vec<u8>, message: &M) ->
 }
 
 /// Appends a record of any segments that can be written to a log, and fails as `append` does.
+///
+/// ```
+/// let record = SegmentArray::new(&segments);
+/// let mut log = Vec::new(alloc);
+/// record_log::append_segments(alloc, &mut log, &record)?;
+/// assert_eq!(rt; log.as_slice(), [0x10, 1, 0, 0].as_slice());
+/// ```
 pub fn append_segments<S: ReaderSegments>(
     alloc: Global,
     log: &mut Vec<u8>,
@@ -58,6 +65,12 @@ pub fn append_segments<S: ReaderSegments>(
 ///
 /// If `is_cut` returns true, the log is to be truncated to `end` before the next record is
 /// appended.
+///
+/// ```
+/// let read = record_log::read_log(alloc, &log, DEFAULT_READER_OPTIONS);
+/// assert_eq!(rt; read.messages.len(), 1);
+/// assert!(rt; read.is_cut());
+/// ```
 pub fn read_log(alloc: Global, log: &[u8], options: ReaderOptions) -> StreamRead
     ensures read { ReadsLog options.traversal_limit_in_words log.now
         (map (λ reader. reader.segments) result.messages.items) result.end result.error }

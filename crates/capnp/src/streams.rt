@@ -22,6 +22,14 @@ pub use reading::{StreamRead, every_message, is_cut, next_message};
 use std::alloc::Global;
 
 /// The formats of a stream.
+///
+/// ```
+/// let mut framed = Vec::new(alloc);
+/// streams::write_message(alloc, &mut framed, Format::Framed, &message)?;
+/// let mut packed = Vec::new(alloc);
+/// streams::write_message(alloc, &mut packed, Format::Packed, &message)?;
+/// assert_eq!(rt; (framed.len(), packed.len()), (16, 4));
+/// ```
 #[derive(Clone, Copy, Debug, PartialEq, Eq)]
 pub enum Format {
     Framed,
@@ -29,6 +37,16 @@ pub enum Format {
 }
 
 /// Where a run over the messages of a stream failed.
+///
+/// ```
+/// match streams::write_each_message(alloc, &mut source, &mut sink, format, rules, &Way::Pack) {
+///     Ok(()) => return Err(Fail::new("it is whole")),
+///     Err(failed) => {
+///         assert_eq!(rt; failed.message, 1);
+///         assert_eq!(rt; failed.error.kind, ErrorKind::FailedToFillTheWholeBuffer);
+///     }
+/// }
+/// ```
 #[derive(Debug, Drop)]
 pub struct FailedAt {
     /// How many messages were written completely: the index of the one at which it failed, from 0.
@@ -38,6 +56,14 @@ pub struct FailedAt {
 }
 
 /// What is written for each message of a stream.
+///
+/// ```
+/// let writer = Way::Unpack;
+/// let format = writer.input();
+/// let mut framed = Vec::new(alloc);
+/// streams::write_each_message(alloc, &mut source, &mut framed, format, rules, &writer)?;
+/// assert_eq!(rt; framed.as_slice(), HELLO.as_slice());
+/// ```
 pub trait MessageWriter {
     /// What is added for a message, by its index, to a sink that appends in this way.
     ghost writes: { Self → Appending → Writing };
@@ -87,6 +113,14 @@ pub trait MessageWriter {
 ///
 /// Fails where the reader of the next message fails, or where `writer` fails for that message.
 /// `FailedAt` says after how many messages.
+///
+/// ```
+/// let mut packed = Vec::new(alloc);
+/// let rules = TableRules::new(Padding::Zero, DEFAULT_READER_OPTIONS);
+/// let format = Format::Framed;
+/// streams::write_each_message(alloc, &mut source, &mut packed, format, rules, &Way::Pack)?;
+/// assert_eq!(rt; packed.as_slice(), PACKED.as_slice());
+/// ```
 pub fn write_each_message<R: BufRead, W: Write, M: MessageWriter>(
     alloc: Global,
     source: &mut R,

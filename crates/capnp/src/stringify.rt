@@ -25,6 +25,12 @@ use std::alloc::{AllocError, Global};
 /// reader, the text has its error, as `<PointerOutOfBounds>`, and goes on after it.
 ///
 /// Fails only when out of memory.
+///
+/// ```
+/// let account: any_struct::StructReader<'_, SegmentArray<'_>> = message.get_root()?;
+/// let line = stringify::to_text(alloc, &account, &SCHEMA, 0, 64)?;
+/// assert_eq!(rt; line.as_str(), "(balance = 12, color = red)");
+/// ```
 pub fn to_text<S: ReaderSegments>(
     alloc: Global,
     fields: &StructReader<'_, S>,

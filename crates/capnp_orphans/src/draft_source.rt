@@ -5,6 +5,14 @@ ghost use Rattle.capnp_orphans.specs.declared.draft.StructDraft.{StructDraft};
 use crate::draft::StructDraft;
 
 /// Structs of one size in order, each made when the list of them is written.
+///
+/// ```
+/// let points = [point, point];
+/// let source = points.as_slice();
+/// assert_eq!(rt; DraftSource::len(&source), 2);
+/// let list = objects.lazy_struct_list(&source)?;
+/// objects.set_root(list);
+/// ```
 pub trait DraftSource<T, const D: usize, const P: usize> {
     /// The structs.
     ghost drafts: { Self → List (StructDraft T D P) };

@@ -11,6 +11,16 @@ use crate::struct_list::StructList;
 use capnp_frame::Result;
 
 /// A type that is written as a draft, such as a builder that the schema compiler makes.
+///
+/// ```
+/// impl Draft<any_struct::Owned, 1, 0> for Point {
+///     ghost draft = { λ point. point.draft };
+///
+///     fn draft(&self) -> StructDraft<any_struct::Owned, 1, 0> {
+///         self.draft
+///     }
+/// }
+/// ```
 pub trait Draft<T, const D: usize, const P: usize> {
     /// The draft.
     ghost draft: { Self → StructDraft T D P };

@@ -7,6 +7,13 @@ ghost use Rattle.capnp_layout.specs.Prelude.{words_of};
 use capnp_frame::Result;
 
 /// An object that is written after the words of a segment.
+///
+/// ```
+/// let mut phone = StructDraft::<any_struct::Owned, 1, 1>::new();
+/// phone.set_data_field::<u16>(0, 1);
+/// assert_eq!(rt; phone.measure()?, 2);
+/// assert!(rt; !phone.wants_zeros());
+/// ```
 pub trait Object {
     /// What is true of the object once it is written: of the segment's body before that and after
     /// it, and of its word as an orphan.

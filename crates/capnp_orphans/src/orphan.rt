@@ -12,6 +12,15 @@ use std::marker::PhantomData;
 ///
 /// An orphan of another orphanage, or from before the last `clear`, does no harm: its pointer
 /// points to whatever is there, or out of bounds, and a reader shows that object or fails.
+///
+/// ```
+/// let name: Orphan<text::Owned> = objects.text("Alice")?;
+/// let mut person = StructDraft::<any_struct::Owned, 0, 2>::new();
+/// person.adopt(0, name);
+/// person.adopt(1, name);
+/// objects.add_root(&person)?;
+/// assert_eq!(rt; objects.bytes().len(), 32);
+/// ```
 #[derive_where(Clone, Copy)]
 pub struct Orphan<T> {
     /// The pointer to it, with the index of the word at which it begins in place of the offset. A

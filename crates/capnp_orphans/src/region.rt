@@ -11,7 +11,15 @@ use std::marker::Model;
 /// It takes no memory.
 ///
 /// Speed: it keeps how many bytes a segment can have there, so one test tells whether an object
-/// fits (`tools/time building built`, `records` in a region).
+/// fits (`tools/time-building built`, `records` in a region).
+///
+/// ```
+/// let mut bytes = [7; 16];
+/// let mut objects: Orphanage<Region<'_>> = Orphanage::in_region(&mut bytes)?;
+/// let name = objects.text("Alice")?;
+/// objects.set_root(name);
+/// assert!(rt; objects.text("Bob").is_err());
+/// ```
 #[derive(Drop)]
 pub struct Region<'a> {
     bytes: &'a mut [u8],

@@ -18,6 +18,13 @@ use std::io::BufReader;
 /// In general, contracts don't know which bytes a device gives. Where they do, as for a slice or a
 /// cursor, each call returns exactly those bytes, and one that fails takes none. So what the
 /// contracts of readers say of unread bytes holds for an `Input` that `of_known` makes.
+///
+/// ```
+/// let mut input = Input::new(alloc, device)?;
+/// let message = serialize::read_message(alloc, &mut input, DEFAULT_READER_OPTIONS)?;
+/// let greeting: text::Reader<'_> = message.get_root()?;
+/// assert_eq!(rt; greeting.as_bytes(), b"Hello, World!".as_slice());
+/// ```
 #[derive(Drop)]
 pub struct Input<R: io::Read> {
     buffered: BufReader<Retried<R>>,

@@ -13,6 +13,12 @@ use std::io;
 use std::io::BufWriter;
 
 /// A device as a sink, with a buffer, which `flush` empties.
+///
+/// ```
+/// let mut output = Output::new(alloc, OUTPUT_BYTES, &mut device)?;
+/// serialize::write_message(alloc, &mut output, &message)?;
+/// output.flush()?;
+/// ```
 #[derive(Drop)]
 pub struct Output<W: io::Write + Drop> {
     buffered: BufWriter<Retried<W>>,

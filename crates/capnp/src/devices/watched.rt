@@ -10,6 +10,14 @@ use std::io::{ErrorKind, Read, Write};
 
 /// A device that keeps the error of its last call that failed. An interrupted call is made again,
 /// so its error isn't kept.
+///
+/// ```
+/// let mut watched = Watched::new(device);
+/// let mut output = Output::new(alloc, 0, &mut watched)?;
+/// assert!(rt; output.write_all(b"abc").is_err());
+/// drop(output);
+/// assert!(rt; watched.last_error().is_some());
+/// ```
 #[derive(Drop)]
 pub struct Watched<D> {
     device: D,

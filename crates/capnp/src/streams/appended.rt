@@ -18,6 +18,13 @@ use std::alloc::Global;
 /// Writes a message in this format.
 ///
 /// Fails as `serialize::write_message_segments` or `serialize_packed::write_message_segments` does.
+///
+/// ```
+/// let message = SegmentArray::new(&segments);
+/// let mut stream = Vec::new(alloc);
+/// streams::write_message(alloc, &mut stream, Format::Packed, &message)?;
+/// assert_eq!(rt; stream.as_slice(), [0x10, 1, 0, 0].as_slice());
+/// ```
 pub fn write_message<W: Write, S: ReaderSegments>(
     alloc: Global,
     sink: &mut W,
@@ -37,6 +44,12 @@ pub fn write_message<W: Write, S: ReaderSegments>(
 ///
 /// Fails as `write_message` does for one of them. The messages before it are then written, and of
 /// this one what the sink leaves of its chunks.
+///
+/// ```
+/// let mut stream = Vec::new(alloc);
+/// streams::write_messages(alloc, &mut stream, Format::Packed, &messages)?;
+/// assert_eq!(rt; stream.len(), 8);
+/// ```
 pub fn write_messages<W: Write, S: ReaderSegments>(
     alloc: Global,
     sink: &mut W,
@@ -57,6 +70,14 @@ pub fn write_messages<W: Write, S: ReaderSegments>(
 ///
 /// Fails as `next_message` does, with `PrematureEndOfFile` where there are fewer messages, and with
 /// `OutOfMemory`.
+///
+/// ```
+/// let mut source = stream.as_slice();
+/// let options = DEFAULT_READER_OPTIONS;
+/// let readers = streams::read_messages(alloc, &mut source, Format::Packed, 2, options)?;
+/// assert_eq!(rt; readers.len(), 2);
+/// assert!(rt; source.is_empty());
+/// ```
 pub fn read_messages<R: BufRead>(
     alloc: Global,
     source: &mut R,

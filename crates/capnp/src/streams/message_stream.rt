@@ -102,6 +102,14 @@ impl<R: BufRead + Drop> Iterator for MessageStream<R> {
 /// Fails with the system's error where the file can't be opened, and with std's `OutOfMemory` where
 /// there is no memory for the buffer. Each item fails as `next_message` does; a read that fails is
 /// `DeviceFailed`.
+///
+/// ```
+/// for message in streams::open_file(&rt, path, Format::Packed, Padding::Zero, options)? {
+///     let message = message?;
+///     let greeting: text::Reader<'_> = message.get_root()?;
+///     println!(rt; "{greeting}")?;
+/// }
+/// ```
 pub fn open_file<R: Files + AllocGlobal, P: AsPath>(
     rt: &R,
     path: P,

@@ -18,6 +18,15 @@ use std::alloc::Global;
 /// where nothing is unread.
 ///
 /// Fails as `try_read_message` of the format does, or its lenient form.
+///
+/// ```
+/// let mut source = PACKED.as_slice();
+/// let format = Format::Packed;
+/// let first = streams::next_message(alloc, &mut source, format, Padding::Zero, options)?;
+/// assert!(rt; first.is_some());
+/// let second = streams::next_message(alloc, &mut source, format, Padding::Zero, options)?;
+/// assert!(rt; second.is_none());
+/// ```
 pub fn next_message<R: BufRead>(
     alloc: Global,
     source: &mut R,
@@ -61,6 +70,14 @@ pub(crate) fn required<M>(next: Result<Option<M>>) -> Result<M>
 ///
 /// It returns true for `FailedToFillTheWholeBuffer` and, for packed messages,
 /// `PrematureEndOfPackedInput`.
+///
+/// ```
+/// let mut source = &HELLO[..31];
+/// match streams::next_message(alloc, &mut source, format, Padding::Zero, options) {
+///     Ok(_) => return Err(Fail::new("it is whole")),
+///     Err(error) => assert!(rt; streams::is_cut(&error)),
+/// }
+/// ```
 pub fn is_cut(error: &Error) -> bool
     ensures { IsTrue result ↔ IsCutKind error.now.kind }
 {
@@ -71,6 +88,13 @@ pub fn is_cut(error: &Error) -> bool
 }
 
 /// What was read of a stream in memory.
+///
+/// ```
+/// let read = streams::every_message(alloc, &stream, Format::Framed, Padding::Zero, options);
+/// if read.is_cut() {
+///     stream.truncate(read.end);
+/// }
+/// ```
 #[derive(Drop)]
 pub struct StreamRead {
     /// The messages, in order.
@@ -99,6 +123,12 @@ impl StreamRead {
 ///
 /// When out of memory, `error` is `OutOfMemory`, and the messages before are returned. An empty
 /// stream takes no memory.
+///
+/// ```
+/// let read = streams::every_message(alloc, stream, Format::Framed, Padding::Zero, options);
+/// assert_eq!(rt; (read.messages.len(), read.end), (1, 32));
+/// assert!(rt; read.error.is_none());
+/// ```
 pub fn every_message(
     alloc: Global,
     stream: &[u8],

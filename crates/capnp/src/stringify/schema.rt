@@ -3,6 +3,13 @@ ghost use Rattle.std.specs.Prelude.{◌≡◌, ◌↔◌, ◌%◌, IsTrue};
 ghost use Rattle.capnp.specs.PrintedFields.{IsPointer};
 
 /// The structs and enums that the structs of a schema have in their fields, at any depth.
+///
+/// ```
+/// static SCHEMA: Schema = Schema {
+///     structs: &[ACCOUNT],
+///     enums: &[&["red", "blue"]],
+/// };
+/// ```
 #[derive(Clone, Copy)]
 pub struct Schema {
     /// The structs and groups, by the numbers that types name them with.
@@ -12,6 +19,13 @@ pub struct Schema {
 }
 
 /// A struct, or a group of one.
+///
+/// ```
+/// const ACCOUNT: StructType = StructType {
+///     discriminant: None,
+///     fields: &[BALANCE_FIELD, COLOR_FIELD, TAGS_FIELD],
+/// };
+/// ```
 #[derive(Clone, Copy)]
 pub struct StructType {
     /// Where the number is that says which member of the union is set, in units of two bytes; none
@@ -22,6 +36,16 @@ pub struct StructType {
 }
 
 /// A field.
+///
+/// ```
+/// const BALANCE_FIELD: Field = Field {
+///     name: "balance",
+///     member: None,
+///     of: INT32,
+///     offset: 0,
+///     default: DefaultValue::Bits(0),
+/// };
+/// ```
 #[derive(Clone, Copy)]
 pub struct Field {
     pub name: &'static str,
@@ -35,6 +59,13 @@ pub struct Field {
 
 /// A type: for lists of lists, the type of the innermost elements, and how deep the lists are
 /// nested.
+///
+/// ```
+/// const TEXT_LIST: Type = Type {
+///     lists: 1,
+///     base: Base::Text,
+/// };
+/// ```
 #[derive(Clone, Copy)]
 pub struct Type {
     /// How many lists there are around the base; 0 for the base itself.
@@ -43,6 +74,13 @@ pub struct Type {
 }
 
 /// A type that is no list.
+///
+/// ```
+/// const COLOR: Type = Type {
+///     lists: 0,
+///     base: Base::Enum(0),
+/// };
+/// ```
 #[derive(Clone, Copy)]
 pub enum Base {
     Void,
@@ -70,6 +108,16 @@ pub enum Base {
 }
 
 /// The default of a field.
+///
+/// ```
+/// const COLOR_FIELD: Field = Field {
+///     name: "color",
+///     member: None,
+///     of: COLOR,
+///     offset: 2,
+///     default: DefaultValue::Bits(1),
+/// };
+/// ```
 #[derive(Clone, Copy)]
 pub enum DefaultValue {
     /// The bits of a number, a bool or an enum; 0 for other types.

@@ -1,7 +1,8 @@
 //! The examples of public items' documentation, which `tools/compare-page` compares with these.
-mod lists;
-mod pointers;
-mod upgraded;
+mod devices;
+mod orphans;
+mod printing;
+mod streams;
 
 use capnp::io::{Read, Write};
 use capnp::message::{
