@@ -1,8 +1,13 @@
-//! The examples of public items' documentation, which `tools/compare-page` compares with these.
+//! The examples of public items' documentation, which `tools/lint code` compares with these.
+mod basics;
 mod devices;
+mod framing;
+mod lists;
 mod orphans;
+mod pointers;
 mod printing;
 mod streams;
+mod upgraded;
 
 use capnp::io::{Read, Write};
 use capnp::message::{
