@@ -3,6 +3,12 @@ ghost use Rattle.std.specs.Prelude.{◌≡◌, ◌*◌, ◌/◌, ◌%◌, ◌^�
 ghost use Rattle.capnp_layout.specs.Element.{code_of, width, words_for};
 
 /// The size of the elements of a list of numbers, in bits.
+///
+/// ```
+/// assert_eq!(rt; ElementSize::TwoBytes.bits(), 16);
+/// assert_eq!(rt; ElementSize::TwoBytes.words_of_list(5), 2);
+/// assert_eq!(rt; ElementSize::Bit.words_of_list(65), 2);
+/// ```
 #[derive(Clone, Copy, Debug, PartialEq, Eq)]
 pub enum ElementSize {
     Void,

@@ -30,6 +30,14 @@ pub struct Landing<'a> {
 
 /// What the pointer at a place of this segment points to; `None` for null. Fails where there is no
 /// word, with a capability, and with a landing pad that points nowhere.
+///
+/// ```
+/// let segment = layout::segment(&message, 0)?;
+/// if let Some(landing) = resolve(&message, segment, root)? {
+///     assert_eq!(rt; (landing.number, landing.start), (0, Some(1)));
+///     assert_eq!(rt; landing.landing_pads, 0);
+/// }
+/// ```
 #[inline(always)]
 pub fn resolve<'a, S: ReaderSegments>(
     segments: &'a S,

@@ -33,6 +33,13 @@ pub struct Object<'a> {
 }
 
 /// What kind of object it is, and its size.
+///
+/// ```
+/// let list = Body::Numbers(ElementSize::Byte, 9);
+/// assert_eq!(rt; list.words(), 2);
+/// assert_eq!(rt; list.count_of(ElementSize::Byte), Some(9));
+/// assert!(rt; list.as_pointers().is_none());
+/// ```
 #[derive(Clone, Copy)]
 pub enum Body {
     Struct(StructSize),
@@ -132,6 +139,14 @@ pub fn words_fit(segment: &[u8])
 
 /// What begins at a word of a segment, as the pointer to it says. Fails with `PointerOutOfBounds`
 /// where that doesn't lie within the segment, or with `WrongPointerKind`.
+///
+/// ```
+/// if let PointerWord::Local(local) = PointerWord::read(pointer_to_three_bytes) {
+///     let body = layout::body_at(segment, 1, local.shape)?;
+///     assert_eq!(rt; body.count_of(ElementSize::Byte), Some(3));
+///     assert!(rt; layout::body_at(segment, 2, local.shape).is_err());
+/// }
+/// ```
 #[inline(always)]
 pub fn body_at(segment: &[u8], start: usize, shape: LocalShape) -> Result<Body>
     ensures found { let words = words_of segment.now in

@@ -9,6 +9,14 @@ use capnp_frame::message::ReaderSegments;
 use capnp_frame::{Error, ErrorKind, Result};
 
 /// The place of a word in a message.
+///
+/// ```
+/// let landing_pad = Place {
+///     segment: 1,
+///     word: 0,
+/// };
+/// assert!(rt; root != landing_pad);
+/// ```
 #[derive(Clone, Copy, Debug, PartialEq, Eq)]
 pub struct Place {
     /// The number of the segment, from 0.
@@ -30,6 +38,14 @@ pub fn pointer_at<S: ReaderSegments>(segments: &S, place: Place) -> Result<u64>
 }
 
 /// A segment of a message. Fails with `InvalidSegmentId` where there is none.
+///
+/// ```
+/// let segments = [[0; 16].as_slice()];
+/// let message = SegmentArray::new(&segments);
+/// let segment = layout::segment(&message, 0)?;
+/// assert_eq!(rt; segment.len(), 16);
+/// assert!(rt; layout::segment(&message, 1).is_err());
+/// ```
 #[inline(always)]
 pub fn segment<S: ReaderSegments>(segments: &S, number: u32) -> Result<&[u8]>
     ensures { let found = slice_get (S.segments segments.now) number in
@@ -56,6 +72,12 @@ pub fn existing_word(segment: &[u8], index: usize) -> Result<u64>
 }
 
 /// A word of a segment; `None` past its last.
+///
+/// ```
+/// let segment = [1, 2, 0, 0, 0, 0, 0, 0].as_slice();
+/// assert_eq!(rt; layout::word(segment, 0), Some(0x201));
+/// assert_eq!(rt; layout::word(segment, 1), None);
+/// ```
 #[inline(always)]
 pub fn word(segment: &[u8], index: usize) -> Option<u64>
     ensures value { result ≡ slice_get (words_of segment.now) index }

@@ -8,6 +8,13 @@ use crate::element_size::ElementSize;
 use crate::place::Place;
 
 /// What a word that isn't a null pointer is as a pointer.
+///
+/// ```
+/// match PointerWord::read(capability) {
+///     PointerWord::Local(_) | PointerWord::Far(_) => panic!(rt; "no capability"),
+///     PointerWord::Other => {}
+/// }
+/// ```
 #[derive(Clone, Copy)]
 pub enum PointerWord {
     Local(LocalPointer),
@@ -41,6 +48,14 @@ pub enum LocalShape {
 }
 
 /// The size of a struct, in words.
+///
+/// ```
+/// let size = StructSize {
+///     data_words: 2,
+///     pointers: 1,
+/// };
+/// assert_eq!(rt; size.words(), 3);
+/// ```
 #[derive(Clone, Copy)]
 pub struct StructSize {
     /// The words of its data section.
@@ -51,6 +66,14 @@ pub struct StructSize {
 }
 
 /// The elements of a composite list, by its tag word.
+///
+/// ```
+/// if let Some(elements) = Elements::read(two_structs_of_one_data_word) {
+///     assert_eq!(rt; elements.count, 2);
+///     assert_eq!(rt; (elements.size.data_words, elements.size.pointers), (1, 0));
+///     assert_eq!(rt; elements.words(), 2);
+/// }
+/// ```
 #[derive(Clone, Copy)]
 pub struct Elements {
     pub size: StructSize,
@@ -59,6 +82,13 @@ pub struct Elements {
 
 /// A far pointer: where its landing pad is, and whether it is a double-far pointer, whose landing
 /// pad has two words.
+///
+/// ```
+/// if let PointerWord::Far(far) = PointerWord::read(to_word_five_of_segment_one) {
+///     assert_eq!(rt; (far.landing_pad.segment, far.landing_pad.word), (1, 5));
+///     assert!(rt; !far.is_double_far);
+/// }
+/// ```
 #[derive(Clone, Copy)]
 pub struct FarPointer {
     pub landing_pad: Place,

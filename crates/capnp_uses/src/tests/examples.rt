@@ -2,12 +2,7 @@
 mod basics;
 mod devices;
 mod framing;
-mod lists;
-mod orphans;
-mod pointers;
-mod printing;
-mod streams;
-mod upgraded;
+mod layout;
 
 use capnp::io::{Read, Write};
 use capnp::message::{
