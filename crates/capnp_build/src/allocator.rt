@@ -19,6 +19,12 @@ use capnp_frame::Result;
 /// leave the last two open where nothing depends on them. Code over any allocator still shows for
 /// how many words it asked where a request failed, and with how many used words it gave each
 /// segment back.
+///
+/// ```
+/// let mut heap = HeapAllocator::new(alloc).first_segment_words(16);
+/// assert_eq!(rt; heap.allocate_segment(1)?.len(), 128);
+/// assert_eq!(rt; heap.allocate_segment(100)?.len(), 800);
+/// ```
 pub trait Allocator: Drop {
     /// The bytes of a segment.
     type Segment: SegmentSpace;

@@ -16,6 +16,13 @@ pub use capnp_wire::any_pointer::Owned;
 use capnp_wire::traits::SetterInput;
 
 /// The root of a message that is built.
+///
+/// ```
+/// let mut root: any_pointer::Builder<'_, Builder<HeapAllocator>> = message.get_root()?;
+/// assert!(rt; root.is_null());
+/// root.set_as::<text::Owned, &str>("Hello, World!")?;
+/// assert_eq!(rt; root.target_size()?.word_count, 2);
+/// ```
 pub type Builder<'a, M> = View<'a, M, Owned>;
 
 impl OwnedBuilder for Owned {

@@ -15,6 +15,13 @@ use capnp_frame::{Error, ErrorKind, Result};
 pub use capnp_wire::any_struct::Owned;
 
 /// A struct whose data words are written in place.
+///
+/// ```
+/// let mut fields: StructBuilder<'_, Builder<HeapAllocator>> = message.initn_root(2)?;
+/// fields.set_word(0, 10);
+/// fields.set_word(1, 20);
+/// assert_eq!(rt; (fields.data_words(), fields.get_word(1)), (2, 20));
+/// ```
 pub type StructBuilder<'a, M> = View<'a, M, Owned>;
 
 impl OwnedBuilder for Owned {

@@ -16,6 +16,13 @@ use capnp_layout::limits::MAX_ELEMENTS;
 pub use capnp_wire::data::Owned;
 
 /// The bytes of a `Data`, written in place.
+///
+/// ```
+/// let mut bytes: data::Builder<'_, Builder<HeapAllocator>> = message.initn_root(3)?;
+/// bytes.write(0, b"ab");
+/// bytes.set(2, 255);
+/// assert_eq!(rt; bytes.as_bytes(), b"ab\xff".as_slice());
+/// ```
 pub type Builder<'a, M> = View<'a, M, Owned>;
 
 impl OwnedBuilder for Owned {

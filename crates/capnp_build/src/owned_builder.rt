@@ -11,6 +11,12 @@ use capnp_frame::Result;
 
 /// A type of a schema whose objects can be built in place, at the root of a message: which new
 /// object is made for a length, and which objects have a view of this type.
+///
+/// ```
+/// assert!(rt; any_struct::Owned::object(65535)?.is_some());
+/// assert!(rt; any_struct::Owned::object(65536).is_err());
+/// assert!(rt; any_pointer::Owned::object(0)?.is_none());
+/// ```
 pub trait OwnedBuilder {
     /// The object that is made for this length.
     ghost inits: { ℕ → Form → Type 0 };

@@ -16,6 +16,12 @@ use capnp_layout::limits::MAX_ELEMENTS;
 pub use capnp_wire::primitive_list::Owned;
 
 /// A list of numbers that is written in place.
+///
+/// ```
+/// let mut list: primitive_list::Builder<'_, Builder<HeapAllocator>, u64> = message.initn_root(2)?;
+/// list.set(0, 500);
+/// assert_eq!(rt; (list.len(), list.get(0), list.get(1)), (2, 500, 0));
+/// ```
 pub type Builder<'a, M, T> = View<'a, M, Owned<T>>;
 
 impl OwnedBuilder for Owned<u64> {

@@ -9,6 +9,14 @@ use capnp_layout::pointer_word::word_of;
 use capnp_wire::traits::SetterInput;
 
 /// The bytes of a segment. Their number, and whether they are caller-provided, never change.
+///
+/// ```
+/// let mut segment = vec![in alloc; 0u8; 8]?;
+/// segment.write_at(2, &[3, 4]);
+/// assert_eq!(rt; segment.bytes(), [0, 0, 3, 4, 0, 0, 0, 0].as_slice());
+/// segment.zero(2, 4);
+/// assert_eq!(rt; segment.bytes(), [0; 8].as_slice());
+/// ```
 pub trait SegmentSpace: Drop {
     /// The bytes.
     ghost content: { Self → List ℕ };

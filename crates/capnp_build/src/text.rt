@@ -16,6 +16,12 @@ use capnp_layout::limits::MAX_ELEMENTS;
 pub use capnp_wire::text::Owned;
 
 /// A `Text` that is written in place.
+///
+/// ```
+/// let mut greeting: text::Builder<'_, Builder<HeapAllocator>> = message.initn_root(13)?;
+/// greeting.write(0, b"Hello, World!");
+/// assert_eq!(rt; greeting.as_bytes(), b"Hello, World!".as_slice());
+/// ```
 pub type Builder<'a, M> = View<'a, M, Owned>;
 
 impl OwnedBuilder for Owned {

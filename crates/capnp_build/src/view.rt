@@ -19,6 +19,13 @@ use std::marker::PhantomData;
 
 /// A message that is built, as views of its root see it: a `BuilderArena`, or a type that has one
 /// inside, as `Builder` of `capnp_message`.
+///
+/// ```
+/// let mut message = Builder::new_default(alloc);
+/// message.init_object::<primitive_list::Owned<u64>>(3)?;
+/// assert_eq!(rt; message.root_bytes(), [0; 24].as_slice());
+/// assert_eq!(rt; message.target_size()?.word_count, 3);
+/// ```
 pub trait Building: Drop {
     /// What hands out its segments.
     type Allocator: Allocator;

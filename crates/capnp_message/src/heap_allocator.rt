@@ -11,6 +11,14 @@ use capnp_layout::limits::MAX_SEGMENT_WORDS;
 use std::alloc::Global;
 
 /// How the sizes of segments from the heap grow.
+///
+/// ```
+/// let mut heap = HeapAllocator::new(alloc)
+///     .first_segment_words(16)
+///     .allocation_strategy(AllocationStrategy::FixedSize);
+/// assert_eq!(rt; heap.allocate_segment(1)?.len(), 128);
+/// assert_eq!(rt; heap.allocate_segment(1)?.len(), 128);
+/// ```
 #[derive(Clone, Copy, Debug)]
 pub enum AllocationStrategy {
     /// Each segment has as many words as the first, or as many as are asked for if that is more.
@@ -27,6 +35,13 @@ pub const SUGGESTED_ALLOCATION_STRATEGY: AllocationStrategy = AllocationStrategy
 
 /// Allocates segments from the heap. Each has as many words as are asked for, or the next size
 /// where that is more.
+///
+/// ```
+/// let heap = HeapAllocator::new(alloc).first_segment_words(1);
+/// let mut message = Builder::new(alloc, heap);
+/// message.set_root::<text::Owned, &str>("Hello, World!")?;
+/// assert_eq!(rt; (message.len(), message.size_in_words()), (2, 4));
+/// ```
 #[derive(Drop)]
 pub struct HeapAllocator {
     alloc: Global,

@@ -9,6 +9,13 @@ use capnp_frame::message::ReaderSegments;
 use std::marker::Model;
 
 /// The segments of a message that is built, each up to its last used word.
+///
+/// ```
+/// message.set_root::<text::Owned, &str>("Hello, World!")?;
+/// let output = message.get_segments_for_output();
+/// assert_eq!(rt; output.len(), 1);
+/// assert_eq!(rt; output.get_segment(0), Some(&HELLO[8..]));
+/// ```
 #[derive(Drop)]
 pub struct OutputSegments<'a, A: Allocator> {
     arena: &'a BuilderArena<A>,

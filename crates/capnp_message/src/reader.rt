@@ -20,6 +20,14 @@ use std::alloc::Global;
 use std::marker::Model;
 
 /// A message that is read in place from its segments.
+///
+/// ```
+/// let segments = [words];
+/// let message = Reader::new(SegmentArray::new(&segments), DEFAULT_READER_OPTIONS);
+/// let greeting: text::Reader<'_> = message.get_root()?;
+/// assert_eq!(rt; greeting.as_bytes(), b"Hello, World!".as_slice());
+/// assert_eq!(rt; message.size_in_words(), 3);
+/// ```
 #[derive(Drop)]
 pub struct Reader<S> {
     arena: ReaderArena<S>,

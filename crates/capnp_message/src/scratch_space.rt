@@ -15,6 +15,14 @@ use capnp_wire::traits::SetterInput;
 use std::alloc::Global;
 
 /// A segment of a `ScratchSpaceHeapAllocator`.
+///
+/// ```
+/// let mut region = [0; 16];
+/// let mut scratch = ScratchSpaceHeapAllocator::new(alloc, &mut region);
+/// let provided = scratch.allocate_segment(1)?;
+/// assert!(rt; matches!(provided, ScratchSegment::Lent(_)));
+/// let owned = scratch.allocate_segment(1)?;
+/// ```
 #[derive(Drop)]
 pub enum ScratchSegment<'a> {
     /// The region.
@@ -67,6 +75,14 @@ impl<'a> SegmentSpace for ScratchSegment<'a> {
 
 /// Hands out one caller-provided region while it is available and large enough, and else segments
 /// from the heap. While the region is available, it is all zero.
+///
+/// ```
+/// let mut region = [0; 8];
+/// let scratch = ScratchSpaceHeapAllocator::new(alloc, &mut region);
+/// let mut message = Builder::new(alloc, scratch);
+/// message.set_root::<text::Owned, &str>("Hello, World!")?;
+/// assert_eq!(rt; (message.len(), message.size_in_words()), (2, 4));
+/// ```
 #[derive(Drop)]
 pub struct ScratchSpaceHeapAllocator<'a> {
     region: Option<&'a mut [u8]>,

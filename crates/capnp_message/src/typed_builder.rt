@@ -22,6 +22,13 @@ use std::alloc::Global;
 use std::marker::{Model, PhantomData};
 
 /// A message that is built, with a root of type `T`.
+///
+/// ```
+/// let mut message: TypedBuilder<text::Owned, HeapAllocator> = TypedBuilder::new_default(alloc);
+/// message.set_root::<&str>("Hello, World!")?;
+/// let greeting: text::Reader<'_> = message.get_root_as_reader()?;
+/// assert_eq!(rt; greeting.as_bytes(), b"Hello, World!".as_slice());
+/// ```
 #[derive(Drop)]
 pub struct TypedBuilder<T, A: Allocator> {
     message: Builder<A>,

@@ -14,6 +14,13 @@ use capnp_wire::traits::Owned;
 use std::marker::{Model, PhantomData};
 
 /// A message that is read, with a root of type `T`.
+///
+/// ```
+/// let message = serialize::read_message(alloc, &mut source, DEFAULT_READER_OPTIONS)?;
+/// let typed: TypedReader<OwnedSegments, text::Owned> = TypedReader::new(message);
+/// let greeting: text::Reader<'_> = typed.get()?;
+/// assert_eq!(rt; greeting.as_bytes(), b"Hello, World!".as_slice());
+/// ```
 #[derive(Drop)]
 pub struct TypedReader<S, T> {
     message: Reader<S>,

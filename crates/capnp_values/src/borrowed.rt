@@ -7,6 +7,13 @@ use capnp_frame::Result;
 use capnp_wire::traits::{Copied, SetterInput, TreeWords};
 
 /// A borrowed value: it can be set more than once, and be a part of more than one value.
+///
+/// ```
+/// let point: Point = StructValue::new([3, 4], NoFields);
+/// message.set_root::<any_struct::Owned, Borrowed<'_, Point>>(Borrowed::new(&point))?;
+/// other.set_root::<any_struct::Owned, Borrowed<'_, Point>>(Borrowed::new(&point))?;
+/// assert_eq!(rt; (message.size_in_words(), other.size_in_words()), (3, 3));
+/// ```
 #[derive(Clone, Copy)]
 pub struct Borrowed<'a, V> {
     /// The value.

@@ -48,6 +48,12 @@ impl<const D: usize, F> StructValue<D, F> {
 /// Puts bits into a field of this width, which lies within one word.
 ///
 /// Speed: where the offset is known, inlining leaves a few instructions.
+///
+/// ```
+/// let mut words = [0; 2];
+/// put_field(&mut words, 16, 5, 7);
+/// assert_eq!(rt; words, [0, 0x70000]);
+/// ```
 #[inline(always)]
 pub fn put_field(words: &mut [u64], width: u64, offset: u32, bits: u64)
     requires within { width * (offset + 1) ≤ 64 * length words.old }

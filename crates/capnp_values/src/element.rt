@@ -3,6 +3,11 @@ ghost use Rattle.std.specs.Prelude.{◌≡◌, ℕ, ◌^◌, ◌<◌, List, All,
 
 /// A struct that can be an element of a list: its data words, in addition to its
 /// [`Fields`](crate::fields::Fields).
+///
+/// ```
+/// let point: StructValue<2, NoFields> = StructValue::new([3, 4], NoFields);
+/// assert_eq!(rt; point.words(), [3, 4].as_slice());
+/// ```
 pub trait Element {
     /// How many data words each element has, for contracts.
     ghost data_words: { ℕ };

@@ -16,6 +16,13 @@ pub use field::Field;
 pub use no_fields::NoFields;
 
 /// The pointer fields of a struct, each set to a value of its own.
+///
+/// ```
+/// let fields: Field<text::Owned, &str, Field<text::Owned, Null, NoFields>> = Field::new(
+///     "Ann",
+///     Field::new(Null, NoFields),
+/// );
+/// ```
 pub trait Fields {
     /// How many pointer fields there are.
     ghost size: { ℕ };

@@ -14,6 +14,12 @@ use std::marker::PhantomData;
 
 /// A list of pointers, each set to a value that is made only when it is needed, so that no two
 /// values need be in memory at once (encoding document, "Lists").
+///
+/// ```
+/// let list: LazyPointerList<text::Owned, Names<'_>> = LazyPointerList::new(source);
+/// message.set_root::<text_list::Owned, LazyPointerList<text::Owned, Names<'_>>>(list)?;
+/// assert_eq!(rt; message.size_in_words(), 5);
+/// ```
 #[derive(Drop)]
 pub struct LazyPointerList<T, S> {
     /// What makes the values.

@@ -13,6 +13,12 @@ use capnp_wire::traits::{Copied, SetterInput, TreeWords};
 
 /// A list of structs of one size, each made only when it is needed, so that no two of them need be
 /// in memory at once (encoding document, "Lists").
+///
+/// ```
+/// let list = LazyStructList::new(source);
+/// message.set_root::<struct_list::Owned, LazyStructList<Numbers<'_>>>(list)?;
+/// assert_eq!(rt; message.size_in_words(), 4);
+/// ```
 #[derive(Drop)]
 pub struct LazyStructList<S> {
     /// What makes the structs.

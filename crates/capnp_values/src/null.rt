@@ -3,6 +3,12 @@ use capnp_frame::Result;
 use capnp_wire::traits::{Copied, SetterInput};
 
 /// A null pointer, as a value of any type of a schema.
+///
+/// ```
+/// message.set_root::<text::Owned, Null>(Null)?;
+/// let name: text::Reader<'_> = message.get_root_as_reader()?;
+/// assert!(rt; name.as_bytes().is_empty());
+/// ```
 #[derive(Clone, Copy)]
 pub struct Null;
 

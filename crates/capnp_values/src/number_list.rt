@@ -10,6 +10,13 @@ use capnp_wire::primitive_list::Owned;
 use capnp_wire::traits::{Copied, SetterInput};
 
 /// A list of numbers (encoding document, "Lists").
+///
+/// ```
+/// let list = NumberList::new(&[1, 65535]);
+/// message.set_root::<primitive_list::Owned<u16>, NumberList<'_, u16>>(list)?;
+/// let read: primitive_list::Reader<'_, u16> = message.get_root_as_reader()?;
+/// assert_eq!(rt; read.try_get(1), Some(65535));
+/// ```
 #[derive(Drop)]
 pub struct NumberList<'a, N> {
     /// The numbers.

@@ -15,6 +15,13 @@ use std::marker::PhantomData;
 
 /// A list of pointers, each set to a value, such as a list of texts (encoding document,
 /// "Lists").
+///
+/// ```
+/// let names = ["Ann", "Bo"];
+/// let list = PointerList::new(&names);
+/// message.set_root::<text_list::Owned, PointerList<'_, text::Owned, &str>>(list)?;
+/// assert_eq!(rt; message.size_in_words(), 5);
+/// ```
 #[derive(Drop)]
 pub struct PointerList<'a, T, V> {
     /// The values that they are set to.

@@ -19,6 +19,14 @@ pub(crate) fn fits(words: &[u64], fields: u32) -> bool
 }
 
 /// Each word is below 2^64.
+///
+/// ```
+/// let words = [7, 256];
+/// let mut block = [0; 16];
+/// words_fit(&words);
+/// put_words(&words, &mut block);
+/// assert_eq!(rt; block, [7, 0, 0, 0, 0, 0, 0, 0, 0, 1, 0, 0, 0, 0, 0, 0]);
+/// ```
 pub fn words_fit(words: &[u64])
     ensures { All (λ word. word < 2 ^ 64) words.now }
 {}
@@ -46,6 +54,12 @@ pub(crate) fn kept_data(words: &[u64], canonical: bool) -> usize
 }
 
 /// Puts words into a block of exactly these words.
+///
+/// ```
+/// let mut block = [0; 16];
+/// put_words(&[1, 256], &mut block);
+/// assert_eq!(rt; block, [1, 0, 0, 0, 0, 0, 0, 0, 0, 1, 0, 0, 0, 0, 0, 0]);
+/// ```
 pub fn put_words(words: &[u64], block: &mut [u8])
     requires { length block.old ≡ 8 * length words.now }
     ensures { words_of block.new ≡ words.now }

@@ -12,6 +12,14 @@ use capnp_wire::traits::SetterInput;
 
 /// Values in order, each made only when it is needed: once to be measured, and again to be
 /// written.
+///
+/// ```
+/// let names = ["Ann", "Bo"];
+/// let source = Names { names: &names };
+/// assert_eq!(rt; (source.len(), source.get(1)), (2, "Bo"));
+/// let list: LazyPointerList<text::Owned, Names<'_>> = LazyPointerList::new(source);
+/// message.set_root::<text_list::Owned, LazyPointerList<text::Owned, Names<'_>>>(list)?;
+/// ```
 pub trait ValueSource<T> {
     /// Identifies a value: its index, or what it is made of.
     type Item;
@@ -42,6 +50,14 @@ pub trait ValueSource<T> {
 
 /// Structs of one size in order, each made only when it is needed: once to be measured, and again
 /// to be written; in canonical form twice for each.
+///
+/// ```
+/// let numbers = [7, 8];
+/// let source = Numbers { numbers: &numbers };
+/// assert_eq!(rt; (source.len(), source.get(1).words), (2, [8]));
+/// let list = LazyStructList::new(source);
+/// message.set_root::<struct_list::Owned, LazyStructList<Numbers<'_>>>(list)?;
+/// ```
 pub trait StructSource {
     /// Identifies a struct: its index, or what it is made of.
     type Item;

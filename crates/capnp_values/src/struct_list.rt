@@ -11,6 +11,16 @@ use capnp_wire::struct_list::Owned;
 use capnp_wire::traits::{Copied, SetterInput, TreeWords};
 
 /// A list whose elements are consecutive structs of one size (encoding document, "Lists").
+///
+/// ```
+/// let points = [
+///     StructValue::new([3, 4], NoFields),
+///     StructValue::new([5, 6], NoFields),
+/// ];
+/// let list = StructList::new(&points);
+/// message.set_root::<struct_list::Owned, StructList<'_, StructValue<2, NoFields>>>(list)?;
+/// assert_eq!(rt; message.size_in_words(), 6);
+/// ```
 #[derive(Drop)]
 pub struct StructList<'a, E> {
     /// The elements.

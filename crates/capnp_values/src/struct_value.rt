@@ -13,6 +13,13 @@ use capnp_wire::any_struct::Owned;
 use capnp_wire::traits::{Copied, SetterInput, TreeWords};
 
 /// A struct of data words and of pointer fields (encoding document, "Structs").
+///
+/// ```
+/// let point = StructValue::new([3, 4], NoFields);
+/// message.set_root::<any_struct::Owned, StructValue<2, NoFields>>(point)?;
+/// let read: StructReader<'_, BuilderArena<HeapAllocator>> = message.get_root_as_reader()?;
+/// assert_eq!(rt; (read.get_word(0), read.get_word(1)), (3, 4));
+/// ```
 #[derive(Drop)]
 pub struct StructValue<const D: usize, F> {
     /// The words of its data section.

@@ -22,6 +22,14 @@ use std::alloc::Global;
 use std::marker::Model;
 
 /// The segments of a message, and the location of the tree at its root.
+///
+/// ```
+/// let mut arena = BuilderArena::new(alloc, HeapAllocator::new(alloc));
+/// let mut numbers = arena.initn_root::<primitive_list::Owned<u64>>(3)?;
+/// numbers.set(1, 500);
+/// assert_eq!(rt; numbers.get(1), 500);
+/// assert_eq!(rt; arena.size_in_words(), 4);
+/// ```
 #[derive(Drop)]
 pub struct BuilderArena<A: Allocator> {
     pub(crate) segments: Segments<A>,

@@ -1,8 +1,7 @@
-//! The examples of public items' documentation, which `tools/lint code` compares with these.
-mod basics;
-mod devices;
-mod framing;
-mod layout;
+//! The examples of public items' documentation, which `tools/compare-page` compares with these.
+mod allocators;
+mod building;
+mod values;
 
 use capnp::io::{Read, Write};
 use capnp::message::{

@@ -11,6 +11,15 @@ use capnp_wire::traits::{SetterInput, TreeWords};
 use std::marker::PhantomData;
 
 /// A field that is set to a value, in front of further fields. `T` is its type in a schema.
+///
+/// ```
+/// let fields: Field<text::Owned, &str, NoFields> = Field::new("Ann", NoFields);
+/// let named = StructValue::new([7], fields);
+/// message.set_root::<any_struct::Owned, Named<'_>>(named)?;
+/// let read: StructReader<'_, BuilderArena<HeapAllocator>> = message.get_root_as_reader()?;
+/// let name: text::Reader<'_> = read.get_pointer_as(0)?;
+/// assert_eq!(rt; name.as_bytes(), b"Ann".as_slice());
+/// ```
 #[derive(Drop)]
 pub struct Field<T, V, F> {
     /// What it is set to.

@@ -6,6 +6,12 @@ use capnp_frame::Result;
 use capnp_wire::traits::TreeWords;
 
 /// No fields.
+///
+/// ```
+/// let empty = StructValue::new([], NoFields);
+/// message.set_root::<any_struct::Owned, StructValue<0, NoFields>>(empty)?;
+/// assert_eq!(rt; message.size_in_words(), 1);
+/// ```
 #[derive(Clone, Copy)]
 pub struct NoFields;
 
