@@ -11,6 +11,12 @@ use capnp_frame::serialize::{OwnedSegments, Padding, TableRules};
 use std::alloc::Global;
 
 /// Which format is read, and which is written.
+///
+/// ```
+/// let way = Way::Unpack;
+/// assert_eq!(rt; way.input(), Format::Packed);
+/// transcode(alloc, way, &mut source, &mut framed, options)?;
+/// ```
 #[derive(Clone, Copy, Debug, PartialEq, Eq)]
 pub enum Way {
     /// From framed messages to packed ones.
@@ -80,6 +86,13 @@ pub fn transcode<R: BufRead, W: Write>(
 
 /// Writes each message as `transcode` does, but accepts any padding in the segment table, which
 /// older writers may have left. What is written has zero padding.
+///
+/// ```
+/// let mut source = NONZERO_PADDING.as_slice();
+/// let mut packed = Vec::new(alloc);
+/// transcode_lenient(alloc, Way::Pack, &mut source, &mut packed, options)?;
+/// assert_eq!(rt; packed.len(), 24);
+/// ```
 pub fn transcode_lenient<R: BufRead, W: Write>(
     alloc: Global,
     way: Way,

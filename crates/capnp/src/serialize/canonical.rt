@@ -12,6 +12,14 @@ use std::alloc::Global;
 /// Writes the canonical form of a message, as a message of one segment.
 ///
 /// Fails as `Reader::canonicalize` does, with nothing written, and as the sink does.
+///
+/// ```
+/// let mut source = two_segments;
+/// let message = serialize::read_message(alloc, &mut source, options)?;
+/// let mut canonical = Vec::new(alloc);
+/// serialize::write_canonical_message(alloc, &mut canonical, &message)?;
+/// assert_eq!(rt; (two_segments.len(), canonical.len()), (40, 32));
+/// ```
 pub fn write_canonical_message<W: Write, S: ReaderSegments>(
     alloc: Global,
     sink: &mut W,

@@ -15,6 +15,13 @@ use std::alloc::Global;
 ///
 /// No segment is copied, and memory is taken for the lengths of more than one segment alone. Fails
 /// as `take_segments` of `capnp_frame` does, and the slice is then as it was.
+///
+/// ```
+/// let mut rest = bytes;
+/// let message = serialize::read_message_from_flat_slice(alloc, &mut rest, options)?;
+/// let greeting: text::Reader<'_> = message.get_root()?;
+/// assert_eq!(rt; greeting.as_bytes(), b"Hello, World!".as_slice());
+/// ```
 pub fn read_message_from_flat_slice<'a>(
     alloc: Global,
     slice: &mut &'a [u8],
@@ -28,6 +35,13 @@ pub fn read_message_from_flat_slice<'a>(
 
 /// Reads the message at the front of a slice as `read_message_from_flat_slice` does, but accepts
 /// any padding in the segment table.
+///
+/// ```
+/// let mut rest = NONZERO_PADDING.as_slice();
+/// let message = serialize::read_message_from_flat_slice_lenient(alloc, &mut rest, options)?;
+/// let greeting: text::Reader<'_> = message.get_root()?;
+/// assert_eq!(rt; greeting.as_bytes(), b"Hello, World!".as_slice());
+/// ```
 pub fn read_message_from_flat_slice_lenient<'a>(
     alloc: Global,
     slice: &mut &'a [u8],
@@ -78,6 +92,13 @@ pub fn read_message_from_flat_slice_no_alloc<'a>(
 
 /// Reads the message at the front of a slice as `read_message_from_flat_slice_no_alloc` does, but
 /// accepts any padding in the segment table.
+///
+/// ```
+/// let mut rest = NONZERO_PADDING.as_slice();
+/// let message = serialize::read_message_from_flat_slice_no_alloc_lenient(&mut rest, options)?;
+/// let greeting: text::Reader<'_> = message.get_root()?;
+/// assert_eq!(rt; greeting.as_bytes(), b"Hello, World!".as_slice());
+/// ```
 pub fn read_message_from_flat_slice_no_alloc_lenient<'a>(
     slice: &mut &'a [u8],
     options: ReaderOptions,

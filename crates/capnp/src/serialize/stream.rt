@@ -44,6 +44,14 @@ pub fn try_read_message<R: Read>(
 }
 
 /// Reads the next message as `try_read_message` does, but accepts any padding in the segment table.
+///
+/// ```
+/// let mut source = NONZERO_PADDING.as_slice();
+/// if let Some(message) = serialize::try_read_message_lenient(alloc, &mut source, options)? {
+///     let greeting: text::Reader<'_> = message.get_root()?;
+///     assert_eq!(rt; greeting.as_bytes(), b"Hello, World!".as_slice());
+/// }
+/// ```
 pub fn try_read_message_lenient<R: Read>(
     alloc: Global,
     source: &mut R,
@@ -61,6 +69,13 @@ pub fn try_read_message_lenient<R: Read>(
 /// Fails as `try_read_message` does, but with `OutOfMemory` only for more bytes than the segments
 /// of `spare` have, or for more than one segment and more than `spare` has. It fails with
 /// `NonZeroPadding` only where `padding` is `Padding::Zero`.
+///
+/// ```
+/// let first = serialize::read_message(alloc, &mut source, options)?;
+/// let spare = first.into_segments();
+/// let second = serialize::try_read_message_reusing(&mut source, padding, options, spare)?;
+/// assert!(rt; second.is_some());
+/// ```
 pub fn try_read_message_reusing<R: Read>(
     source: &mut R,
     padding: Padding,
@@ -76,6 +91,12 @@ pub fn try_read_message_reusing<R: Read>(
 
 /// Reads the next message of a source. Fails with `PrematureEndOfFile` where nothing is unread, and
 /// else as `try_read_message` does.
+///
+/// ```
+/// let message = serialize::read_message(alloc, &mut source, options)?;
+/// let greeting: text::Reader<'_> = message.get_root()?;
+/// assert_eq!(rt; greeting.as_bytes(), b"Hello, World!".as_slice());
+/// ```
 pub fn read_message<R: Read>(
     alloc: Global,
     source: &mut R,
@@ -88,6 +109,13 @@ pub fn read_message<R: Read>(
 }
 
 /// Reads the next message as `read_message` does, but accepts any padding in the segment table.
+///
+/// ```
+/// let mut source = NONZERO_PADDING.as_slice();
+/// let message = serialize::read_message_lenient(alloc, &mut source, options)?;
+/// let greeting: text::Reader<'_> = message.get_root()?;
+/// assert_eq!(rt; greeting.as_bytes(), b"Hello, World!".as_slice());
+/// ```
 pub fn read_message_lenient<R: Read>(
     alloc: Global,
     source: &mut R,
@@ -106,6 +134,14 @@ pub fn read_message_lenient<R: Read>(
 ///
 /// Fails with `BufferNotLargeEnough` where the buffer is shorter than 8 bytes, than the table, or
 /// than table and segments, and else as `try_read_message` does, but never with `OutOfMemory`.
+///
+/// ```
+/// let mut buffer = [0; 32];
+/// let read = serialize::try_read_message_no_alloc(&mut source, &mut buffer, options)?;
+/// if let Some(message) = read {
+///     assert_eq!(rt; message.get_segments().len(), 1);
+/// }
+/// ```
 pub fn try_read_message_no_alloc<'b, R: Read>(
     source: &mut R,
     buffer: &'b mut [u8],
@@ -119,6 +155,14 @@ pub fn try_read_message_no_alloc<'b, R: Read>(
 
 /// Reads the next message as `try_read_message_no_alloc` does, but accepts any padding in the
 /// segment table.
+///
+/// ```
+/// let mut buffer = [0; 40];
+/// let read = serialize::try_read_message_no_alloc_lenient(&mut source, &mut buffer, options)?;
+/// if let Some(message) = read {
+///     assert_eq!(rt; message.get_segments().len(), 2);
+/// }
+/// ```
 pub fn try_read_message_no_alloc_lenient<'b, R: Read>(
     source: &mut R,
     buffer: &'b mut [u8],
@@ -150,6 +194,13 @@ fn try_read_message_into<'b, R: Read>(
 
 /// Reads the next message of a source into a caller-provided buffer. Fails with
 /// `PrematureEndOfFile` where nothing is unread, and else as `try_read_message_no_alloc` does.
+///
+/// ```
+/// let mut buffer = [0; 32];
+/// let message = serialize::read_message_no_alloc(&mut source, &mut buffer, options)?;
+/// let greeting: text::Reader<'_> = message.get_root()?;
+/// assert_eq!(rt; greeting.as_bytes(), b"Hello, World!".as_slice());
+/// ```
 pub fn read_message_no_alloc<'b, R: Read>(
     source: &mut R,
     buffer: &'b mut [u8],
@@ -163,6 +214,14 @@ pub fn read_message_no_alloc<'b, R: Read>(
 
 /// Reads the next message as `read_message_no_alloc` does, but accepts any padding in the segment
 /// table.
+///
+/// ```
+/// let mut source = NONZERO_PADDING.as_slice();
+/// let mut buffer = [0; 40];
+/// let message = serialize::read_message_no_alloc_lenient(&mut source, &mut buffer, options)?;
+/// let greeting: text::Reader<'_> = message.get_root()?;
+/// assert_eq!(rt; greeting.as_bytes(), b"Hello, World!".as_slice());
+/// ```
 pub fn read_message_no_alloc_lenient<'b, R: Read>(
     source: &mut R,
     buffer: &'b mut [u8],
@@ -182,6 +241,14 @@ pub fn read_message_no_alloc_lenient<'b, R: Read>(
 /// are put into the memory of `lengths`, which grows where it is too small. So it fails with
 /// `OutOfMemory` only for more segments than `lengths` has, and then it has consumed only the
 /// table's first word.
+///
+/// ```
+/// let spare = SegmentLengthsBuilder::empty(alloc);
+/// let skipped = serialize::try_skip_message(&mut source, Padding::Zero, options, spare)?;
+/// if let Some(lengths) = skipped {
+///     assert_eq!(rt; (lengths.segments_count(), lengths.total_words()), (1, 3));
+/// }
+/// ```
 pub fn try_skip_message<R: BufRead>(
     source: &mut R,
     padding: Padding,

@@ -17,6 +17,14 @@ use std::alloc::Global;
 /// Fails with `InvalidNumberOfSegments` for more than 511 segments, which no reader accepts, and
 /// with `OutOfMemory` from four segments on, where there is no memory for the table. Both are found
 /// before anything is written. Otherwise it fails as the sink does.
+///
+/// ```
+/// let mut message = Builder::new_default(alloc);
+/// message.set_root::<text::Owned, &str>("Hello, World!")?;
+/// let mut stream = Vec::new(alloc);
+/// serialize::write_message(alloc, &mut stream, &message)?;
+/// assert_eq!(rt; stream.len(), 32);
+/// ```
 pub fn write_message<W: Write, M: BuiltMessage>(
     alloc: Global,
     sink: &mut W,
@@ -58,6 +66,13 @@ pub fn write_message_segments<W: Write, S: ReaderSegments>(
 ///
 /// Fails with `InvalidNumberOfSegments` exactly where there are more than 511 segments, before
 /// memory is taken, and else with `OutOfMemory` alone.
+///
+/// ```
+/// let segments = [[0; 8].as_slice()];
+/// let message = SegmentArray::new(&segments);
+/// let encoding = serialize::write_message_segments_to_words(alloc, &message)?;
+/// assert_eq!(rt; encoding.len(), 16);
+/// ```
 pub fn write_message_segments_to_words<S: ReaderSegments>(
     alloc: Global,
     segments: &S,
@@ -71,6 +86,13 @@ pub fn write_message_segments_to_words<S: ReaderSegments>(
 /// Returns the framed encoding, in bytes, of a message that is built, which must have a segment.
 ///
 /// Fails as `write_message_segments_to_words` does.
+///
+/// ```
+/// let mut message = Builder::new_default(alloc);
+/// message.set_root::<text::Owned, &str>("Hello, World!")?;
+/// let encoding = serialize::write_message_to_words(alloc, &message)?;
+/// assert_eq!(rt; encoding.len(), 32);
+/// ```
 pub fn write_message_to_words<M: BuiltMessage>(alloc: Global, message: &M) -> Result<Vec<u8>>
     requires { M.has_segment message.now }
     ensures { ReturnsEncoding (M.segments message.now) (λ encoding. encoding.items) result }
@@ -83,6 +105,13 @@ pub fn write_message_to_words<M: BuiltMessage>(alloc: Global, message: &M) -> Re
 /// eighth of the bytes that `write_message` adds to a plain sink.
 ///
 /// Fails with `MessageSizeOverflow` exactly where this number does not fit `usize`.
+///
+/// ```
+/// let mut message = Builder::new_default(alloc);
+/// message.set_root::<text::Owned, &str>("Hello, World!")?;
+/// assert_eq!(rt; message.size_in_words(), 3);
+/// assert_eq!(rt; serialize::compute_serialized_size_in_words(&message)?, 4);
+/// ```
 pub fn compute_serialized_size_in_words<M: BuiltMessage>(message: &M) -> Result<usize>
     requires { M.has_segment message.now }
     ensures bytes { IfOk result (λ words. (encoding : List ℕ) →

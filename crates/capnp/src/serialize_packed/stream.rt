@@ -48,6 +48,14 @@ pub fn try_read_message<R: BufRead>(
 
 /// Reads the next packed message as `try_read_message` does, but accepts any padding in the segment
 /// table.
+///
+/// ```
+/// let mut source = PACKED_NONZERO_PADDING.as_slice();
+/// let read = serialize_packed::try_read_message_lenient(alloc, &mut source, options)?;
+/// if let Some(message) = read {
+///     assert_eq!(rt; message.get_segments().len(), 2);
+/// }
+/// ```
 pub fn try_read_message_lenient<R: BufRead>(
     alloc: Global,
     source: &mut R,
@@ -65,6 +73,13 @@ pub fn try_read_message_lenient<R: BufRead>(
 /// Fails as `try_read_message` does, but with `OutOfMemory` only for more bytes than the segments
 /// of `spare` have, or for more than one segment and more than `spare` has. It fails with
 /// `NonZeroPadding` only where `padding` is `Padding::Zero`.
+///
+/// ```
+/// let first = serialize_packed::read_message(alloc, &mut source, options)?;
+/// let spare = first.into_segments();
+/// let second = serialize_packed::try_read_message_reusing(&mut source, padding, options, spare)?;
+/// assert!(rt; second.is_some());
+/// ```
 pub fn try_read_message_reusing<R: BufRead>(
     source: &mut R,
     padding: Padding,
@@ -80,6 +95,12 @@ pub fn try_read_message_reusing<R: BufRead>(
 
 /// Reads the next packed message of a source. Fails with `PrematureEndOfFile` where nothing is
 /// unread, and else as `try_read_message` does.
+///
+/// ```
+/// let message = serialize_packed::read_message(alloc, &mut source, options)?;
+/// let greeting: text::Reader<'_> = message.get_root()?;
+/// assert_eq!(rt; greeting.as_bytes(), b"Hello, World!".as_slice());
+/// ```
 pub fn read_message<R: BufRead>(
     alloc: Global,
     source: &mut R,
@@ -93,6 +114,13 @@ pub fn read_message<R: BufRead>(
 
 /// Reads the next packed message as `read_message` does, but accepts any padding in the segment
 /// table.
+///
+/// ```
+/// let mut source = PACKED_NONZERO_PADDING.as_slice();
+/// let message = serialize_packed::read_message_lenient(alloc, &mut source, options)?;
+/// let greeting: text::Reader<'_> = message.get_root()?;
+/// assert_eq!(rt; greeting.as_bytes(), b"Hello, World!".as_slice());
+/// ```
 pub fn read_message_lenient<R: BufRead>(
     alloc: Global,
     source: &mut R,
@@ -111,6 +139,14 @@ pub fn read_message_lenient<R: BufRead>(
 ///
 /// Fails with `BufferNotLargeEnough` where the buffer is shorter than 8 bytes, than the table, or
 /// than table and segments, and else as `try_read_message` does, but never with `OutOfMemory`.
+///
+/// ```
+/// let mut buffer = [0; 32];
+/// let read = serialize_packed::try_read_message_no_alloc(&mut source, &mut buffer, options)?;
+/// if let Some(message) = read {
+///     assert_eq!(rt; message.get_segments().len(), 1);
+/// }
+/// ```
 pub fn try_read_message_no_alloc<'b, R: BufRead>(
     source: &mut R,
     buffer: &'b mut [u8],
@@ -124,6 +160,14 @@ pub fn try_read_message_no_alloc<'b, R: BufRead>(
 
 /// Reads the next packed message as `try_read_message_no_alloc` does, but accepts any padding in
 /// the segment table.
+///
+/// ```
+/// let mut room = [0; 40];
+/// let read = serialize_packed::try_read_message_no_alloc_lenient(&mut input, &mut room, options)?;
+/// if let Some(message) = read {
+///     assert_eq!(rt; message.get_segments().len(), 2);
+/// }
+/// ```
 pub fn try_read_message_no_alloc_lenient<'b, R: BufRead>(
     source: &mut R,
     buffer: &'b mut [u8],
@@ -155,6 +199,13 @@ fn try_read_message_into<'b, R: BufRead>(
 
 /// Reads the next packed message of a source into a caller-provided buffer. Fails with
 /// `PrematureEndOfFile` where nothing is unread, and else as `try_read_message_no_alloc` does.
+///
+/// ```
+/// let mut buffer = [0; 32];
+/// let message = serialize_packed::read_message_no_alloc(&mut source, &mut buffer, options)?;
+/// let greeting: text::Reader<'_> = message.get_root()?;
+/// assert_eq!(rt; greeting.as_bytes(), b"Hello, World!".as_slice());
+/// ```
 pub fn read_message_no_alloc<'b, R: BufRead>(
     source: &mut R,
     buffer: &'b mut [u8],
@@ -168,6 +219,13 @@ pub fn read_message_no_alloc<'b, R: BufRead>(
 
 /// Reads the next packed message as `read_message_no_alloc` does, but accepts any padding in the
 /// segment table.
+///
+/// ```
+/// let mut source = PACKED_NONZERO_PADDING.as_slice();
+/// let mut room = [0; 40];
+/// let message = serialize_packed::read_message_no_alloc_lenient(&mut source, &mut room, options)?;
+/// assert_eq!(rt; message.get_segments().len(), 2);
+/// ```
 pub fn read_message_no_alloc_lenient<'b, R: BufRead>(
     source: &mut R,
     buffer: &'b mut [u8],
@@ -187,6 +245,14 @@ pub fn read_message_no_alloc_lenient<'b, R: BufRead>(
 /// are put into the memory of `lengths`, which grows where it is too small. So it fails with
 /// `OutOfMemory` only for more segments than `lengths` has, and then it has consumed only the group
 /// of the table's first word.
+///
+/// ```
+/// let spare = SegmentLengthsBuilder::empty(alloc);
+/// let skipped = serialize_packed::try_skip_message(&mut source, Padding::Zero, options, spare)?;
+/// if let Some(lengths) = skipped {
+///     assert_eq!(rt; (lengths.segments_count(), lengths.total_words()), (1, 3));
+/// }
+/// ```
 pub fn try_skip_message<R: BufRead>(
     source: &mut R,
     padding: Padding,

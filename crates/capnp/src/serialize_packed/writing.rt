@@ -15,6 +15,14 @@ use std::alloc::Global;
 /// has none.
 ///
 /// Fails as `write_message_segments` does.
+///
+/// ```
+/// let mut message = Builder::new_default(alloc);
+/// message.set_root::<text::Owned, &str>("Hello, World!")?;
+/// let mut stream = Vec::new(alloc);
+/// serialize_packed::write_message(alloc, &mut stream, &message)?;
+/// assert_eq!(rt; stream.len(), 21);
+/// ```
 pub fn write_message<W: Write, M: BuiltMessage>(
     alloc: Global,
     sink: &mut W,

@@ -1,17 +1,7 @@
-//! The examples of public items' documentation, which `tools/lint code` compares with these.
-mod allocators;
-mod basics;
-mod building;
-mod devices;
-mod framing;
-mod layout;
-mod lists;
-mod orphans;
-mod pointers;
-mod printing;
-mod streams;
-mod upgraded;
-mod values;
+//! The examples of public items' documentation, which `tools/compare-page` compares with these.
+mod framed;
+mod framed_in_place;
+mod packed;
 
 use capnp::io::{Read, Write};
 use capnp::message::{
