@@ -1,7 +1,20 @@
-//! The examples of public items' documentation, which `tools/compare-page` compares with these.
+//! The examples of public items' documentation, which `tools/lint code` compares with these.
+mod allocators;
+mod basics;
+mod building;
+mod devices;
 mod framed;
 mod framed_in_place;
+mod framing;
+mod layout;
+mod lists;
+mod orphans;
 mod packed;
+mod pointers;
+mod printing;
+mod streams;
+mod upgraded;
+mod values;
 
 use capnp::io::{Read, Write};
 use capnp::message::{
