@@ -9,6 +9,14 @@ use capnp_layout::pointer_word::put_word;
 
 /// The bytes of a segment, to which objects are appended. None of its words except the root's
 /// changes.
+///
+/// ```
+/// fn greet<S: GrowingSegment>(objects: &mut Orphanage<S>) -> capnp::Result<()> {
+///     let greeting = objects.text("Hello, World!")?;
+///     objects.set_root(greeting);
+///     Ok(())
+/// }
+/// ```
 pub trait GrowingSegment: Drop {
     /// The segment that contracts see.
     ghost state: { Self → Segment };

@@ -1,6 +1,8 @@
 //! The examples of messages that are built from the bottom up.
 use capnp::{any_struct, struct_list, text};
-use capnp_orphans::{Draft, DraftSource, Heap, Object, Orphan, Orphanage, Region, StructDraft};
+use capnp_orphans::{
+    Draft, DraftSource, GrowingSegment, Heap, Object, Orphan, Orphanage, Region, StructDraft,
+};
 use std::test::Fail;
 
 #[test]
@@ -33,6 +35,21 @@ fn builds_in_a_region(rt: HostRuntime) -> Result<(), Fail> {
     let name = objects.text("Alice")?;
     objects.set_root(name);
     assert!(rt; objects.text("Bob").is_err());
+    Ok(())
+}
+
+fn greet<S: GrowingSegment>(objects: &mut Orphanage<S>) -> capnp::Result<()> {
+    let greeting = objects.text("Hello, World!")?;
+    objects.set_root(greeting);
+    Ok(())
+}
+
+#[test]
+fn builds_in_any_segment(rt: HostRuntime) -> Result<(), Fail> {
+    let alloc = rt.alloc();
+    let mut objects = Orphanage::new(alloc)?;
+    greet(&mut objects)?;
+    assert_eq!(rt; objects.bytes().len(), 24);
     Ok(())
 }
 
