@@ -17,7 +17,7 @@ const FIRST_BYTES: usize = 8192;
 /// A segment on the heap. The first bytes of its vector are used.
 ///
 /// Speed: the bytes after these have been written or made zero before, so an object is written over
-/// them, and `clear` is one store (`tools/time-building built`, `tree` and `table`).
+/// them, and `clear` is one store (`tools/time building built`, `tree` and `table`).
 ///
 /// ```
 /// let mut objects: Orphanage<Heap> = Orphanage::new(alloc)?;

@@ -11,7 +11,7 @@ use std::marker::Model;
 /// It takes no memory.
 ///
 /// Speed: it keeps how many bytes a segment can have there, so one test tells whether an object
-/// fits (`tools/time-building built`, `records` in a region).
+/// fits (`tools/time building built`, `records` in a region).
 ///
 /// ```
 /// let mut bytes = [7; 16];
