@@ -1,5 +1,6 @@
 """Compares and times programs that do the jobs `orphans` of crates/capnp_bench: NAME=PROGRAM .., ours first."""
-import hashlib, os, re, shutil, struct, subprocess, sys
+import hashlib, os, struct, subprocess, sys
+import valgrind
 
 JOBS = ["records", "table", "tree", "texts"]
 # A time is the difference of two runs, of so many times, so that neither what a program does once nor the
@@ -75,20 +76,9 @@ def milliseconds(programs, job, processors):
     return [(least[index, MANY] - least[index, FEW]) * 1e3 / (MANY - FEW) for index in range(len(programs))]
 
 
-def told(tool, program, job, times, pattern):
-    said = subprocess.run(["valgrind"] + tool + [program, job, "1", str(COUNTED), str(times)],
-                          stdout=subprocess.DEVNULL, stderr=subprocess.PIPE).stderr.decode()
-    return int(re.search(pattern, said).group(1).replace(",", ""))
-
-
-def by_times(tool, program, job, pattern):
-    few, many = [told(tool, program, job, times, pattern) for times in (COUNTED_FEW, COUNTED_MANY)]
-    return (many - few) / (COUNTED_MANY - COUNTED_FEW)
-
-
-def instructions(program, job):
-    callgrind = ["--tool=callgrind", "--callgrind-out-file=/dev/null"]
-    return by_times(callgrind, program, job, r"Collected : (\d+)") / COUNTED
+def counted(count, program, job):
+    """What is counted by valgrind for one time."""
+    return valgrind.of_one_more(lambda times: count([program, job, "1", str(COUNTED), str(times)]), COUNTED_FEW, COUNTED_MANY)
 
 
 def row(job, what, values, form):
@@ -116,9 +106,9 @@ def main():
             cells = ["%.2f" % took[-1] if name == "C++" else "" for name in names]
             print("| %s, numbers and copies alone, ms | %s | |" % (job, " | ".join(cells)), flush=True)
             row(job, "the builders' own part, ms", [value - took[-1] for value in took[:len(programs)]], "%.2f")
-        if shutil.which("valgrind"):
-            row(job, "instructions", [instructions(program, job) for program in programs], "%.0f")
-            asked = [by_times([], program, job, r"heap usage: ([\d,]+) allocs") for program in programs]
+        if valgrind.installed("time building"):
+            row(job, "instructions", [counted(valgrind.instructions, program, job) / COUNTED for program in programs], "%.0f")
+            asked = [counted(valgrind.requests_for_memory, program, job) for program in programs]
             print("| %s, requests for memory | %s | |" % (job, " | ".join("%g" % value for value in asked)), flush=True)
             if asked[0] != 0:
                 sys.exit("time building: %s: memory is asked for after the first time" % job)

@@ -1,5 +1,6 @@
 """Compares and times programs that do the benchmarks of crates/capnp_classic: NAME=PROGRAM .., ours first."""
-import hashlib, os, re, shutil, subprocess, sys
+import hashlib, os, subprocess, sys
+import valgrind
 
 # Of each benchmark how many requests a long run makes, some tens of milliseconds, and one under valgrind.
 BENCHMARKS = {"carsales": (1000, 32), "catrank": (100, 8), "eval": (20000, 240)}
@@ -55,16 +56,10 @@ def microseconds(programs, row, processors):
     return [(least[program, requests] - least[program, requests // SHORT]) * 1e6 / counted for program in programs]
 
 
-def told(tool, program, row, requests, pattern):
-    said = subprocess.run(["valgrind"] + tool + [program] + list(row) + ["1", str(requests)],
-                          stdout=subprocess.DEVNULL, stderr=subprocess.PIPE).stderr.decode()
-    return int(re.search(pattern, said).group(1).replace(",", ""))
-
-
-def by_requests(tool, program, row, pattern):
+def counted(count, program, row):
+    """What is counted by valgrind for a request and its response."""
     requests = BENCHMARKS[row[0]][1]
-    few, many = [told(tool, program, row, count, pattern) for count in (requests // SHORT, requests)]
-    return (many - few) / (requests - requests // SHORT)
+    return valgrind.of_one_more(lambda number: count([program] + list(row) + ["1", str(number)]), requests // SHORT, requests)
 
 
 def line(row, what, values, form, compares=True):
@@ -83,13 +78,11 @@ def main():
     print("time classic: %s: responses, bytes and canonical forms of %d rows are the same\n" % (" ".join(names), len(rows)))
     print("| | %s | the better over ours |" % " | ".join(names))
     print("|---|" + "---|" * (len(names) + 1))
-    callgrind = ["--tool=callgrind", "--callgrind-out-file=/dev/null"]
     for row in rows:
         line(row, "µs", microseconds(programs, row, processors), "%.2f")
-        if shutil.which("valgrind"):
-            counted = [by_requests(callgrind, program, row, r"Collected : (\d+)") for program in programs]
-            line(row, "instructions", counted, "%.0f")
-            asked = [by_requests([], program, row, r"heap usage: ([\d,]+) allocs") for program in programs]
+        if valgrind.installed("time classic"):
+            line(row, "instructions", [counted(valgrind.instructions, program, row) for program in programs], "%.0f")
+            asked = [counted(valgrind.requests_for_memory, program, row) for program in programs]
             line(row, "requests for memory", asked, "%.2f", compares=False)
 
 
