@@ -78,8 +78,8 @@ impl<'a> SegmentSpace for ScratchSegment<'a> {
 ///
 /// ```
 /// let mut region = [0; 8];
-/// let scratch = ScratchSpaceHeapAllocator::new(alloc, &mut region);
-/// let mut message = Builder::new(alloc, scratch);
+/// let mut scratch = ScratchSpaceHeapAllocator::new(alloc, &mut region);
+/// let mut message = Builder::new(alloc, &mut scratch);
 /// message.set_root::<text::Owned, &str>("Hello, World!")?;
 /// assert_eq!(rt; (message.len(), message.size_in_words()), (2, 4));
 /// ```

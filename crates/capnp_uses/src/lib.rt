@@ -1,7 +1,7 @@
 //! Callers of the library, each with the contract that its user wants.
 //!
 //! They show how the calls go together, and that the contracts say what a user wants to know.
-//! Nothing depends on them. The tests have the examples of public items, too.
+//! Nothing depends on them.
 #![tactic(auto)]
 
 pub mod account;

@@ -1,5 +1,4 @@
-//! The examples of public items, the callers by hand-computed bytes, and messages and limits of
-//! many words.
+//! The callers by hand-computed bytes, and messages and limits of many words.
 mod account_lists;
 mod accounts;
 mod any_numbers;
@@ -8,7 +7,6 @@ mod callers;
 mod composed;
 mod devices;
 mod entries;
-mod examples;
 mod fixtures;
 mod large_limits;
 mod large_messages;

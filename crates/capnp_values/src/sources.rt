@@ -54,7 +54,7 @@ pub trait ValueSource<T> {
 /// ```
 /// let numbers = [7, 8];
 /// let source = Numbers { numbers: &numbers };
-/// assert_eq!(rt; (source.len(), source.get(1).words), (2, [8]));
+/// assert_eq!(rt; (source.len(), source.get(1).words[0]), (2, 8));
 /// let list = LazyStructList::new(source);
 /// message.set_root::<struct_list::Owned, LazyStructList<Numbers<'_>>>(list)?;
 /// ```

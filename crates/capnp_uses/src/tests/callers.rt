@@ -6,8 +6,7 @@ use crate::packing::{pack_words, unpack_words, words_are_unpacked};
 use crate::reading::{borrowed_message, first_message, root_text};
 use crate::record_log::two_records_are_read_back;
 use crate::streaming::next_message;
-use crate::tests::examples::{HELLO, PACKED as PACKED_HELLO};
-use crate::tests::fixtures::expect;
+use crate::tests::fixtures::{HELLO, PACKED_HELLO, expect};
 use capnp::Result;
 use capnp::message::{
     Builder, DEFAULT_READER_OPTIONS, Reader, ReaderOptions, ReaderSegments, SegmentArray,

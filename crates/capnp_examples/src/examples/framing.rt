@@ -57,7 +57,7 @@ fn segments_are_numbered_from_zero(rt: HostRuntime) {
     let segments = [[0; 8].as_slice()];
     let message = SegmentArray::new(&segments);
     assert_eq!(rt; message.len(), 1);
-    assert_eq!(rt; message.get_segment(0), Some([0; 8].as_slice()));
+    assert_eq!(rt; message.get_segment(0), Some(segments[0]));
     assert!(rt; message.get_segment(1).is_none());
 }
 

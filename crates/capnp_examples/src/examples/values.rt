@@ -204,7 +204,7 @@ fn makes_structs(rt: HostRuntime) -> Result<(), Fail> {
     let mut message = Builder::new_default(alloc);
     let numbers = [7, 8];
     let source = Numbers { numbers: &numbers };
-    assert_eq!(rt; (source.len(), source.get(1).words), (2, [8]));
+    assert_eq!(rt; (source.len(), source.get(1).words[0]), (2, 8));
     let list = LazyStructList::new(source);
     message.set_root::<struct_list::Owned, LazyStructList<Numbers<'_>>>(list)?;
     assert_eq!(rt; message.size_in_words(), 4);

@@ -43,8 +43,8 @@ fn builds_in_segments_from_the_heap(rt: HostRuntime) -> Result<(), Fail> {
 fn builds_in_a_region_and_the_heap(rt: HostRuntime) -> Result<(), Fail> {
     let alloc = rt.alloc();
     let mut region = [0; 8];
-    let scratch = ScratchSpaceHeapAllocator::new(alloc, &mut region);
-    let mut message = Builder::new(alloc, scratch);
+    let mut scratch = ScratchSpaceHeapAllocator::new(alloc, &mut region);
+    let mut message = Builder::new(alloc, &mut scratch);
     message.set_root::<text::Owned, &str>("Hello, World!")?;
     assert_eq!(rt; (message.len(), message.size_in_words()), (2, 4));
     Ok(())
