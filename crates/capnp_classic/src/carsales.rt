@@ -155,12 +155,12 @@ fn fill_engine(
 }
 
 fn engine_value(horsepower: u16, gas: bool, electric: bool) -> u32 {
-    let value = 40 * horsepower as u32;
-    match (electric, gas) {
-        (true, true) => value + 5000,
-        (true, false) => value + 3000,
-        _ => value,
-    }
+    let power = match (electric, gas) {
+        (true, true) => 5000,
+        (true, false) => 3000,
+        _ => 0,
+    };
+    40 * horsepower as u32 + power
 }
 
 fn fill_extras(car: &mut car::Builder, random: &mut Random) -> u32 {

@@ -1,5 +1,5 @@
 //! Fields of structs by their width (encoding document, "Structs").
-ghost use Rattle.std.specs.Prelude.{◌≡◌, ◌↔◌, ◌^◌, ◌<◌, length, slice_index, bit_xor, IsTrue, Ok};
+ghost use Rattle.std.specs.Prelude.{◌≡◌, ◌↔◌, ◌^◌, ◌<◌, length, bit_xor, IsTrue, Ok};
 ghost use Rattle.capnp_layout.specs.Prelude.{code_of, width, nothing};
 ghost use Rattle.capnp_wire.specs.Fields.{field};
 ghost use Rattle.capnp_wire.specs.Readers.{struct_of};
@@ -72,16 +72,5 @@ impl<'a, S: ReaderSegments> StructReader<'a, S> {
         // For the prover: each word is below 2^64, and so is the number of bytes.
         words_fit(self.segment);
         size.in_word(self.data_word(size.word_of(offset)), offset)
-    }
-
-    // A data word; 0 past the last one.
-    fn data_word(&self, index: u64) -> u64
-        ensures { result ≡ slice_index (struct_of S.segments self.now).words index }
-    {
-        if index < self.data_words() as u64 {
-            self.get_word(index as u16)
-        } else {
-            0
-        }
     }
 }

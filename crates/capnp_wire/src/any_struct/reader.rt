@@ -13,8 +13,9 @@ use crate::read_limiter::ReadLimiter;
 use crate::traits::{FromPointerInSegment, FromPointerReader};
 use capnp_frame::Result;
 use capnp_frame::message::ReaderSegments;
+use capnp_layout::block::word_at;
 use capnp_layout::object::Object;
-use capnp_layout::place::{Place, word};
+use capnp_layout::place::Place;
 use capnp_layout::pointer::StructSize;
 
 /// A struct in a message.
@@ -58,14 +59,21 @@ impl<'a, S: ReaderSegments> StructReader<'a, S> {
     pub fn get_word(&self, index: u16) -> u64
         ensures { result ≡ slice_index (struct_of S.segments self.now).words index }
     {
-        if index < self.size.data_words {
-            match word(self.segment, self.start.word + index as usize) {
-                Some(word) => part::data_word_of(self.part, word),
-                None => 0,
-            }
+        self.data_word(index as u64)
+    }
+
+    // A data word; 0 past the last one.
+    // Speed: a word past the last one goes the same way through `data_word_of`, and the segment has
+    // all others. Were the 0 returned by itself, the compiler would make a jump of each bool.
+    pub(crate) fn data_word(&self, index: u64) -> u64
+        ensures { result ≡ slice_index (struct_of S.segments self.now).words index }
+    {
+        let word = if index < self.size.data_words as u64 {
+            word_at(self.segment, self.start.word + index as usize)
         } else {
             0
-        }
+        };
+        part::data_word_of(self.part, word)
     }
 
     /// The number of pointers.
