@@ -44,10 +44,11 @@ fn reads_framed_messages(rt: HostRuntime) -> Result<(), Fail> {
     let bytes = HELLO.as_slice();
     let mut source = bytes;
     let options = DEFAULT_READER_OPTIONS;
-    if let Some(message) = serialize::try_read_message(alloc, &mut source, options)? {
-        let greeting: text::Reader<'_> = message.get_root()?;
-        assert_eq!(rt; greeting.as_bytes(), b"Hello, World!".as_slice());
-    }
+    let Some(message) = serialize::try_read_message(alloc, &mut source, options)? else {
+        panic!(rt; "no message");
+    };
+    let greeting: text::Reader<'_> = message.get_root()?;
+    assert_eq!(rt; greeting.as_bytes(), b"Hello, World!".as_slice());
     assert!(rt; source.is_empty());
     Ok(())
 }
@@ -58,10 +59,11 @@ fn reads_packed_messages(rt: HostRuntime) -> Result<(), Fail> {
     let bytes = PACKED.as_slice();
     let mut source = bytes;
     let options = DEFAULT_READER_OPTIONS;
-    if let Some(message) = serialize_packed::try_read_message(alloc, &mut source, options)? {
-        let greeting: text::Reader<'_> = message.get_root()?;
-        assert_eq!(rt; greeting.as_bytes(), b"Hello, World!".as_slice());
-    }
+    let Some(message) = serialize_packed::try_read_message(alloc, &mut source, options)? else {
+        panic!(rt; "no message");
+    };
+    let greeting: text::Reader<'_> = message.get_root()?;
+    assert_eq!(rt; greeting.as_bytes(), b"Hello, World!".as_slice());
     assert!(rt; source.is_empty());
     Ok(())
 }

@@ -33,10 +33,11 @@ pub struct Landing<'a> {
 ///
 /// ```
 /// let segment = layout::segment(&message, 0)?;
-/// if let Some(landing) = resolve(&message, segment, root)? {
-///     assert_eq!(rt; (landing.number, landing.start), (0, Some(1)));
-///     assert_eq!(rt; landing.landing_pads, 0);
-/// }
+/// let Some(landing) = resolve(&message, segment, root)? else {
+///     panic!(rt; "a null pointer");
+/// };
+/// assert_eq!(rt; (landing.number, landing.start), (0, Some(1)));
+/// assert_eq!(rt; landing.landing_pads, 0);
 /// ```
 #[inline(always)]
 pub fn resolve<'a, S: ReaderSegments>(

@@ -141,11 +141,12 @@ pub fn words_fit(segment: &[u8])
 /// where that doesn't lie within the segment, or with `WrongPointerKind`.
 ///
 /// ```
-/// if let PointerWord::Local(local) = PointerWord::read(pointer_to_three_bytes) {
-///     let body = layout::body_at(segment, 1, local.shape)?;
-///     assert_eq!(rt; body.count_of(ElementSize::Byte), Some(3));
-///     assert!(rt; layout::body_at(segment, 2, local.shape).is_err());
-/// }
+/// let PointerWord::Local(local) = PointerWord::read(pointer_to_three_bytes) else {
+///     panic!(rt; "no pointer to an object in its segment");
+/// };
+/// let body = layout::body_at(segment, 1, local.shape)?;
+/// assert_eq!(rt; body.count_of(ElementSize::Byte), Some(3));
+/// assert!(rt; layout::body_at(segment, 2, local.shape).is_err());
 /// ```
 #[inline(always)]
 pub fn body_at(segment: &[u8], start: usize, shape: LocalShape) -> Result<Body>

@@ -68,11 +68,12 @@ pub struct StructSize {
 /// The elements of a composite list, by its tag word.
 ///
 /// ```
-/// if let Some(elements) = Elements::read(two_structs_of_one_data_word) {
-///     assert_eq!(rt; elements.count, 2);
-///     assert_eq!(rt; (elements.size.data_words, elements.size.pointers), (1, 0));
-///     assert_eq!(rt; elements.words(), 2);
-/// }
+/// let Some(elements) = Elements::read(two_structs_of_one_data_word) else {
+///     panic!(rt; "no tag of structs");
+/// };
+/// assert_eq!(rt; elements.count, 2);
+/// assert_eq!(rt; (elements.size.data_words, elements.size.pointers), (1, 0));
+/// assert_eq!(rt; elements.words(), 2);
 /// ```
 #[derive(Clone, Copy)]
 pub struct Elements {
@@ -84,10 +85,11 @@ pub struct Elements {
 /// pad has two words.
 ///
 /// ```
-/// if let PointerWord::Far(far) = PointerWord::read(to_word_five_of_segment_one) {
-///     assert_eq!(rt; (far.landing_pad.segment, far.landing_pad.word), (1, 5));
-///     assert!(rt; !far.is_double_far);
-/// }
+/// let PointerWord::Far(far) = PointerWord::read(to_word_five_of_segment_one) else {
+///     panic!(rt; "no far pointer");
+/// };
+/// assert_eq!(rt; (far.landing_pad.segment, far.landing_pad.word), (1, 5));
+/// assert!(rt; !far.is_double_far);
 /// ```
 #[derive(Clone, Copy)]
 pub struct FarPointer {

@@ -5,9 +5,10 @@ use crate::{data, list_list};
 ///
 /// ```
 /// let keys: data_list::Reader<'_, OwnedSegments> = message.get_root()?;
-/// if let Some(key) = keys.try_get(1) {
-///     assert_eq!(rt; key?, [3].as_slice());
-/// }
+/// let Some(key) = keys.try_get(1) else {
+///     panic!(rt; "no second key");
+/// };
+/// assert_eq!(rt; key?, [3].as_slice());
 /// assert_eq!(rt; keys.len(), 2);
 /// ```
 pub type Reader<'a, S> = list_list::Reader<'a, S, data::Reader<'a>>;

@@ -40,9 +40,10 @@ pub type TextList<'a, S> = ListList<'a, S, text::Reader<'a>>;
 /// ```
 /// let message = serialize::read_message(alloc, &mut list_of_structs, options)?;
 /// let keys: upgraded::DataList<'_, OwnedSegments> = message.get_root()?;
-/// if let Some(key) = keys.try_get(0) {
-///     assert_eq!(rt; key?, [1, 2].as_slice());
-/// }
+/// let Some(key) = keys.try_get(0) else {
+///     panic!(rt; "no first key");
+/// };
+/// assert_eq!(rt; key?, [1, 2].as_slice());
 /// assert_eq!(rt; keys.len(), 2);
 /// ```
 pub type DataList<'a, S> = ListList<'a, S, data::Reader<'a>>;

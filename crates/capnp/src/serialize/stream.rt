@@ -28,10 +28,11 @@ use std::alloc::Global;
 ///
 /// ```
 /// let options = DEFAULT_READER_OPTIONS;
-/// if let Some(message) = serialize::try_read_message(alloc, &mut source, options)? {
-///     let greeting: text::Reader<'_> = message.get_root()?;
-///     assert_eq!(rt; greeting.as_bytes(), b"Hello, World!".as_slice());
-/// }
+/// let Some(message) = serialize::try_read_message(alloc, &mut source, options)? else {
+///     panic!(rt; "no message");
+/// };
+/// let greeting: text::Reader<'_> = message.get_root()?;
+/// assert_eq!(rt; greeting.as_bytes(), b"Hello, World!".as_slice());
 /// ```
 pub fn try_read_message<R: Read>(
     alloc: Global,
@@ -47,10 +48,11 @@ pub fn try_read_message<R: Read>(
 ///
 /// ```
 /// let mut source = NONZERO_PADDING.as_slice();
-/// if let Some(message) = serialize::try_read_message_lenient(alloc, &mut source, options)? {
-///     let greeting: text::Reader<'_> = message.get_root()?;
-///     assert_eq!(rt; greeting.as_bytes(), b"Hello, World!".as_slice());
-/// }
+/// let Some(message) = serialize::try_read_message_lenient(alloc, &mut source, options)? else {
+///     panic!(rt; "no message");
+/// };
+/// let greeting: text::Reader<'_> = message.get_root()?;
+/// assert_eq!(rt; greeting.as_bytes(), b"Hello, World!".as_slice());
 /// ```
 pub fn try_read_message_lenient<R: Read>(
     alloc: Global,
@@ -138,9 +140,10 @@ pub fn read_message_lenient<R: Read>(
 /// ```
 /// let mut buffer = [0; 32];
 /// let read = serialize::try_read_message_no_alloc(&mut source, &mut buffer, options)?;
-/// if let Some(message) = read {
-///     assert_eq!(rt; message.get_segments().len(), 1);
-/// }
+/// let Some(message) = read else {
+///     panic!(rt; "no message");
+/// };
+/// assert_eq!(rt; message.get_segments().len(), 1);
 /// ```
 pub fn try_read_message_no_alloc<'b, R: Read>(
     source: &mut R,
@@ -159,9 +162,10 @@ pub fn try_read_message_no_alloc<'b, R: Read>(
 /// ```
 /// let mut buffer = [0; 40];
 /// let read = serialize::try_read_message_no_alloc_lenient(&mut source, &mut buffer, options)?;
-/// if let Some(message) = read {
-///     assert_eq!(rt; message.get_segments().len(), 2);
-/// }
+/// let Some(message) = read else {
+///     panic!(rt; "no message");
+/// };
+/// assert_eq!(rt; message.get_segments().len(), 2);
 /// ```
 pub fn try_read_message_no_alloc_lenient<'b, R: Read>(
     source: &mut R,
@@ -245,9 +249,10 @@ pub fn read_message_no_alloc_lenient<'b, R: Read>(
 /// ```
 /// let spare = SegmentLengthsBuilder::empty(alloc);
 /// let skipped = serialize::try_skip_message(&mut source, Padding::Zero, options, spare)?;
-/// if let Some(lengths) = skipped {
-///     assert_eq!(rt; (lengths.segments_count(), lengths.total_words()), (1, 3));
-/// }
+/// let Some(lengths) = skipped else {
+///     panic!(rt; "no message");
+/// };
+/// assert_eq!(rt; (lengths.segments_count(), lengths.total_words()), (1, 3));
 /// ```
 pub fn try_skip_message<R: BufRead>(
     source: &mut R,

@@ -31,10 +31,11 @@ use std::alloc::Global;
 ///
 /// ```
 /// let options = DEFAULT_READER_OPTIONS;
-/// if let Some(message) = serialize_packed::try_read_message(alloc, &mut source, options)? {
-///     let greeting: text::Reader<'_> = message.get_root()?;
-///     assert_eq!(rt; greeting.as_bytes(), b"Hello, World!".as_slice());
-/// }
+/// let Some(message) = serialize_packed::try_read_message(alloc, &mut source, options)? else {
+///     panic!(rt; "no message");
+/// };
+/// let greeting: text::Reader<'_> = message.get_root()?;
+/// assert_eq!(rt; greeting.as_bytes(), b"Hello, World!".as_slice());
 /// ```
 pub fn try_read_message<R: BufRead>(
     alloc: Global,
@@ -52,9 +53,10 @@ pub fn try_read_message<R: BufRead>(
 /// ```
 /// let mut source = PACKED_NONZERO_PADDING.as_slice();
 /// let read = serialize_packed::try_read_message_lenient(alloc, &mut source, options)?;
-/// if let Some(message) = read {
-///     assert_eq!(rt; message.get_segments().len(), 2);
-/// }
+/// let Some(message) = read else {
+///     panic!(rt; "no message");
+/// };
+/// assert_eq!(rt; message.get_segments().len(), 2);
 /// ```
 pub fn try_read_message_lenient<R: BufRead>(
     alloc: Global,
@@ -143,9 +145,10 @@ pub fn read_message_lenient<R: BufRead>(
 /// ```
 /// let mut buffer = [0; 32];
 /// let read = serialize_packed::try_read_message_no_alloc(&mut source, &mut buffer, options)?;
-/// if let Some(message) = read {
-///     assert_eq!(rt; message.get_segments().len(), 1);
-/// }
+/// let Some(message) = read else {
+///     panic!(rt; "no message");
+/// };
+/// assert_eq!(rt; message.get_segments().len(), 1);
 /// ```
 pub fn try_read_message_no_alloc<'b, R: BufRead>(
     source: &mut R,
@@ -164,9 +167,10 @@ pub fn try_read_message_no_alloc<'b, R: BufRead>(
 /// ```
 /// let mut room = [0; 40];
 /// let read = serialize_packed::try_read_message_no_alloc_lenient(&mut input, &mut room, options)?;
-/// if let Some(message) = read {
-///     assert_eq!(rt; message.get_segments().len(), 2);
-/// }
+/// let Some(message) = read else {
+///     panic!(rt; "no message");
+/// };
+/// assert_eq!(rt; message.get_segments().len(), 2);
 /// ```
 pub fn try_read_message_no_alloc_lenient<'b, R: BufRead>(
     source: &mut R,
@@ -249,9 +253,10 @@ pub fn read_message_no_alloc_lenient<'b, R: BufRead>(
 /// ```
 /// let spare = SegmentLengthsBuilder::empty(alloc);
 /// let skipped = serialize_packed::try_skip_message(&mut source, Padding::Zero, options, spare)?;
-/// if let Some(lengths) = skipped {
-///     assert_eq!(rt; (lengths.segments_count(), lengths.total_words()), (1, 3));
-/// }
+/// let Some(lengths) = skipped else {
+///     panic!(rt; "no message");
+/// };
+/// assert_eq!(rt; (lengths.segments_count(), lengths.total_words()), (1, 3));
 /// ```
 pub fn try_skip_message<R: BufRead>(
     source: &mut R,

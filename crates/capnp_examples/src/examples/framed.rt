@@ -53,10 +53,11 @@ fn reads_what_may_be_a_message_of_nonzero_padding(rt: HostRuntime) -> Result<(),
     let alloc = rt.alloc();
     let options = DEFAULT_READER_OPTIONS;
     let mut source = NONZERO_PADDING.as_slice();
-    if let Some(message) = serialize::try_read_message_lenient(alloc, &mut source, options)? {
-        let greeting: text::Reader<'_> = message.get_root()?;
-        assert_eq!(rt; greeting.as_bytes(), b"Hello, World!".as_slice());
-    }
+    let Some(message) = serialize::try_read_message_lenient(alloc, &mut source, options)? else {
+        panic!(rt; "no message");
+    };
+    let greeting: text::Reader<'_> = message.get_root()?;
+    assert_eq!(rt; greeting.as_bytes(), b"Hello, World!".as_slice());
     assert!(rt; source.is_empty());
     Ok(())
 }
@@ -82,9 +83,10 @@ fn skips_a_message(rt: HostRuntime) -> Result<(), Fail> {
     let mut source = TWO_MESSAGES.as_slice();
     let spare = SegmentLengthsBuilder::empty(alloc);
     let skipped = serialize::try_skip_message(&mut source, Padding::Zero, options, spare)?;
-    if let Some(lengths) = skipped {
-        assert_eq!(rt; (lengths.segments_count(), lengths.total_words()), (1, 3));
-    }
+    let Some(lengths) = skipped else {
+        panic!(rt; "no message");
+    };
+    assert_eq!(rt; (lengths.segments_count(), lengths.total_words()), (1, 3));
     assert_eq!(rt; source.len(), 16);
     Ok(())
 }

@@ -23,9 +23,10 @@ fn reads_what_may_be_a_message_into_a_buffer(rt: HostRuntime) -> Result<(), Fail
     let mut source = HELLO.as_slice();
     let mut buffer = [0; 32];
     let read = serialize::try_read_message_no_alloc(&mut source, &mut buffer, options)?;
-    if let Some(message) = read {
-        assert_eq!(rt; message.get_segments().len(), 1);
-    }
+    let Some(message) = read else {
+        panic!(rt; "no message");
+    };
+    assert_eq!(rt; message.get_segments().len(), 1);
     assert!(rt; source.is_empty());
     Ok(())
 }
@@ -48,9 +49,10 @@ fn reads_what_may_be_nonzero_padding_into_a_buffer(rt: HostRuntime) -> Result<()
     let mut source = NONZERO_PADDING.as_slice();
     let mut buffer = [0; 40];
     let read = serialize::try_read_message_no_alloc_lenient(&mut source, &mut buffer, options)?;
-    if let Some(message) = read {
-        assert_eq!(rt; message.get_segments().len(), 2);
-    }
+    let Some(message) = read else {
+        panic!(rt; "no message");
+    };
+    assert_eq!(rt; message.get_segments().len(), 2);
     assert!(rt; source.is_empty());
     Ok(())
 }

@@ -23,10 +23,11 @@ fn pointers_are_resolved(rt: HostRuntime) -> Result<()> {
     let segments = [list_of_bytes];
     let message = SegmentArray::new(&segments);
     let segment = layout::segment(&message, 0)?;
-    if let Some(landing) = resolve(&message, segment, root)? {
-        assert_eq!(rt; (landing.number, landing.start), (0, Some(1)));
-        assert_eq!(rt; landing.landing_pads, 0);
-    }
+    let Some(landing) = resolve(&message, segment, root)? else {
+        panic!(rt; "a null pointer");
+    };
+    assert_eq!(rt; (landing.number, landing.start), (0, Some(1)));
+    assert_eq!(rt; landing.landing_pads, 0);
     Ok(())
 }
 
@@ -42,11 +43,12 @@ fn bodies_have_sizes(rt: HostRuntime) {
 fn a_body_lies_within_its_segment(rt: HostRuntime) -> Result<()> {
     let segment = BYTES.as_slice();
     let pointer_to_three_bytes = 0x1a00000001;
-    if let PointerWord::Local(local) = PointerWord::read(pointer_to_three_bytes) {
-        let body = layout::body_at(segment, 1, local.shape)?;
-        assert_eq!(rt; body.count_of(ElementSize::Byte), Some(3));
-        assert!(rt; layout::body_at(segment, 2, local.shape).is_err());
-    }
+    let PointerWord::Local(local) = PointerWord::read(pointer_to_three_bytes) else {
+        panic!(rt; "no pointer to an object in its segment");
+    };
+    let body = layout::body_at(segment, 1, local.shape)?;
+    assert_eq!(rt; body.count_of(ElementSize::Byte), Some(3));
+    assert!(rt; layout::body_at(segment, 2, local.shape).is_err());
     Ok(())
 }
 
@@ -83,20 +85,22 @@ fn words_are_little_endian(rt: HostRuntime) {
 #[test]
 fn a_tag_word_has_elements(rt: HostRuntime) {
     let two_structs_of_one_data_word = 0x100000008;
-    if let Some(elements) = Elements::read(two_structs_of_one_data_word) {
-        assert_eq!(rt; elements.count, 2);
-        assert_eq!(rt; (elements.size.data_words, elements.size.pointers), (1, 0));
-        assert_eq!(rt; elements.words(), 2);
-    }
+    let Some(elements) = Elements::read(two_structs_of_one_data_word) else {
+        panic!(rt; "no tag of structs");
+    };
+    assert_eq!(rt; elements.count, 2);
+    assert_eq!(rt; (elements.size.data_words, elements.size.pointers), (1, 0));
+    assert_eq!(rt; elements.words(), 2);
 }
 
 #[test]
 fn far_pointers_have_landing_pads(rt: HostRuntime) {
     let to_word_five_of_segment_one = 0x10000002a;
-    if let PointerWord::Far(far) = PointerWord::read(to_word_five_of_segment_one) {
-        assert_eq!(rt; (far.landing_pad.segment, far.landing_pad.word), (1, 5));
-        assert!(rt; !far.is_double_far);
-    }
+    let PointerWord::Far(far) = PointerWord::read(to_word_five_of_segment_one) else {
+        panic!(rt; "no far pointer");
+    };
+    assert_eq!(rt; (far.landing_pad.segment, far.landing_pad.word), (1, 5));
+    assert!(rt; !far.is_double_far);
 }
 
 #[test]

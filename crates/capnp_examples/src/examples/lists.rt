@@ -78,9 +78,10 @@ fn reads_lists_of_data(rt: HostRuntime) -> Result<(), Fail> {
     let mut source = KEYS;
     let message = serialize::read_message(alloc, &mut source, DEFAULT_READER_OPTIONS)?;
     let keys: data_list::Reader<'_, OwnedSegments> = message.get_root()?;
-    if let Some(key) = keys.try_get(1) {
-        assert_eq!(rt; key?, [3].as_slice());
-    }
+    let Some(key) = keys.try_get(1) else {
+        panic!(rt; "no second key");
+    };
+    assert_eq!(rt; key?, [3].as_slice());
     assert_eq!(rt; keys.len(), 2);
     Ok(())
 }
@@ -167,9 +168,10 @@ fn reads_lists_of_lists(rt: HostRuntime) -> Result<(), Fail> {
     let message = serialize::read_message(alloc, &mut source, DEFAULT_READER_OPTIONS)?;
     let lists: list_list::Reader<'_, OwnedSegments, primitive_list::Reader<'_, u16>> =
         message.get_root()?;
-    if let Some(list) = lists.try_get(0) {
-        assert_eq!(rt; list?.try_get(1), Some(2));
-    }
+    let Some(list) = lists.try_get(0) else {
+        panic!(rt; "no first list");
+    };
+    assert_eq!(rt; list?.try_get(1), Some(2));
     assert_eq!(rt; lists.len(), 2);
     Ok(())
 }

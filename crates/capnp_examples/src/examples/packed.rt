@@ -49,9 +49,10 @@ fn reads_what_may_be_packed_nonzero_padding(rt: HostRuntime) -> Result<(), Fail>
     let options = DEFAULT_READER_OPTIONS;
     let mut source = PACKED_NONZERO_PADDING.as_slice();
     let read = serialize_packed::try_read_message_lenient(alloc, &mut source, options)?;
-    if let Some(message) = read {
-        assert_eq!(rt; message.get_segments().len(), 2);
-    }
+    let Some(message) = read else {
+        panic!(rt; "no message");
+    };
+    assert_eq!(rt; message.get_segments().len(), 2);
     assert!(rt; source.is_empty());
     Ok(())
 }
@@ -88,9 +89,10 @@ fn unpacks_what_may_be_a_message_into_a_buffer(rt: HostRuntime) -> Result<(), Fa
     let mut source = PACKED.as_slice();
     let mut buffer = [0; 32];
     let read = serialize_packed::try_read_message_no_alloc(&mut source, &mut buffer, options)?;
-    if let Some(message) = read {
-        assert_eq!(rt; message.get_segments().len(), 1);
-    }
+    let Some(message) = read else {
+        panic!(rt; "no message");
+    };
+    assert_eq!(rt; message.get_segments().len(), 1);
     assert!(rt; source.is_empty());
     Ok(())
 }
@@ -112,9 +114,10 @@ fn unpacks_what_may_be_nonzero_padding_into_a_buffer(rt: HostRuntime) -> Result<
     let mut input = PACKED_NONZERO_PADDING.as_slice();
     let mut room = [0; 40];
     let read = serialize_packed::try_read_message_no_alloc_lenient(&mut input, &mut room, options)?;
-    if let Some(message) = read {
-        assert_eq!(rt; message.get_segments().len(), 2);
-    }
+    let Some(message) = read else {
+        panic!(rt; "no message");
+    };
+    assert_eq!(rt; message.get_segments().len(), 2);
     assert!(rt; input.is_empty());
     Ok(())
 }
@@ -126,9 +129,10 @@ fn skips_a_packed_message(rt: HostRuntime) -> Result<(), Fail> {
     let mut source = TWO_PACKED.as_slice();
     let spare = SegmentLengthsBuilder::empty(alloc);
     let skipped = serialize_packed::try_skip_message(&mut source, Padding::Zero, options, spare)?;
-    if let Some(lengths) = skipped {
-        assert_eq!(rt; (lengths.segments_count(), lengths.total_words()), (1, 3));
-    }
+    let Some(lengths) = skipped else {
+        panic!(rt; "no message");
+    };
+    assert_eq!(rt; (lengths.segments_count(), lengths.total_words()), (1, 3));
     assert_eq!(rt; source.len(), 4);
     Ok(())
 }

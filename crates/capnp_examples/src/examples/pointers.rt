@@ -57,10 +57,11 @@ fn reads_objects_of_any_kind(rt: HostRuntime) -> Result<(), Fail> {
     let mut source = PERSON;
     let message = serialize::read_message(alloc, &mut source, DEFAULT_READER_OPTIONS)?;
     let root: any_object::Reader<'_, OwnedSegments> = message.get_root()?;
-    if let any_object::Reader::Struct(person) = root {
-        assert_eq!(rt; (person.data_words(), person.pointers()), (1, 2));
-        assert_eq!(rt; person.get_word(0), 123);
-    }
+    let any_object::Reader::Struct(person) = root else {
+        panic!(rt; "no struct");
+    };
+    assert_eq!(rt; (person.data_words(), person.pointers()), (1, 2));
+    assert_eq!(rt; person.get_word(0), 123);
     Ok(())
 }
 
@@ -70,11 +71,12 @@ fn reads_numbers_of_any_size(rt: HostRuntime) -> Result<(), Fail> {
     let mut source = PORTS;
     let message = serialize::read_message(alloc, &mut source, DEFAULT_READER_OPTIONS)?;
     let root: any_object::Reader<'_, OwnedSegments> = message.get_root()?;
-    if let any_object::Reader::Numbers(ports) = root {
-        assert_eq!(rt; (ports.len(), ports.bits_of_each()), (3, 16));
-        if ports.len() > 1 {
-            assert_eq!(rt; ports.get(1), 443);
-        }
+    let any_object::Reader::Numbers(ports) = root else {
+        panic!(rt; "no list of numbers");
+    };
+    assert_eq!(rt; (ports.len(), ports.bits_of_each()), (3, 16));
+    if ports.len() > 1 {
+        assert_eq!(rt; ports.get(1), 443);
     }
     Ok(())
 }
@@ -85,10 +87,11 @@ fn reads_lists_of_pointers(rt: HostRuntime) -> Result<(), Fail> {
     let mut source = NAMES;
     let message = serialize::read_message(alloc, &mut source, DEFAULT_READER_OPTIONS)?;
     let names: any_pointer_list::Reader<'_, OwnedSegments> = message.get_root()?;
-    if let Some(pointer) = names.try_get(1) {
-        let name: text::Reader<'_> = pointer.get_as()?;
-        assert!(rt; name.is("Bob"));
-    }
+    let Some(pointer) = names.try_get(1) else {
+        panic!(rt; "no second pointer");
+    };
+    let name: text::Reader<'_> = pointer.get_as()?;
+    assert!(rt; name.is("Bob"));
     assert!(rt; names.try_get(2).is_none());
     Ok(())
 }

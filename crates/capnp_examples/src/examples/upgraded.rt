@@ -57,9 +57,10 @@ fn reads_numbers_as_structs(rt: HostRuntime) -> Result<(), Fail> {
     let options = DEFAULT_READER_OPTIONS;
     let message = serialize::read_message(alloc, &mut list_of_numbers, options)?;
     let entries: upgraded::StructList<'_, OwnedSegments> = message.get_root()?;
-    if let Some(entry) = entries.try_get(2) {
-        assert_eq!(rt; entry.get_data_field::<u16>(0), 7);
-    }
+    let Some(entry) = entries.try_get(2) else {
+        panic!(rt; "no third entry");
+    };
+    assert_eq!(rt; entry.get_data_field::<u16>(0), 7);
     assert_eq!(rt; entries.len(), 3);
     Ok(())
 }
@@ -71,10 +72,11 @@ fn reads_structs_as_pointers(rt: HostRuntime) -> Result<(), Fail> {
     let options = DEFAULT_READER_OPTIONS;
     let message = serialize::read_message(alloc, &mut list_of_structs, options)?;
     let pointers: upgraded::PointerList<'_, OwnedSegments> = message.get_root()?;
-    if let Some(pointer) = pointers.try_get(1) {
-        let name: text::Reader<'_> = pointer.get_as()?;
-        assert!(rt; name.is("Bob"));
-    }
+    let Some(pointer) = pointers.try_get(1) else {
+        panic!(rt; "no second pointer");
+    };
+    let name: text::Reader<'_> = pointer.get_as()?;
+    assert!(rt; name.is("Bob"));
     Ok(())
 }
 
@@ -100,9 +102,10 @@ fn reads_structs_as_data(rt: HostRuntime) -> Result<(), Fail> {
     let options = DEFAULT_READER_OPTIONS;
     let message = serialize::read_message(alloc, &mut list_of_structs, options)?;
     let keys: upgraded::DataList<'_, OwnedSegments> = message.get_root()?;
-    if let Some(key) = keys.try_get(0) {
-        assert_eq!(rt; key?, [1, 2].as_slice());
-    }
+    let Some(key) = keys.try_get(0) else {
+        panic!(rt; "no first key");
+    };
+    assert_eq!(rt; key?, [1, 2].as_slice());
     assert_eq!(rt; keys.len(), 2);
     Ok(())
 }
@@ -115,9 +118,10 @@ fn reads_structs_as_lists(rt: HostRuntime) -> Result<(), Fail> {
     let message = serialize::read_message(alloc, &mut list_of_structs, options)?;
     let lists: upgraded::ListList<'_, OwnedSegments, upgraded::NumberList<'_, u16>> =
         message.get_root()?;
-    if let Some(list) = lists.try_get(0) {
-        assert_eq!(rt; list?.try_get(1), Some(2));
-    }
+    let Some(list) = lists.try_get(0) else {
+        panic!(rt; "no first list");
+    };
+    assert_eq!(rt; list?.try_get(1), Some(2));
     assert_eq!(rt; lists.len(), 2);
     Ok(())
 }

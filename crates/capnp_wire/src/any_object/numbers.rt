@@ -10,11 +10,12 @@ use capnp_layout::place::word;
 ///
 /// ```
 /// let root: any_object::Reader<'_, OwnedSegments> = message.get_root()?;
-/// if let any_object::Reader::Numbers(ports) = root {
-///     assert_eq!(rt; (ports.len(), ports.bits_of_each()), (3, 16));
-///     if ports.len() > 1 {
-///         assert_eq!(rt; ports.get(1), 443);
-///     }
+/// let any_object::Reader::Numbers(ports) = root else {
+///     panic!(rt; "no list of numbers");
+/// };
+/// assert_eq!(rt; (ports.len(), ports.bits_of_each()), (3, 16));
+/// if ports.len() > 1 {
+///     assert_eq!(rt; ports.get(1), 443);
 /// }
 /// ```
 #[derive(Drop)]

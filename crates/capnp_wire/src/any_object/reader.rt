@@ -16,10 +16,11 @@ use capnp_layout::object::{Body, Object, words_fit};
 ///
 /// ```
 /// let root: any_object::Reader<'_, OwnedSegments> = message.get_root()?;
-/// if let any_object::Reader::Struct(person) = root {
-///     assert_eq!(rt; (person.data_words(), person.pointers()), (1, 2));
-///     assert_eq!(rt; person.get_word(0), 123);
-/// }
+/// let any_object::Reader::Struct(person) = root else {
+///     panic!(rt; "no struct");
+/// };
+/// assert_eq!(rt; (person.data_words(), person.pointers()), (1, 2));
+/// assert_eq!(rt; person.get_word(0), 123);
 /// ```
 #[derive(Drop)]
 pub enum Reader<'a, S: ReaderSegments> {

@@ -18,10 +18,11 @@ use capnp_layout::place::Place;
 ///
 /// ```
 /// let names: any_pointer_list::Reader<'_, OwnedSegments> = message.get_root()?;
-/// if let Some(pointer) = names.try_get(1) {
-///     let name: text::Reader<'_> = pointer.get_as()?;
-///     assert!(rt; name.is("Bob"));
-/// }
+/// let Some(pointer) = names.try_get(1) else {
+///     panic!(rt; "no second pointer");
+/// };
+/// let name: text::Reader<'_> = pointer.get_as()?;
+/// assert!(rt; name.is("Bob"));
 /// assert!(rt; names.try_get(2).is_none());
 /// ```
 #[derive(Drop)]

@@ -17,9 +17,10 @@ use std::marker::PhantomData;
 /// let message = serialize::read_message(alloc, &mut list_of_structs, options)?;
 /// let lists: upgraded::ListList<'_, OwnedSegments, upgraded::NumberList<'_, u16>> =
 ///     message.get_root()?;
-/// if let Some(list) = lists.try_get(0) {
-///     assert_eq!(rt; list?.try_get(1), Some(2));
-/// }
+/// let Some(list) = lists.try_get(0) else {
+///     panic!(rt; "no first list");
+/// };
+/// assert_eq!(rt; list?.try_get(1), Some(2));
 /// assert_eq!(rt; lists.len(), 2);
 /// ```
 #[derive(Drop)]

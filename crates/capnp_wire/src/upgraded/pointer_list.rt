@@ -19,10 +19,11 @@ use capnp_layout::place::Place;
 /// ```
 /// let message = serialize::read_message(alloc, &mut list_of_structs, options)?;
 /// let pointers: upgraded::PointerList<'_, OwnedSegments> = message.get_root()?;
-/// if let Some(pointer) = pointers.try_get(1) {
-///     let name: text::Reader<'_> = pointer.get_as()?;
-///     assert!(rt; name.is("Bob"));
-/// }
+/// let Some(pointer) = pointers.try_get(1) else {
+///     panic!(rt; "no second pointer");
+/// };
+/// let name: text::Reader<'_> = pointer.get_as()?;
+/// assert!(rt; name.is("Bob"));
 /// ```
 #[derive(Drop)]
 pub struct PointerList<'a, S> {

@@ -24,9 +24,10 @@ use capnp_layout::pointer::{Elements, StructSize};
 /// ```
 /// let message = serialize::read_message(alloc, &mut list_of_numbers, options)?;
 /// let entries: upgraded::StructList<'_, OwnedSegments> = message.get_root()?;
-/// if let Some(entry) = entries.try_get(2) {
-///     assert_eq!(rt; entry.get_data_field::<u16>(0), 7);
-/// }
+/// let Some(entry) = entries.try_get(2) else {
+///     panic!(rt; "no third entry");
+/// };
+/// assert_eq!(rt; entry.get_data_field::<u16>(0), 7);
 /// assert_eq!(rt; entries.len(), 3);
 /// ```
 #[derive(Drop)]
