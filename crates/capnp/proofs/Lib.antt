@@ -1,6 +1,6 @@
 -- The lemmas, by subject.
 pub mod SourceEncodingLemmas
-pub mod FormatLemmas
+pub mod FormatReaderLemmas
 pub mod PlainSinkLemmas
 pub mod RunLemmas
 pub mod RunEndLemmas

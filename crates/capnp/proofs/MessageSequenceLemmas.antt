@@ -22,7 +22,7 @@ use Rattle.capnp_pack.proofs.encodings.PackedFrameLemmas.{packed_encoding_is}
 use Rattle.capnp.specs.declared.streams.Format.{Format}
 use Rattle.capnp.specs.declared.streams.Format.TheVariants.{Framed, Packed}
 use Rattle.capnp.specs.Prelude.{ReadsMessages, grammar_of, rules_of, FoundNext, IsStream, ExternalError, by_format, ReadsMessage, OrFailsAtEnd, HasRootTree, IsEncodingOf, AppendsEach}
-use Rattle.capnp.proofs.FormatLemmas.{or_fails_advances, or_fails_failed}
+use Rattle.capnp.proofs.FormatReaderLemmas.{or_fails_advances, or_fails_failed}
 use Rattle.capnp.proofs.SourceEncodingLemmas.{or_fails_accepted, or_fails_reads}
 use Rattle.capnp.proofs.RunLemmas.{format_parts}
 use Rattle.capnp.proofs.PlainSinkLemmas.{IsWithin-written}

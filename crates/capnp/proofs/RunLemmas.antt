@@ -14,7 +14,7 @@ use Rattle.capnp.specs.declared.streams.Format.{Format}
 use Rattle.capnp.specs.declared.streams.Format.TheVariants.{Framed, Packed}
 use Rattle.capnp.specs.declared.streams.FailedAt.{FailedAt}
 use Rattle.capnp.specs.Prelude.{grammar_of, gives_of, refuses_of, rules_of, Writing, WritingErrors, WritesFrom, WritesAll, HasWrittenNext, HasWritten, ReadingError, WritingError, FailsWithinOr, RunError, most_messages, HasRun, by_format}
-use Rattle.capnp.proofs.FormatLemmas.{found_next}
+use Rattle.capnp.proofs.FormatReaderLemmas.{found_next}
 use Rattle.capnp.proofs.SourceEncodingLemmas.{AreRead, are_read}
 use Rattle.capnp.proofs.PlainSinkLemmas.{IsWritable-within}
 

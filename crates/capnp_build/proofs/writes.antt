@@ -1,4 +1,4 @@
 -- Writes into the object at the root.
-pub mod RootFieldLemmas
+pub mod RootDataWordLemmas
 pub mod RootBodyLemmas
 pub mod RootObjectWriteLemmas

@@ -3,7 +3,7 @@ pub mod OrphanPointerLemmas
 pub mod OrphanLemmas
 pub mod OrphanStructListLemmas
 pub mod TextBlockLemmas
-pub mod ObjectBlockLemmas
+pub mod WrittenOrphanLemmas
 pub mod AddedObjectLemmas
 pub mod OnePointerCopyLemmas
 pub mod PointersCopyLemmas

@@ -15,7 +15,7 @@ use Rattle.capnp_wire.specs.Prelude.{PointsToTree, starts_with_null, Struct, Poi
 use Rattle.capnp_layout.proofs.pointers.InvalidPointerLemmas.{not_null}
 use Rattle.capnp_layout.proofs.layouts.LayoutReadBackLemmas.{if_positive}
 use Rattle.capnp_wire.proofs.views.UniqueValueLemmas.{one_of_pointer}
-use Rattle.capnp_wire.proofs.views.PartWordLemmas.{null_reported}
+use Rattle.capnp_wire.proofs.views.MeasuredPartLemmas.{null_reported}
 use Rattle.capnp_layout.proofs.words.PutBytesLemmas.{words_split}
 use Rattle.capnp_orphans.specs.Orphans.{link, IsOrphan}
 use Rattle.capnp_orphans.specs.Segments.{Segment, body_of, Appends, IsPastMost}

@@ -9,7 +9,7 @@ use Rattle.capnp_wire.specs.Prelude.{HasWords, IsTextTree}
 use Rattle.capnp_orphans.specs.Orphans.{IsOrphan}
 use Rattle.capnp_orphans.specs.Holds.{HoldsValue}
 use Rattle.capnp_orphans.proofs.OrphanLemmas.{value_is_orphan}
-use Rattle.capnp_orphans.proofs.ObjectBlockLemmas.{last_part}
+use Rattle.capnp_orphans.proofs.WrittenOrphanLemmas.{last_part}
 
 -- the last part of a block is made zero, and bytes are put in front
 pub end_zero : (bytes block filled : List ℕ) (m k : ℕ) → m ≤ length block → m ≤ length bytes → filled ≡ replicate k 0 → k ≡ length block - m

@@ -11,7 +11,7 @@ use Rattle.capnp_frame.proofs.sources.SourceCallLemmas.{never_fails}
 use Rattle.capnp.specs.declared.streams.Format.{Format}
 use Rattle.capnp.specs.declared.streams.message_stream.MessageStream.{MessageStream}
 use Rattle.capnp.specs.Prelude.{source_of, messages_left, HasSettings, IsNewStream, read_in, GivesMessage, rules_of, FoundNext}
-use Rattle.capnp.proofs.FormatLemmas.{found_next}
+use Rattle.capnp.proofs.FormatReaderLemmas.{found_next}
 use Rattle.capnp.proofs.SourceEncodingLemmas.{nothing_begins}
 use Rattle.capnp.proofs.RunLemmas.{format_lawful, format_requested, format_parts}
 use Rattle.capnp_uses.specs.Streaming.{BeginWith, NextMessageError, ReadsTwo}

@@ -6,7 +6,7 @@ pub mod SetTextLemmas
 pub mod ContactLemmas
 pub mod KnownDeviceLemmas
 pub mod TooLargeValueLemmas
-pub mod PackedStructLemmas
+pub mod PackedReadBackLemmas
 pub mod PackAndUnpackLemmas
 pub mod SliceReaderLemmas
 pub mod AvailableRegionLemmas

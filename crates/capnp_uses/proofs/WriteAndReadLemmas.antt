@@ -20,7 +20,7 @@ use Rattle.capnp_message.specs.Seen.{ReadMessage}
 use Rattle.capnp.specs.declared.streams.Format.{Format}
 use Rattle.capnp.specs.Prelude.{ExternalError, by_format, ReadsMessage, OrFailsAtEnd, rules_of, FoundNext, IsEncodingOf, output_of}
 use Rattle.capnp.proofs.MessageSequenceLemmas.{encoding_found}
-use Rattle.capnp.proofs.FormatLemmas.{or_fails_failed}
+use Rattle.capnp.proofs.FormatReaderLemmas.{or_fails_failed}
 use Rattle.capnp.proofs.SourceEncodingLemmas.{or_fails_accepted, or_fails_reads}
 use Rattle.capnp.proofs.RunLemmas.{format_lawful, format_requested, format_parts}
 use Rattle.capnp_uses.specs.Roots.{HasRootOf, ReadsWritten, ReadAgainError, StaysUnset, StaysUnread}

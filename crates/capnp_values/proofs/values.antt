@@ -1,5 +1,5 @@
 -- Values as parts of others: their trees, and the words that are measured of these.
-pub mod ValuePartLemmas
+pub mod MeasuredPartLemmas
 pub mod MeasureResultLemmas
 pub mod NullValueLemmas
 pub mod UntrimmedValueLemmas

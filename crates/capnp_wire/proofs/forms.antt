@@ -1,7 +1,7 @@
 -- Canonical forms.
 pub mod DistinctLayoutLemmas
 pub mod PreorderLemmas
-pub mod TestExactnessLemmas
+pub mod CanonicalTestLemmas
 pub mod TrimmedObjectLemmas
 pub mod TrimmedStructListLemmas
 pub mod TruncatedLemmas

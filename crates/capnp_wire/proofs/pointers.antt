@@ -3,5 +3,4 @@ pub mod LocalObjectLemmas
 pub mod OwnSegmentLemmas
 pub mod NullPointerLemmas
 pub mod NullRunLemmas
-pub mod EmptyStructLemmas
 pub mod NextFreeWordLemmas

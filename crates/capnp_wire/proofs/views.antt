@@ -9,7 +9,7 @@ pub mod UpgradedPointerLemmas
 pub mod MeasuredValueLemmas
 pub mod TargetValueLemmas
 pub mod UniqueValueLemmas
-pub mod PartWordLemmas
+pub mod MeasuredPartLemmas
 pub mod ListValueLemmas
 pub mod NumberListValueLemmas
 pub mod UpgradedValueLemmas

@@ -3,9 +3,10 @@ pub mod WalkErrorLemmas
 pub mod WalkProgressLemmas
 pub mod MeasuringWalkLemmas
 pub mod PointerRunWalkLemmas
+pub mod EmptyStructWalkLemmas
 pub mod TestedLayoutLemmas
 pub mod TestStepLemmas
 pub mod TestProgressLemmas
-pub mod MetObjectLemmas
+pub mod VisitedObjectLemmas
 pub mod EarlyEndLemmas
 pub mod OneEndLemmas

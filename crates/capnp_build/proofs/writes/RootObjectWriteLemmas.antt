@@ -3,7 +3,7 @@ use Rattle.std.proofs.Common.{refl, ◌≡◌, inl, inr, sym, subst, MatchOption
 use Rattle.std.specs.Prelude.{⊤}
 use Rattle.std.specs.Int.{to_le_bytes}
 use Rattle.capnp_layout.specs.Prelude.{null, numbers, none, struct}
-use Rattle.capnp_build.proofs.writes.RootFieldLemmas.{field_laid, same_fields}
+use Rattle.capnp_build.proofs.writes.RootDataWordLemmas.{field_laid, same_fields}
 use Rattle.capnp_build.proofs.states.SegmentOrderLemmas.{pairs_set}
 use Rattle.capnp_build.proofs.states.StayingBytesLemmas.{kept_outside}
 use Rattle.capnp_build.proofs.layouts.TreeLayoutLemmas.{laid_as, laid_root}

@@ -9,7 +9,7 @@ use Rattle.capnp_wire.proofs.layouts.TreesCopyLemmas.{fill_step, none_output}
 use Rattle.capnp_wire.proofs.layouts.FreeBlockLemmas.{free_after, free_copied}
 use Rattle.capnp_wire.proofs.layouts.CopyPlanLemmas.{room_output}
 use Rattle.capnp_values.specs.Lists.{AreItems, HasRoomForItems, AreItemsWritten}
-use Rattle.capnp_values.proofs.values.ValuePartLemmas.{part_total, more_total}
+use Rattle.capnp_values.proofs.values.MeasuredPartLemmas.{part_total, more_total}
 use Rattle.capnp_values.proofs.lists.ItemMeasureLemmas.{from_here, no_item_left}
 
 -- The first i values are written: what is left to be put into the block so that all are written, and the

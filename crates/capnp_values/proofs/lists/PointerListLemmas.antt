@@ -8,7 +8,7 @@ use Rattle.capnp_layout.specs.Prelude.{pointers, Trees, none, tree, count, total
 use Rattle.capnp_wire.specs.Prelude.{IsCopied, HasRoomAt}
 use Rattle.capnp_layout.proofs.trees.TrimmedTreeLemmas.{count-trim}
 use Rattle.capnp_wire.proofs.layouts.CopyPlanLemmas.{room_output}
-use Rattle.capnp_wire.proofs.views.PartWordLemmas.{same_tree_words}
+use Rattle.capnp_wire.proofs.views.MeasuredPartLemmas.{same_tree_words}
 use Rattle.capnp_values.specs.Measured.{tree_words, MeasuresValue}
 use Rattle.capnp_values.specs.Lists.{AreItems, HasRoomForItems, IsPointerListTree, PointerListError}
 use Rattle.capnp_wire.specs.declared.traits.TreeWords.{TreeWords}

@@ -8,7 +8,7 @@ use Rattle.capnp_frame.specs.declared.error.ErrorKind.{ErrorKind}
 use Rattle.capnp_layout.specs.Prelude.{Trees, none, total_words, before, output}
 use Rattle.capnp_layout.proofs.trees.TreePartLemmas.{total-before}
 use Rattle.capnp_wire.specs.declared.traits.TreeWords.{TreeWords}
-use Rattle.capnp_wire.proofs.views.PartWordLemmas.{same_tree_words}
+use Rattle.capnp_wire.proofs.views.MeasuredPartLemmas.{same_tree_words}
 use Rattle.capnp_values.specs.Measured.{tree_words, both_words, MeasuresValue}
 use Rattle.capnp_values.specs.Fields.{IsSettled}
 use Rattle.capnp_values.specs.StructLists.{AreElements, ElementsError, AreEven, MeasuresElements}

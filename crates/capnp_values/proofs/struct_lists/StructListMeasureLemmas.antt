@@ -9,7 +9,7 @@ use Rattle.capnp_frame.specs.declared.error.ErrorKind.TheVariants.{AllocationToo
 use Rattle.capnp_layout.specs.Prelude.{structs, Trees, none, tree, count, total_words, output, AllHaveRoom}
 use Rattle.capnp_layout.proofs.words.ZeroCutLemmas.{least_data_within}
 use Rattle.capnp_layout.proofs.layouts.LayoutSizeLemmas.{elements_even}
-use Rattle.capnp_wire.proofs.views.PartWordLemmas.{same_tree_words}
+use Rattle.capnp_wire.proofs.views.MeasuredPartLemmas.{same_tree_words}
 use Rattle.capnp_values.specs.Measured.{tree_words, MeasuresValue}
 use Rattle.capnp_values.specs.Fields.{IsSettled}
 use Rattle.capnp_wire.specs.declared.traits.TreeWords.{TreeWords}

@@ -8,7 +8,7 @@ use Rattle.capnp_wire.proofs.layouts.TreesCopyLemmas.{fill_step}
 use Rattle.capnp_wire.proofs.layouts.FreeBlockLemmas.{free_after, free_copied}
 use Rattle.capnp_wire.proofs.layouts.CopyPlanLemmas.{room_output}
 use Rattle.capnp_values.specs.Fields.{IsPart, IsValueInFront, CanWriteFields, AreFieldsWritten}
-use Rattle.capnp_values.proofs.values.ValuePartLemmas.{part_total}
+use Rattle.capnp_values.proofs.values.MeasuredPartLemmas.{part_total}
 
 -- fields that are written: the first value, and the fields after it
 pub record FieldsSplit (h hs : Trees → Type 0) (c : Bool) (n next room : ℕ) : Type 0 where

@@ -3,7 +3,7 @@ use Rattle.std.proofs.Common.{◌≡◌, ℕ, zero, suc, ◌+◌, ◌<◌, ◌�
 use Rattle.capnp_layout.specs.Tree.{is_null}
 use Rattle.capnp_layout.specs.Prelude.{Form, null, struct, numbers, pointers, structs, Trees, none, tree, count, keep_tree, cut_nulls, trim, trim_form, trim_children}
 use Rattle.capnp_values.specs.Fields.{kept_fields, is_left_out}
-use Rattle.capnp_values.proofs.values.ValuePartLemmas.{count_of_none}
+use Rattle.capnp_values.proofs.values.MeasuredPartLemmas.{count_of_none}
 
 kept_null : (form : Form) (children others : Trees) → count (cut_nulls (trim others)) ≡ 0 → is_null form ≡ true → cut_nulls (trim (tree form children others)) ≡ none
 kept_null null children others e n = ap (λ (t : Trees). keep_tree t null (trim children)) (count_of_none (cut_nulls (trim others)) e)

@@ -12,7 +12,7 @@ use Rattle.capnp_layout.proofs.trees.TrimmedFrontLemmas.{first_cut, cut_front}
 use Rattle.capnp_layout.proofs.trees.NarrowedPointerLemmas.{first_all}
 use Rattle.capnp_layout.proofs.trees.TrimmedTreeLemmas.{count-trim, room_trim}
 use Rattle.capnp_layout.proofs.trees.TreeSizeLemmas.{total_cut}
-use Rattle.capnp_wire.proofs.views.PartWordLemmas.{same_tree_words}
+use Rattle.capnp_wire.proofs.views.MeasuredPartLemmas.{same_tree_words}
 use Rattle.capnp_layout.proofs.trees.TreePartLemmas.{count-cut}
 use Rattle.capnp_wire.proofs.layouts.CopyPlanLemmas.{room_output}
 use Rattle.capnp_values.specs.Measured.{tree_words, MeasuresValue}

@@ -6,7 +6,7 @@ use Rattle.capnp_frame.specs.declared.error.ErrorKind.{ErrorKind}
 use Rattle.capnp_layout.specs.Prelude.{Trees}
 use Rattle.capnp_wire.specs.Prelude.{WordsError, HasPart}
 use Rattle.capnp_wire.specs.declared.traits.TreeWords.{TreeWords}
-use Rattle.capnp_wire.proofs.views.PartWordLemmas.{part_words}
+use Rattle.capnp_wire.proofs.views.MeasuredPartLemmas.{part_words}
 use Rattle.capnp_values.specs.Fields.{FieldsError}
 
 pub ok_not_err : {X : Type 0} (r : Result X Error) (x : X) (P : Error → Type 0) → r ≡ Ok x → IsErrAnd r P → ⊥

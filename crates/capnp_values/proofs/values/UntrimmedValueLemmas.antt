@@ -6,10 +6,10 @@ use Rattle.capnp_frame.specs.declared.error.ErrorKind.{ErrorKind}
 use Rattle.capnp_layout.specs.Prelude.{Trees, none, tree, count, total_words}
 use Rattle.capnp_wire.specs.Prelude.{HasWords, HasPart}
 use Rattle.capnp_wire.specs.declared.traits.TreeWords.{TreeWords}
-use Rattle.capnp_wire.proofs.views.PartWordLemmas.{untrimmed_words, same_tree_words}
+use Rattle.capnp_wire.proofs.views.MeasuredPartLemmas.{untrimmed_words, same_tree_words}
 use Rattle.capnp_values.specs.Measured.{MeasuresValue}
 use Rattle.capnp_values.specs.Fields.{IsValueInFront, IsSettled, HasTotal}
-use Rattle.capnp_values.proofs.values.ValuePartLemmas.{words_of_part, has_part, part_of}
+use Rattle.capnp_values.proofs.values.MeasuredPartLemmas.{words_of_part, has_part, part_of}
 
 -- the words of a part, and what is measured of it
 abbrev pub as_part : ℕ → TreeWords

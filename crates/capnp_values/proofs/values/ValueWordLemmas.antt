@@ -6,7 +6,7 @@ use Rattle.capnp_frame.specs.declared.error.ErrorKind.{ErrorKind}
 use Rattle.capnp_layout.specs.Prelude.{Trees, total_words, output, AllHaveRoom, too_large}
 use Rattle.capnp_wire.specs.Prelude.{HasWords, WordsError, HasPart}
 use Rattle.capnp_wire.specs.declared.traits.TreeWords.{TreeWords}
-use Rattle.capnp_wire.proofs.views.PartWordLemmas.{same_tree_words}
+use Rattle.capnp_wire.proofs.views.MeasuredPartLemmas.{same_tree_words}
 use Rattle.capnp_values.specs.Measured.{tree_words, MeasuresValue}
 use Rattle.capnp_values.proofs.values.MeasureResultLemmas.{ok_not_err, same_words}
 

@@ -15,7 +15,7 @@ use Rattle.capnp_layout.proofs.objects.OneObjectLemmas.{one_tree}
 use Rattle.capnp_wire.proofs.walks.WalkErrorLemmas.{walk_error_has_no_trees}
 use Rattle.capnp_wire.proofs.layouts.TestedObjectLemmas.{pointer_word_is_there}
 use Rattle.capnp_wire.proofs.walks.EarlyEndLemmas.{ends_error, ends_not}
-use Rattle.capnp_wire.proofs.forms.TestExactnessLemmas.{tests_are_exact}
+use Rattle.capnp_wire.proofs.forms.CanonicalTestLemmas.{tests_are_exact}
 
 -- the one tree at the root
 root_tree : (m : List (List ℕ)) (trees : Trees) (traversed : ℕ) → At m (root ∷ []) trees traversed → (form : Form) × (children : Trees) × (trees ≡ tree form children none)

@@ -3,7 +3,7 @@ use Rattle.std.proofs.Common.{rules, refl, inl, inr, length}
 use Rattle.capnp.specs.Prelude.{default_limit}
 use Rattle.capnp.proofs.PassedOn.{IfKnown-join, Advances-join, Fails-join, Grows-join}
 use Rattle.capnp.proofs.RunEndLemmas.{writes_each}
-use Rattle.capnp.proofs.FormatLemmas.{skipping_error}
+use Rattle.capnp.proofs.FormatReaderLemmas.{skipping_error}
 use Rattle.capnp.proofs.RunLemmas.{HasWritten-next, written_next, all_written, most_written, failed_reading, failed_at_message, left_as_written, message_run_error}
 use Rattle.capnp_ls.specs.declared.command.Command.TheVariants.{Listing}
 use Rattle.capnp_ls.specs.Output.{Prints, PrintedErrors}

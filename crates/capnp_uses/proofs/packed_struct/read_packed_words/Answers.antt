@@ -12,7 +12,7 @@ use Rattle.capnp.proofs.SourceEncodingLemmas.{or_fails_accepted}
 use Rattle.capnp_uses.proofs.AppendedLemmas.{memory_only}
 use Rattle.capnp_uses.proofs.SliceReaderLemmas.{default_depth, root_is_default}
 use Rattle.capnp_uses.proofs.BuiltRootViewLemmas.{read_at_root, root_meets_limit, struct_is_taken}
-use Rattle.capnp_uses.proofs.PackedStructLemmas.{packed_root, begins_packed, packed_fails, no_struct_error, shows_packed}
+use Rattle.capnp_uses.proofs.PackedReadBackLemmas.{packed_root, begins_packed, packed_fails, no_struct_error, shows_packed}
 use Rattle.capnp_uses.proofs.packed_struct.read_packed_words.Goals as goal
 
 pub returns-in_err-message-clause-found : goal.returns-in_err-message-clause-found

@@ -6,7 +6,7 @@ use Rattle.capnp_layout.proofs.words.WordByteLemmas.{length-words_of}
 use Rattle.capnp_layout.proofs.objects.ListWordLemmas.{all_words_below}
 use Rattle.capnp_frame.proofs.sources.SourceCallLemmas.{passed_on}
 use Rattle.capnp_layout.proofs.pointers.LandingPadLemmas.{passed_kind}
-use Rattle.capnp_wire.proofs.walks.MetObjectLemmas.{no_word_ends}
+use Rattle.capnp_wire.proofs.walks.VisitedObjectLemmas.{no_word_ends}
 use Rattle.capnp_wire.proofs.walks.OneEndLemmas.{error_passes, one_way_to_end, one_error_ends}
 use Rattle.capnp_wire.proofs.forms.TestedMessageLemmas.{ended_is_not, whole_or_not, root_some}
 use Rattle.capnp_wire.proofs.layout.canonical.is_canonical.Goals as goal
