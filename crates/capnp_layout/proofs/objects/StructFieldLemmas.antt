@@ -1,6 +1,7 @@
 -- The fields of a struct that is read, and the sizes of messages.
 use Rattle.std.proofs.Common.{◌≡◌, ℕ, zero, suc, ◌+◌, ◌/◌, ◌<◌, ◌≤◌, List, [], ◌∷◌, length, take, drop, Some, None, slice_index_or, refl, sym, ◌∙◌, ap, arith, length-take, length-drop, slice_get}
-use Rattle.std.proofs.lemmas.List.{get_or-take, get_or-drop}
+use Rattle.std.proofs.lemmas.List.{get_or-take, get_or-drop, get_or_past}
+use Rattle.std.proofs.lemmas.Option.{get_or_from_slice_get}
 use Rattle.std.proofs.lemmas.List.Sums.{sum_by-cons}
 use Rattle.capnp_frame.specs.Prelude.{size_in_words, lengths}
 use Rattle.capnp_layout.specs.Prelude.{words_of, words_from, places}
@@ -26,25 +27,13 @@ no_place_past segment start zero i past = refl
 no_place_past segment start (suc n) zero past = absurd (omega arith)
 no_place_past segment start (suc n) (suc i) past = no_place_past segment (start + 1) n i (omega arith)
 
-slice_get_reads : (words : List ℕ) (i word : ℕ) → slice_get words i ≡ Some word → word ≡ slice_index_or words i 0
-slice_get_reads [] i word e = cc
-slice_get_reads (x ∷ words) zero word e = cc
-slice_get_reads (x ∷ words) (suc i) word e = slice_get_reads words i word e
-
-slice_get_none : (words : List ℕ) (i : ℕ) → slice_get words i ≡ None → 0 ≡ slice_index_or words i 0
-slice_get_none [] i e = refl
-slice_get_none (x ∷ words) zero e = cc
-slice_get_none (x ∷ words) (suc i) e = slice_get_none words i e
-
-pub word_within : (words : List ℕ) (start n i word : ℕ) → i < n → Some word ≡ slice_get words (start + i) → word ≡ slice_index_or (words_from words start n) i 0
+pub word_within : (words : List ℕ) (start n i word : ℕ) → i < n → slice_get words (start + i) ≡ Some word → word ≡ slice_index_or (words_from words start n) i 0
 word_within words start n i word within e =
-    let there = slice_get_reads words (start + i) word (sym e) in
+    let there = sym (get_or_from_slice_get words (start + i) word 0 e) in
     rw (get_or-take, get_or-drop) there
 
-pub no_word_within : (words : List ℕ) (start n i : ℕ) → i < n → None ≡ slice_get words (start + i) → 0 ≡ slice_index_or (words_from words start n) i 0
-no_word_within words start n i within e =
-    let past = slice_get_none words (start + i) (sym e) in
-    rw (get_or-take, get_or-drop) past
+pub no_word_past : (words : List ℕ) (start n i : ℕ) → n ≤ i → 0 ≡ slice_index_or (words_from words start n) i 0
+no_word_past words start n i past = sym (get_or_past (take n (drop start words)) i 0 (omega (arith, length-take n (drop start words))))
 
 -- sizes of messages, one more segment
 pub size_more : (segments : List (List ℕ)) (i : ℕ) (bytes : List ℕ) → slice_get segments i ≡ Some bytes
