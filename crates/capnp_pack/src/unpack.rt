@@ -7,7 +7,7 @@ ghost use Rattle.capnp_pack.specs.Steps.{GroupFollowing, Unpacked};
 
 use crate::copies::{clear_front, copy_run, move_front};
 use crate::lanes::unpack_short_word;
-use crate::single_word::{REACH, unpack_single_words};
+use crate::single_word::{REACH, unpack_single_word, unpack_single_words};
 use crate::sizes::group_bytes;
 
 // How many packed bytes are taken, and how many bytes of words they fill.
@@ -19,12 +19,19 @@ pub(crate) struct Progress {
 
 // Fills the front of a buffer with the groups at the front of what is shown.
 // Speed: where a source shows few bytes at a time, these are seldom a whole group, so that is
-// tested before all else (workload `trickle`).
+// tested before all else (workload `trickle`). A buffer of one word, as for the first word of each
+// segment table, takes no loop, whose end would be mispredicted (`capnp_ls unpack` of small
+// records).
 #[inline(always)]
 pub(crate) fn unpack_shown(shown: &[u8], buffer: &mut [u8]) -> Progress
     ensures { Unpacked shown.now buffer.new result.used result.filled }
 {
     if shown.len() >= REACH {
+        if buffer.len() == 8
+            && let Some(used) = unpack_single_word(shown, buffer)
+        {
+            return Progress { used, filled: 8 };
+        }
         return unpack_groups(shown, buffer);
     }
     if shows_a_group(shown) {
@@ -57,6 +64,9 @@ fn unpack_groups(shown: &[u8], buffer: &mut [u8]) -> Progress
             break;
         }
         let Some(group) = unpack_run(&shown[used..], &mut buffer[filled..]) else {
+            if single.filled > 0 {
+                continue;
+            }
             let last = unpack_short_groups(&shown[used..], &mut buffer[filled..]);
             return Progress {
                 used: used + last.used,
