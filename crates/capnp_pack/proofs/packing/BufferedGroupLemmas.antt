@@ -1,12 +1,80 @@
--- Groups that need nothing but the buffer, one after another.
-use Rattle.std.proofs.Common.{◌≡◌, ℕ, zero, suc, ◌<◌, refl, ◌+◌, ◌-◌, ◌≤◌, Option, Some, None, List, [], ◌∷◌, ◌++◌, length, take, drop, sym, ap, ◌∙◌, subst, arith, append_assoc}
-use Rattle.std.proofs.lemmas.List.{append-nil, drop_all, take_all, length-drop}
-use Rattle.capnp_frame.proofs.sources.RequestSequenceLemmas.{IfKnown-join}
+-- Groups that are in the buffer whole, one after another.
+use Rattle.std.proofs.Common.{◌≡◌, ℕ, zero, suc, ◌<◌, refl, ◌+◌, ◌-◌, ◌≤◌, Option, Some, None, List, [], ◌∷◌, ◌++◌, length, take, drop, sym, ap, ◌∙◌, subst, arith, append_assoc, Result, Ok, Err, IfOk, replicate}
+use Rattle.std.specs.List.{concat, AllByRecursion}
+use Rattle.std.proofs.lemmas.List.{append-nil, drop_all, take_all, length-drop, length-take-le}
 use Rattle.capnp_frame.specs.Prelude.{Appending, IfKnown}
+use Rattle.capnp_frame.specs.declared.error.Error.{Error}
+use Rattle.capnp_frame.proofs.sources.RequestSequenceLemmas.{IfKnown-join, IfKnown-weaker}
 use lib.Count.{ones, ones-le}
-use Rattle.capnp_pack.specs.Prelude.{Group, IsWord, group_encoding, IfFirst, PacksWords, PacksTo, HandsTo, Hands, IsGroupOf, IsZero, tag_of, nonzero}
-use Rattle.capnp_pack.proofs.packing.WholeChunkLemmas.{other_words, words_after, packed_more, PacksTo-more, ends_zeros, ends_tagged, filled_by, run_of_none}
+use Rattle.capnp_pack.specs.Prelude.{Group, IsWord, group_encoding, IfFirst, PacksWords, PacksTo, HandsTo, Hands, IsGroupOf, IsZero, tag_of, nonzero, tagged, zeros, literal, zero_bytes, zero_word, HasFewZeros, IsRun, EndsGroup}
+use Rattle.capnp_pack.proofs.words.TagLemmas.{tag_zero, tag_full, top_word, marked_tag, zeros_cons, zeros_suc, nonzero_suc}
+use Rattle.capnp_pack.proofs.packing.OneGroupLemmas.{IsGroupOf-zeros, IsGroupOf-literal, IsGroupOf-tagged}
+use Rattle.capnp_pack.proofs.packing.WholeChunkLemmas.{other_words, words_after, packed_more, PacksTo-more, run_of_none}
 use Rattle.capnp_pack.proofs.packing.HandedOnLemmas.{Hands-join, Hands-none}
+
+nonzero_all : (w : List ℕ) → zero_bytes w ≡ 0 → nonzero w ≡ w
+nonzero_all [] e = refl
+nonzero_all (zero ∷ w) e = absurd (omega (arith, zeros_cons 0 w))
+nonzero_all (suc b ∷ w) e = nonzero_suc b w ∙ ap (λ l. suc b ∷ l) (nonzero_all w (sym (zeros_suc b w) ∙ e))
+
+-- bytes that the buffer takes, after those that it had or handed on
+pub buffered_after : (appends : Appending) (old kept roomy encoding new : List ℕ) (a b : Option (List ℕ)) → new ≡ roomy ++ encoding → IfKnown a b (Hands appends old kept roomy)
+    → IfKnown a b (Hands appends old (kept ++ encoding) new)
+buffered_after appends old kept roomy encoding new a b e handed = IfKnown-weaker a b (λ x y p. Hands-join appends old kept roomy encoding new x y y p (Hands-none appends roomy encoding new y e)) handed
+
+-- a group that the buffer takes
+buffered : (appends : Appending) (old roomy new encoding : List ℕ) (a b : Option (List ℕ)) → new ≡ roomy ++ encoding → IfKnown a b (Hands appends old [] roomy) → IfKnown a b (Hands appends old encoding new)
+buffered appends old roomy new encoding a b e roomed = buffered_after appends old [] roomy encoding new a b e roomed
+
+-- a run of zero words
+pub ends_zeros : (word : List ℕ) (os : List (List ℕ)) (count tag : ℕ) (filled new : List ℕ) → IsWord word → tag ≡ tag_of word → tag ≡ 0
+    → IsRun IsZero os count → new ≡ filled ++ count ∷ [] → EndsGroup word os count filled new
+ends_zeros word os count tag filled new is tagged_by none run push =
+    let zero_tag : tag_of word ≡ 0 = sym tagged_by ∙ none in
+    let first : word ≡ zero_word = tag_zero word zero_tag ∙ ap (λ k. replicate k 0) is in
+    let encoding : tag_of word ∷ nonzero word ≡ 0 ∷ [] = ap (λ k. k ∷ nonzero word) zero_tag ∙ ap (λ l. 0 ∷ nonzero l) first in (
+      zeros count,
+      IsGroupOf-zeros word os count is zero_tag run,
+      λ front fill. push ∙ ap (λ l. l ++ count ∷ []) (fill ∙ ap (λ l. front ++ l) encoding) ∙ append_assoc front (0 ∷ []) (count ∷ []),
+    )
+
+-- a word whose tag marks some of its bytes
+pub ends_tagged : (word : List ℕ) (os : List (List ℕ)) (tag : ℕ) (filled : List ℕ) → IsWord word → tag ≡ tag_of word → 0 < tag → tag < 255
+    → EndsGroup word os 0 filled filled
+ends_tagged word os tag filled is tagged_by some low = (
+  tagged (tag_of word) word,
+  IsGroupOf-tagged word os is (omega arith) (omega arith),
+  λ front fill. fill ∙ ap (λ l. front ++ tag_of word ∷ l) (sym (marked_tag word)),
+)
+
+-- the tag and the bytes, as they were put into the buffer
+pub filled_by : (word : List ℕ) (tag : ℕ) (roomy filled : List ℕ) → tag ≡ tag_of word → filled ≡ roomy ++ tag ∷ nonzero word → filled ≡ roomy ++ tag_of word ∷ nonzero word
+filled_by word tag roomy filled tagged_by fill = fill ∙ ap (λ k. roomy ++ k ∷ nonzero word) tagged_by
+
+-- the tag of a word that is stored as it is, and the word
+pub literal_front : (word : List ℕ) (tag : ℕ) (roomy filled : List ℕ) → IsWord word → tag ≡ tag_of word → tag ≡ 255
+    → filled ≡ roomy ++ tag ∷ nonzero word → filled ≡ roomy ++ 255 ∷ word
+literal_front word tag roomy filled is tagged_by full fill =
+    let full_tag : tag_of word ≡ 255 = sym tagged_by ∙ full in
+    let none : zero_bytes word ≡ 0 = tag_full word (omega (arith, top_word word is)) in
+    fill ∙ ap (λ l. roomy ++ l) (ap (λ k. k ∷ nonzero word) full ∙ ap (λ l. 255 ∷ l) (nonzero_all word none))
+
+pub made_literal : {X : Type 0} (words : X → ℕ) (new : X → List ℕ) (appends : Appending) (word : List ℕ) (os : List (List ℕ))
+    (old roomy filled : List ℕ) (a b c : Option (List ℕ))
+    (r : Result X Error) → IsWord word → AllByRecursion IsWord os → tag_of word ≡ 255 → filled ≡ roomy ++ 255 ∷ word →
+    IfKnown a b (Hands appends old [] roomy) → IfOk r (λ v. IsRun HasFewZeros os (words v)) →
+    IfOk r (λ v. IfKnown b c (Hands appends filled (words v ∷ concat (take (words v) os)) (new v))) →
+    IfOk r (λ v. (g : Group) × IsGroupOf word os (words v) g × IfKnown a c (Hands appends old (group_encoding g) (new v)))
+made_literal words new appends word os old roomy filled a b c (Err e) is all full_tag fill roomed run handed = tt
+made_literal words new appends word os old roomy filled a b c (Ok v) is all full_tag fill roomed run handed =
+    let first = buffered appends old roomy filled (255 ∷ word) a b fill roomed in
+    let long : length (take (words v) os) ≡ (words v) = length-take-le (words v) os run.within in
+    let further : (words v) ∷ concat (take (words v) os) ≡ length (take (words v) os) ∷ concat (take (words v) os) = ap (λ k. k ∷ concat (take (words v) os)) (sym long) in (
+      literal word (take (words v) os),
+      IsGroupOf-literal word os (words v) is all full_tag run,
+      IfKnown-join a b c (λ x y z p q. Hands-join appends old (255 ∷ word) filled (length (take (words v) os) ∷ concat (take (words v) os)) (new v) x y z p
+          (subst (λ l. Hands appends filled l (new v) y z) further q)) first handed,
+    )
 
 -- the group of one word, whose size the table gives
 pub tagged_group : (word : List ℕ) (os : List (List ℕ)) (tag used end size : ℕ) (old new : List ℕ) → IsWord word → tag ≡ tag_of word → tag < 255

@@ -9,7 +9,7 @@ use Rattle.capnp_frame.proofs.sources.RequestSequenceLemmas.{IfKnown-join, IfKno
 use Rattle.capnp_frame.proofs.sinks.SinkCallLemmas.{left_front, left_after}
 use Rattle.capnp_pack.specs.Prelude.{literal, IsWord, group_encoding, Packs, LeavesPacked, HasFewZeros, IsRun, Hands, LeavesParts, LiteralAfter, GroupAfter, tag_of, PacksWords, PacksTo, HandsTo, RestAfter}
 use Rattle.capnp_pack.proofs.words.EachElementLemmas.{AllByRecursion-drop}
-use Rattle.capnp_pack.proofs.words.WholeWordLemmas.{each_word}
+use Rattle.capnp_pack.proofs.words.ChunkWordLemmas.{each_word}
 use Rattle.capnp_pack.proofs.packing.OneGroupLemmas.{IsGroupOf-literal}
 use Rattle.capnp_pack.proofs.packing.OneEncodingLemmas.{PacksWords-more, PacksWords-none, PacksWords-some, Packs-words}
 

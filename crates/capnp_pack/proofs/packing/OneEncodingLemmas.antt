@@ -7,7 +7,7 @@ use Rattle.capnp_frame.specs.Prelude.{same_front}
 use Rattle.capnp_pack.specs.Prelude.{Group, tagged, zeros, literal, IsGroup, IsWord, zero_word, group_encoding, group_words, encoding_of, words_of_groups, Packs, IsLongest, AreLongest, IsGroupOf, PacksWords, Unpacks, words_len, unpack_once, zero_words}
 use Rattle.capnp_pack.proofs.words.EachElementLemmas.{AllByRecursion-append, AllByRecursion-drop}
 use Rattle.capnp_pack.proofs.packing.OneGroupLemmas.{IsGroupOf-some, IsGroupOf-once, first_is}
-use Rattle.capnp_pack.proofs.words.WholeWordLemmas.{chunks_whole}
+use Rattle.capnp_pack.proofs.words.ChunkWordLemmas.{chunks_whole}
 
 pub PacksWords-more : (w : List ℕ) (os : List (List ℕ)) (n : ℕ) (g : Group) (encoding : List ℕ) → IsGroupOf w os n g → PacksWords (drop n os) encoding → PacksWords (w ∷ os) (group_encoding g ++ encoding)
 PacksWords-more w os n g encoding made p = record {

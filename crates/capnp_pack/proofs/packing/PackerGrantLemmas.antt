@@ -5,7 +5,7 @@ use Rattle.std.proofs.lemmas.List.{length-take-le}
 use Rattle.std.proofs.lemmas.List.Concat.{concat_is}
 use Rattle.capnp_pack.specs.Prelude.{Group, literal, IsWord, group_encoding, HasFewZeros, IsRun, IsGroupOf, tag_of, PacksWords, PacksTo, GrantsTo}
 use Rattle.capnp_pack.proofs.words.EachElementLemmas.{AllByRecursion-drop}
-use Rattle.capnp_pack.proofs.words.WholeWordLemmas.{each_word}
+use Rattle.capnp_pack.proofs.words.ChunkWordLemmas.{each_word}
 use Rattle.capnp_pack.proofs.words.RunLengthLemmas.{IsRun-once, IsRun-some, few_or_not}
 use Rattle.capnp_pack.proofs.packing.OneGroupLemmas.{IsGroupOf-some, IsGroupOf-once, IsGroupOf-literal}
 use Rattle.capnp_pack.proofs.packing.OneEncodingLemmas.{PacksWords-each, PacksWords-more, PacksWords-none, PacksWords-some, PacksWords-once}

@@ -1,81 +1,12 @@
--- The groups that are handed on, and the whole chunk.
-use Rattle.std.proofs.Common.{◌≡◌, ℕ, zero, suc, ◌+◌, ◌<◌, Option, Result, Ok, Err, IfOk, List, [], ◌∷◌, ◌++◌, length, take, drop, refl, sym, ap, ◌∙◌, subst, arith, append_assoc, replicate, get_or, add-one, drop-cons, length-drop, ◌-◌}
-use Rattle.std.specs.List.{concat, AllByRecursion}
-use Rattle.std.proofs.lemmas.List.{take_all, append-nil, length-take-le, drop-drop}
+-- The whole chunk, after the groups that are handed on.
+use Rattle.std.proofs.Common.{◌≡◌, ℕ, ◌+◌, ◌<◌, Option, List, [], ◌∷◌, ◌++◌, length, take, drop, sym, ap, ◌∙◌, subst, arith, append_assoc, get_or, add-one, drop-cons, length-drop, ◌-◌}
+use Rattle.std.specs.List.{concat}
+use Rattle.std.proofs.lemmas.List.{take_all, append-nil, drop-drop}
 use Rattle.capnp_frame.specs.Prelude.{IfKnown, Appending, Adds}
 use Rattle.capnp_frame.proofs.sources.RequestSequenceLemmas.{IfKnown-join, IfKnown-weaker}
-use Rattle.capnp_frame.specs.declared.error.Error.{Error}
-use Rattle.capnp_pack.specs.Prelude.{Group, tagged, zeros, literal, IsWord, group_encoding, zero_bytes, zero_word, IfFirst, Packs, AppendsPacked, IsZero, HasFewZeros, tag_of, nonzero, IsRun, IsGroupOf, EndsGroup, Hands, PacksWords, PacksTo, HandsTo}
-use Rattle.capnp_pack.proofs.words.TagLemmas.{tag_zero, tag_full, top_word, marked_tag, zeros_cons, zeros_suc, nonzero_suc}
-use Rattle.capnp_pack.proofs.packing.OneGroupLemmas.{IsGroupOf-zeros, IsGroupOf-literal, IsGroupOf-tagged}
+use Rattle.capnp_pack.specs.Prelude.{Group, group_encoding, IfFirst, Packs, AppendsPacked, IsZero, IsRun, IsGroupOf, Hands, PacksWords, PacksTo, HandsTo}
 use Rattle.capnp_pack.proofs.packing.OneEncodingLemmas.{PacksWords-more, PacksWords-none, Packs-words}
 use Rattle.capnp_pack.proofs.packing.HandedOnLemmas.{Hands-join, Hands-none}
-
-nonzero_all : (w : List ℕ) → zero_bytes w ≡ 0 → nonzero w ≡ w
-nonzero_all [] e = refl
-nonzero_all (zero ∷ w) e = absurd (omega (arith, zeros_cons 0 w))
-nonzero_all (suc b ∷ w) e = nonzero_suc b w ∙ ap (λ l. suc b ∷ l) (nonzero_all w (sym (zeros_suc b w) ∙ e))
-
--- bytes that the buffer takes, after those that it had or handed on
-pub buffered_after : (appends : Appending) (old kept roomy encoding new : List ℕ) (a b : Option (List ℕ)) → new ≡ roomy ++ encoding → IfKnown a b (Hands appends old kept roomy)
-    → IfKnown a b (Hands appends old (kept ++ encoding) new)
-buffered_after appends old kept roomy encoding new a b e handed = IfKnown-weaker a b (λ x y p. Hands-join appends old kept roomy encoding new x y y p (Hands-none appends roomy encoding new y e)) handed
-
--- a group that the buffer takes
-buffered : (appends : Appending) (old roomy new encoding : List ℕ) (a b : Option (List ℕ)) → new ≡ roomy ++ encoding → IfKnown a b (Hands appends old [] roomy) → IfKnown a b (Hands appends old encoding new)
-buffered appends old roomy new encoding a b e roomed = buffered_after appends old [] roomy encoding new a b e roomed
-
--- a run of zero words
-pub ends_zeros : (word : List ℕ) (os : List (List ℕ)) (count tag : ℕ) (filled new : List ℕ) → IsWord word → tag ≡ tag_of word → tag ≡ 0
-    → IsRun IsZero os count → new ≡ filled ++ count ∷ [] → EndsGroup word os count filled new
-ends_zeros word os count tag filled new is tagged_by none run push =
-    let zero_tag : tag_of word ≡ 0 = sym tagged_by ∙ none in
-    let first : word ≡ zero_word = tag_zero word zero_tag ∙ ap (λ k. replicate k 0) is in
-    let encoding : tag_of word ∷ nonzero word ≡ 0 ∷ [] = ap (λ k. k ∷ nonzero word) zero_tag ∙ ap (λ l. 0 ∷ nonzero l) first in (
-      zeros count,
-      IsGroupOf-zeros word os count is zero_tag run,
-      λ front fill. push ∙ ap (λ l. l ++ count ∷ []) (fill ∙ ap (λ l. front ++ l) encoding) ∙ append_assoc front (0 ∷ []) (count ∷ []),
-    )
-
--- a word whose tag marks some of its bytes
-pub ends_tagged : (word : List ℕ) (os : List (List ℕ)) (tag : ℕ) (filled : List ℕ) → IsWord word → tag ≡ tag_of word → 0 < tag → tag < 255
-    → EndsGroup word os 0 filled filled
-ends_tagged word os tag filled is tagged_by some low = (
-  tagged (tag_of word) word,
-  IsGroupOf-tagged word os is (omega arith) (omega arith),
-  λ front fill. fill ∙ ap (λ l. front ++ tag_of word ∷ l) (sym (marked_tag word)),
-)
-
--- the tag and the bytes, as they were put into the buffer
-pub filled_by : (word : List ℕ) (tag : ℕ) (roomy filled : List ℕ) → tag ≡ tag_of word → filled ≡ roomy ++ tag ∷ nonzero word → filled ≡ roomy ++ tag_of word ∷ nonzero word
-filled_by word tag roomy filled tagged_by fill = fill ∙ ap (λ k. roomy ++ k ∷ nonzero word) tagged_by
-
--- the tag of a word that is stored as it is, and the word
-pub literal_front : (word : List ℕ) (tag : ℕ) (roomy filled : List ℕ) → IsWord word → tag ≡ tag_of word → tag ≡ 255
-    → filled ≡ roomy ++ tag ∷ nonzero word → filled ≡ roomy ++ 255 ∷ word
-literal_front word tag roomy filled is tagged_by full fill =
-    let full_tag : tag_of word ≡ 255 = sym tagged_by ∙ full in
-    let none : zero_bytes word ≡ 0 = tag_full word (omega (arith, top_word word is)) in
-    fill ∙ ap (λ l. roomy ++ l) (ap (λ k. k ∷ nonzero word) full ∙ ap (λ l. 255 ∷ l) (nonzero_all word none))
-
-pub made_literal : {X : Type 0} (words : X → ℕ) (new : X → List ℕ) (appends : Appending) (word : List ℕ) (os : List (List ℕ))
-    (old roomy filled : List ℕ) (a b c : Option (List ℕ))
-    (r : Result X Error) → IsWord word → AllByRecursion IsWord os → tag_of word ≡ 255 → filled ≡ roomy ++ 255 ∷ word →
-    IfKnown a b (Hands appends old [] roomy) → IfOk r (λ v. IsRun HasFewZeros os (words v)) →
-    IfOk r (λ v. IfKnown b c (Hands appends filled (words v ∷ concat (take (words v) os)) (new v))) →
-    IfOk r (λ v. (g : Group) × IsGroupOf word os (words v) g × IfKnown a c (Hands appends old (group_encoding g) (new v)))
-made_literal words new appends word os old roomy filled a b c (Err e) is all full_tag fill roomed run handed = tt
-made_literal words new appends word os old roomy filled a b c (Ok v) is all full_tag fill roomed run handed =
-    let first = buffered appends old roomy filled (255 ∷ word) a b fill roomed in
-    let long : length (take (words v) os) ≡ (words v) = length-take-le (words v) os run.within in
-    let further : (words v) ∷ concat (take (words v) os) ≡ length (take (words v) os) ∷ concat (take (words v) os) = ap (λ k. k ∷ concat (take (words v) os)) (sym long) in (
-      literal word (take (words v) os),
-      IsGroupOf-literal word os (words v) is all full_tag run,
-      IfKnown-join a b c (λ x y z p q. Hands-join appends old (255 ∷ word) filled (length (take (words v) os) ∷ concat (take (words v) os)) (new v) x y z p
-          (subst (λ l. Hands appends filled l (new v) y z) further q)) first handed,
-    )
-
--- the whole chunk
 
 pub PacksTo-more : (words : List (List ℕ)) (encoding : List ℕ) (done next n : ℕ) (w : List ℕ) (os : List (List ℕ)) (g : Group) →
     drop done words ≡ w ∷ os → drop n os ≡ drop next words → IsGroupOf w os n g → PacksTo words encoding (drop done words) → PacksTo words (encoding ++ group_encoding g) (drop next words)

@@ -8,7 +8,7 @@ use lib.Seq.{take-add, take-append-le}
 use Rattle.capnp_frame.specs.Prelude.{IfKnown}
 use Rattle.capnp_frame.proofs.sources.RequestSequenceLemmas.{IfKnown-join, IfKnown-weaker}
 use Rattle.capnp_pack.specs.Prelude.{tagged, literal, IsWord, marked, GroupAt, MarkedAt, RunAt}
-use Rattle.capnp_pack.proofs.words.WholeWordLemmas.{chunks_whole, chunks_len}
+use Rattle.capnp_pack.proofs.words.ChunkWordLemmas.{chunks_whole, chunks_len}
 use Rattle.capnp_pack.proofs.words.TaggedWordLemmas.{full_word}
 
 pub tagged_found : (tag : ℕ) (word bytes : List ℕ) (old new : Option (List ℕ)) → 0 < tag → tag < 255 → IsWord word → bytes ≡ word →

@@ -4,7 +4,7 @@ use Rattle.std.proofs.lemmas.List.{nil_from_length}
 use Rattle.capnp_frame.proofs.sources.RequestSequenceLemmas.{Grows-join}
 use Rattle.capnp_pack.proofs.packing.BufferedGroupLemmas.{handed_on, taken_on, words_from_done}
 use Rattle.capnp_pack.proofs.packing.CallSequenceLemmas.{hands_last, hands_failed}
-use Rattle.capnp_pack.proofs.words.WholeWordLemmas.{whole_words}
+use Rattle.capnp_pack.proofs.words.ChunkWordLemmas.{whole_words}
 use Rattle.capnp_pack.proofs.packing.PackerGrantLemmas.{granted_kept, granted_last, granted_on}
 use Rattle.capnp_pack.proofs.packing.FailedPackLemmas.{left_last, left_rest}
 use Rattle.capnp_pack.proofs.packing.OneEncodingLemmas.{Packs-of-words}

@@ -1,11 +1,11 @@
 -- The word and its tag are in the buffer, in front of the words after it.
 use Rattle.std.proofs.Common.{rules, length, take, ◌≡◌, Ok, refl, sym}
 use Rattle.capnp_pack.proofs.packing.CallSequenceLemmas.{hands_passed}
-use Rattle.capnp_pack.proofs.words.WholeWordLemmas.{each_word}
+use Rattle.capnp_pack.proofs.words.ChunkWordLemmas.{each_word}
 use Rattle.capnp_pack.proofs.packing.PackerGrantLemmas.{literal_granted}
 use Rattle.capnp_pack.proofs.packing.HandedOnLemmas.{Hands-same}
 use Rattle.capnp_pack.proofs.packing.FailedPackLemmas.{left_literal}
-use Rattle.capnp_pack.proofs.packing.WholeChunkLemmas.{made_literal, literal_front}
+use Rattle.capnp_pack.proofs.packing.BufferedGroupLemmas.{made_literal, literal_front}
 use Rattle.capnp_pack.proofs.packed_write.pack_literal.Goals as goal
 
 pub returns-clause-hands : goal.returns-clause-hands

@@ -1,8 +1,8 @@
 -- One more group comes before the words that are left.
 use Rattle.std.proofs.Common.{rules, arith, ◌≡◌, ◌<◌, ◌≤◌, ◌+◌, ◌-◌, ap, length, length-drop, get_or, [], take, drop}
 use lib.Count.{ones, ones-le}
-use Rattle.capnp_pack.proofs.packing.BufferedGroupLemmas.{buffered_more, tagged_group}
-use Rattle.capnp_pack.proofs.packing.WholeChunkLemmas.{ends_zeros, filled_by, next_words, other_words}
+use Rattle.capnp_pack.proofs.packing.BufferedGroupLemmas.{buffered_more, tagged_group, ends_zeros, filled_by}
+use Rattle.capnp_pack.proofs.packing.WholeChunkLemmas.{next_words, other_words}
 use Rattle.capnp_pack.proofs.words.TagLemmas.{mark_left, no_tag}
 use Rattle.capnp_pack.proofs.packed_write.pack_stretch.Goals as goal
 

@@ -1,7 +1,7 @@
 -- Each bit is a lane's.
 use Rattle.std.proofs.Common.{rules, ◌≡◌}
 use Rattle.std.specs.List.{flat_map}
-use Rattle.capnp_pack.proofs.words.WholeWordLemmas.{each_word}
+use Rattle.capnp_pack.proofs.words.ChunkWordLemmas.{each_word}
 use Rattle.capnp_pack.proofs.words.EightWordLemmas.{marks_eight}
 use Rattle.capnp_pack.proofs.runs.marks_of_eight.Goals as goal
 

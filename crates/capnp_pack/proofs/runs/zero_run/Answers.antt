@@ -5,7 +5,7 @@ use lib.Count.{count_trailing_zeros}
 use Rattle.std.specs.List.{concat}
 use Rattle.capnp_pack.specs.Prelude.{IsWord, IfFirst, IsZero, tag_of}
 use Rattle.capnp_pack.proofs.words.EachElementLemmas.{AllByRecursion-take, AllByRecursion-drop}
-use Rattle.capnp_pack.proofs.words.WholeWordLemmas.{each_word}
+use Rattle.capnp_pack.proofs.words.ChunkWordLemmas.{each_word}
 use Rattle.capnp_pack.proofs.words.EightWordLemmas.{all_one, all_zero, all_more, first_of_part, zeros_reported}
 use Rattle.capnp_pack.proofs.runs.zero_run.Goals as goal
 
