@@ -1,4 +1,5 @@
--- From the requests of a source to the encodings in its stream.
+-- Where the requests of a source find a message, its encoding begins what is unread. So what a reader returns is
+-- said in encodings.
 use Rattle.std.proofs.Common.{◌≡◌, ◌↔◌, inl, inr, refl, ℕ, List, [], ◌++◌, Option, Some, None, IfSome, true, false, Result, Ok, Err, IfOk, lit<}
 use Rattle.std.specs.Prelude.{IsSome, MatchResult}
 use Rattle.capnp_frame.specs.declared.error.Error.{Error}
@@ -6,13 +7,13 @@ use Rattle.capnp_frame.specs.declared.serialize.segment_table.Padding.{Padding}
 use Rattle.capnp_frame.specs.declared.io.Read.{Ghosts}
 use Rattle.capnp_frame.specs.declared.message.options.ReaderOptions.{ReaderOptions}
 use Rattle.capnp_frame.specs.Prelude.{IsWithin, IsFrame, Giving, Refusing, IsSource, IfKnown, MessageFound, StreamRules, next_in, ReadsStream, ReadsStreamInto, Grammar, BeginsWith, SeenBuffer}
-use Rattle.capnp_frame.proofs.errors.ErrorTableLemmas.{given_some}
-use Rattle.capnp_frame.proofs.sources.RequestSequenceLemmas.{IfKnown-weaker}
-use Rattle.capnp_frame.proofs.encodings.MessageRequestLemmas.{MessageFound-map}
-use Rattle.capnp_frame.proofs.encodings.FrameRequestLemmas.{plain_requests}
-use Rattle.capnp_frame.proofs.encodings.UniqueEncodingLemmas.{AreRequested}
+use Rattle.capnp_frame.proofs.errors.UniqueErrorLineLemmas.{given_some}
+use Rattle.capnp_frame.proofs.sources.JoinedRequestPartsLemmas.{IfKnown-weaker}
+use Rattle.capnp_frame.proofs.encodings.MessageFoundByRequestsLemmas.{MessageFound-map}
+use Rattle.capnp_frame.proofs.encodings.PlainRequestsTakeFrameLemmas.{plain_requests}
+use Rattle.capnp_frame.proofs.encodings.UniqueDivisionIntoEncodingsLemmas.{AreRequested}
 use Rattle.capnp_pack.specs.Prelude.{unpacking}
-use Rattle.capnp_pack.proofs.encodings.PackedFrameLemmas.{packed_requests}
+use Rattle.capnp_pack.proofs.encodings.FoundMessageIsPackedFrameLemmas.{packed_requests}
 use Rattle.capnp.specs.Prelude.{IsPlainSource, ExternalError, MessageRules, framed, packed, reader_of, ReadsMessage, ReadsMessageInto, OrFailsAtEnd}
 
 -- the requests of a plain source take just the frames

@@ -1,5 +1,6 @@
 -- What the calls on the root keep, from what their steps keep.
-pub mod FirstActionLemmas
-pub mod RootOutcomeLemmas
-pub mod CanonicalRootLemmas
+pub mod FirstBlockSegmentChoiceLemmas
+pub mod SetRootLemmas
+pub mod CanonicalRootErrorLemmas
 pub mod InitRootLemmas
+pub mod BlockPrefersFirstSegmentLemmas

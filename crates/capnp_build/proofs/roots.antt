@@ -1,6 +1,6 @@
 -- What is at the root, and what a type makes of it.
-pub mod RootTypeLemmas
-pub mod NullRootLemmas
-pub mod ZeroRootLemmas
-pub mod RootReadBackLemmas
-pub mod RootBytesLemmas
+pub mod NoSegmentRootLemmas
+pub mod NullRootTreeLemmas
+pub mod RootZeroingLemmas
+pub mod RootObjectFromBodyBytesLemmas
+pub mod RootBlockIsTreeBytesLemmas

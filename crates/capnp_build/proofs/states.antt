@@ -1,5 +1,5 @@
 -- Segments in order, and what stays where one of them is written.
-pub mod SegmentOrderLemmas
-pub mod ChangedSegmentLemmas
+pub mod OutSegmentListChangesLemmas
+pub mod SegmentSizesAfterChangeLemmas
 pub mod StayingBytesLemmas
 pub mod WholeWordSegmentLemmas

@@ -1,5 +1,5 @@
 -- Used bytes and words of a segment, and those that are written.
-pub mod UsedByteLemmas
-pub mod SegmentWordLemmas
-pub mod SegmentByteLemmas
-pub mod BlockValueLemmas
+pub mod UsedBytesThenZerosLemmas
+pub mod PartAndWriteAsWordsLemmas
+pub mod SegmentWriteKeepsEarlierWordsLemmas
+pub mod WrittenPartIsValueBlockLemmas

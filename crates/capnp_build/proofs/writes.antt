@@ -1,4 +1,4 @@
 -- Writes into the object at the root.
 pub mod RootDataWordLemmas
-pub mod RootBodyLemmas
+pub mod RewrittenRootBodyTreeLemmas
 pub mod RootObjectWriteLemmas

@@ -1,6 +1,7 @@
 -- The lemmas.
-pub mod OneFrontMessageLemmas
-pub mod WholeBufferLemmas
-pub mod PackedBufferLemmas
-pub mod PackedChunkLemmas
-pub mod UnpackedMessageLemmas
+pub mod UniqueFrontMessageLemmas
+pub mod UniqueCanonicalFormOutcomeLemmas
+pub mod PackMessageIntoBufferLemmas
+pub mod PackWordsIntoBufferLemmas
+pub mod PackChunkCallSequenceLemmas
+pub mod UnpackMessageIntoBufferLemmas

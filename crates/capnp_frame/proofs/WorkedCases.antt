@@ -3,7 +3,7 @@ use Rattle.std.proofs.Common.{Some, None, inl, inr, ◌≡◌, ℕ, List, [], �
 use Rattle.std.specs.List.{concat}
 use Rattle.capnp_frame.specs.Prelude.{lengths, zero_padded_table, IsFrame, frame_bytes, Splits, RunsShort, StreamError}
 use Rattle.capnp_frame.specs.declared.serialize.segment_table.Padding.TheVariants.{Any, Zero}
-use Rattle.capnp_frame.proofs.errors.ErrorTableLemmas.{in_range}
+use Rattle.capnp_frame.proofs.errors.UniqueErrorLineLemmas.{in_range}
 use Rattle.capnp_frame.specs.declared.error.ErrorKind.TheVariants.{FailedToFillTheWholeBuffer, InvalidNumberOfSegments, MessageTooLarge}
 
 abbrev eight : List ℕ

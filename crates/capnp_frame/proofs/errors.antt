@@ -1,3 +1,3 @@
 -- The error table, and which line of it each part of a reader meets.
-pub mod ErrorTableLemmas
-pub mod MetErrorLemmas
+pub mod UniqueErrorLineLemmas
+pub mod ReaderErrorLineLemmas

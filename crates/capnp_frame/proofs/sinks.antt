@@ -1,5 +1,6 @@
 -- Sinks, and what is written to them.
-pub mod WritableSegmentLemmas
-pub mod TableChunkLemmas
-pub mod SinkGrantLemmas
-pub mod SinkCallLemmas
+pub mod WritableSegmentBySegmentLemmas
+pub mod JoinedChunkListLemmas
+pub mod TableFilledFieldByFieldLemmas
+pub mod GrantedChunkLemmas
+pub mod ChunkWritesUntilFailureLemmas

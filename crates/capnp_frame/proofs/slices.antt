@@ -1,7 +1,7 @@
 -- Readers of slices and buffers.
 pub mod FlatErrorLemmas
-pub mod FrontFrameLemmas
-pub mod FlatReaderLemmas
-pub mod ProvidedBufferLemmas
-pub mod FramedIntoBufferLemmas
-pub mod SliceAgreementLemmas
+pub mod SliceOutcomeAfterTableReadLemmas
+pub mod UniqueTableInfoOfMessageLemmas
+pub mod FlatReaderOutcomeLemmas
+pub mod ZeroingPaddingKeepsMessageLemmas
+pub mod SliceReadersRejectSameBytesLemmas

@@ -1,7 +1,8 @@
 -- Sources, and what readers of streams return, step by step.
-pub mod RequestSequenceLemmas
-pub mod SourceCallLemmas
-pub mod ReaderStepLemmas
-pub mod KeptMemoryLemmas
-pub mod AllocatingReaderLemmas
-pub mod SkippedByteLemmas
+pub mod JoinedRequestPartsLemmas
+pub mod JoinedCallsAdvanceSourceLemmas
+pub mod JoinedReaderStepOutcomesLemmas
+pub mod KeptMemorySufficesLemmas
+pub mod AllocatingReaderOutcomeLemmas
+pub mod SkippingReaderOutcomeLemmas
+pub mod ProvidedBufferReaderOutcomeLemmas

@@ -1,8 +1,8 @@
 -- Segment tables: their fields, what they cut, and the padding after them.
-pub mod RunningSumLemmas
-pub mod TableFieldLemmas
-pub mod TablePaddingLemmas
-pub mod WordLimitLemmas
-pub mod DeclaredTables
-pub mod TableFirstWordLemmas
+pub mod PartsCutAtRunningSumsLemmas
+pub mod UniqueTableLengthsLemmas
+pub mod AcceptedTablePaddingLemmas
+pub mod ErrorAfterTableLemmas
+pub mod TableDeclaredByFieldsLemmas
+pub mod TableFromTwoRequestsLemmas
 pub mod SegmentRangeLemmas

@@ -4,4 +4,3 @@ pub mod pointers
 pub mod objects
 pub mod trees
 pub mod layouts
-pub mod forms

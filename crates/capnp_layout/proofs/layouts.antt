@@ -1,7 +1,5 @@
 -- Layouts: trees that are copied into a block, and read back.
 pub mod LayoutSizeLemmas
-pub mod FormReadBackLemmas
+pub mod ObjectReadBackLemmas
 pub mod LayoutReadBackLemmas
-pub mod BlockLemmas
-pub mod ObjectCopyLemmas
-pub mod CopiedTargetLemmas
+pub mod PutWordsCombinedLemmas

@@ -1,14 +1,14 @@
 -- Objects, and what is in them.
-pub mod OneObjectLemmas
-pub mod CycleLemmas
-pub mod ListWordLemmas
-pub mod StructFieldLemmas
-pub mod StructElementLemmas
-pub mod NumberElementLemmas
-pub mod CopiedDataLemmas
-pub mod ListPaddingLemmas
-pub mod ObjectWordLemmas
-pub mod LastWordLemmas
-pub mod ReadLocalLemmas
-pub mod ReadStructLemmas
-pub mod NumberStructLemmas
+pub mod UniqueObjectLemmas
+pub mod CycleExcludesTreeLemmas
+pub mod ByteListElementLemmas
+pub mod SectionWordByIndexLemmas
+pub mod StructElementPlaceLemmas
+pub mod NumberElementsInListWordsLemmas
+pub mod CopiedDataWithinSegmentLemmas
+pub mod CopiedListLastWordMaskedLemmas
+pub mod ReadObjectSizeFromShapeLemmas
+pub mod ListPaddingTestLemmas
+pub mod SingleSegmentObjectPlaceLemmas
+pub mod ReadStructSizesAndWordsBoundedLemmas
+pub mod NumberAsOneWordStructLemmas

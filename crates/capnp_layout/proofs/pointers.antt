@@ -1,12 +1,14 @@
 -- Pointers, what they point to, and when they are invalid.
-pub mod InvalidPointerLemmas
-pub mod OnePointerErrorLemmas
-pub mod ReadObjectLemmas
-pub mod LandingPadLemmas
-pub mod LocalObjectLemmas
-pub mod NullRunLemmas
-pub mod EmptyStructLemmas
-pub mod PointersInOrderLemmas
-pub mod PointerFieldLemmas
-pub mod SlotRunLemmas
-pub mod NextFreeWordLemmas
+pub mod ErrorExcludesObjectLemmas
+pub mod UniquePointerErrorLemmas
+pub mod ObjectFitOrErrorLemmas
+pub mod LandingPadTargetsAndErrorsLemmas
+pub mod LocalObjectIsAtLemmas
+pub mod NullRunReadAndCopiedLemmas
+pub mod EmptyStructAtItsPointerLemmas
+pub mod KeptPointerPlacesBySectionLemmas
+pub mod PointerWordFieldLemmas
+pub mod LayoutSlotPointersAndPlacesLemmas
+pub mod PointerWordFromPartsLemmas
+pub mod LocalPointerTargetLemmas
+pub mod ErrorExcludesTreeLemmas

@@ -1,10 +1,11 @@
 -- Trees of objects, trimmed and narrowed.
-pub mod TreeCountLemmas
-pub mod TreePartLemmas
-pub mod NarrowedPointerLemmas
-pub mod TrimmedTreeLemmas
-pub mod FieldRoomLemmas
-pub mod TrimmedFrontLemmas
-pub mod TrimmedPlaceLemmas
-pub mod TreeSizeLemmas
+pub mod TraversalLimitCountLemmas
+pub mod TreePartsSizeAndPropertiesLemmas
+pub mod PointerNarrowingIdempotenceLemmas
+pub mod TrimIdempotenceAndSizeLemmas
+pub mod ReadTreeSizesAndWordsBoundedLemmas
+pub mod TrimCommutesWithPartsLemmas
+pub mod KeptTreesPlacedNoDeeperLemmas
+pub mod TrimmedSectionSizeFromWordsLemmas
+pub mod TreeSizeUntrimmedAndTrimmedLemmas
 pub mod TreeReadBackLemmas

@@ -1,11 +1,13 @@
 -- Words, bytes and numbers.
-pub mod WordByteLemmas
-pub mod MessageWordLemmas
-pub mod DigitLemmas
-pub mod BitLemmas
-pub mod SubsliceLemmas
-pub mod ZeroCutLemmas
-pub mod PutBytesLemmas
-pub mod TrailingZeroLemmas
-pub mod ByteListLemmas
-pub mod WholeFrontLemmas
+pub mod WordsOfBytesLemmas
+pub mod WordAtPlaceLemmas
+pub mod DigitsToNumberAndBackLemmas
+pub mod DigitByIndexLemmas
+pub mod WordRunPartsInSegmentLemmas
+pub mod TrailingZeroRemovalIdempotenceLemmas
+pub mod PutBytesAsWordsLemmas
+pub mod LengthWithoutTrailingZerosLemmas
+pub mod WordsOfPaddedByteListLemmas
+pub mod WholeSliceCopyLemmas
+pub mod SubsliceLengthAndFirstWordLemmas
+pub mod TrimmedSectionBoundLemmas

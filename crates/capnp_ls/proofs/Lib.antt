@@ -1,4 +1,4 @@
-pub mod CommandLemmas
-pub mod DecimalDigitLemmas
-pub mod LineLemmas
-pub mod MessageLineLemmas
+pub mod NonOptionsExcludeCommandLemmas
+pub mod DecimalDigitsFromLastLemmas
+pub mod LineListsSegmentLengthsLemmas
+pub mod MessageLineWrittenOrErrorLemmas

@@ -1,5 +1,5 @@
 -- The lemmas, by subject.
-pub mod RootWordLemmas
-pub mod OneCanonicalFormLemmas
-pub mod FormOfFormLemmas
-pub mod RegionLemmas
+pub mod MissingRootWordErrorLemmas
+pub mod CanonicalFormOrErrorLemmas
+pub mod IdempotentCanonicalFormLemmas
+pub mod ReturnedRegionLemmas

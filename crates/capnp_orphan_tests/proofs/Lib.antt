@@ -1,2 +1,2 @@
 -- The lemmas.
-pub mod BinaryTreeLemmas
+pub mod CanonicalFormDeterminedByRootTreeLemmas

@@ -1,10 +1,10 @@
 -- The lemmas, by subject.
-pub mod OrphanPointerLemmas
-pub mod OrphanLemmas
-pub mod OrphanStructListLemmas
-pub mod TextBlockLemmas
-pub mod WrittenOrphanLemmas
-pub mod AddedObjectLemmas
-pub mod OnePointerCopyLemmas
-pub mod PointersCopyLemmas
-pub mod ResizedDataLemmas
+pub mod OrphanPointerReadLemmas
+pub mod ObjectIsOrphanLemmas
+pub mod StructDraftsWrittenAsOrphanLemmas
+pub mod WrittenTextIsOrphanLemmas
+pub mod WrittenBlockIsOrphanLemmas
+pub mod ObjectAppendLemmas
+pub mod PointerCopyWordsAndErrorLemmas
+pub mod PointersCopiedUntilErrorLemmas
+pub mod ResizedDataFieldLemmas

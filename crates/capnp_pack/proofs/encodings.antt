@@ -1,5 +1,5 @@
 -- Packed encodings of messages and streams.
-pub mod PackedFrameLemmas
-pub mod PackedSinkLemmas
-pub mod PackedRequestLemmas
-pub mod PackedStreamLemmas
+pub mod FoundMessageIsPackedFrameLemmas
+pub mod PlainSinkEncodingLemmas
+pub mod FoundPackedEncodingLemmas
+pub mod PackedReaderLemmas

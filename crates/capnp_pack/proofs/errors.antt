@@ -1,5 +1,5 @@
 -- Groups that are cut, and chunks that end inside of a group.
 pub mod GroupErrorLemmas
-pub mod ChunkErrorLemmas
-pub mod RunErrorLemmas
-pub mod OverrunLemmas
+pub mod ChunkRequestErrorLemmas
+pub mod LiteralRunErrorLemmas
+pub mod ConsumedAtCountOverrunLemmas

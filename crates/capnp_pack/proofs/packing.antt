@@ -1,10 +1,10 @@
 -- The encoding that a packer makes, and what it hands on to a sink.
-pub mod FailedPackLemmas
-pub mod PackerGrantLemmas
-pub mod OneGroupLemmas
-pub mod OneEncodingLemmas
+pub mod LeftAfterFailureLemmas
+pub mod GrantCoversGroupAndRestLemmas
+pub mod UniqueGroupByTagLemmas
+pub mod WordsPackUniquelyAndUnpackLemmas
 pub mod SizeBoundLemmas
-pub mod HandedOnLemmas
-pub mod WholeChunkLemmas
+pub mod HandedAndBufferedBytesJoinLemmas
+pub mod ChunkPackedGroupByGroupLemmas
 pub mod BufferedGroupLemmas
-pub mod CallSequenceLemmas
+pub mod PackerOutcomeFromSinkCallLemmas

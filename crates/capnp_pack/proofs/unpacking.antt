@@ -1,9 +1,11 @@
 -- Groups that are taken from the front of the bytes, and what is unpacked or skipped.
-pub mod FrontGroupLemmas
-pub mod WordGroupLemmas
-pub mod ShownByteLemmas
-pub mod StoredByteLemmas
-pub mod TakenGroupLemmas
-pub mod PassedGroupLemmas
-pub mod SkippedChunkLemmas
-pub mod ShownSliceLemmas
+pub mod GroupIsRequestPartLemmas
+pub mod MarkedWordAndRunAreGroupLemmas
+pub mod ShownGroupsUnpackToBufferLemmas
+pub mod LiteralRunReadLemmas
+pub mod TakenGroupsUnpackedByteCountLemmas
+pub mod SkippedGroupSizeLemmas
+pub mod SkipOutcomeIsRequestOutcomeLemmas
+pub mod ShownBytesAreFrontOfSliceLemmas
+pub mod UnpackerOutcomeFromSourceCallLemmas
+pub mod SingleWordGroupsExtendUnpackedLemmas

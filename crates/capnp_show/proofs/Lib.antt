@@ -1,6 +1,6 @@
 -- The lemmas.
-pub mod ElementOfWordLemmas
-pub mod ObjectLandingPadLemmas
-pub mod AddedCharacterLemmas
-pub mod InputFrontLemmas
+pub mod ElementContainingPointerWordLemmas
+pub mod FarPointerLandingPadSizeLemmas
+pub mod JoinedAddedStringsLemmas
+pub mod ReadsExtendInputFrontLemmas
 pub mod UnescapedRunLemmas

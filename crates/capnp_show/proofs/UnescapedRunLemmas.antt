@@ -1,4 +1,4 @@
--- What is written as it is, run by run.
+-- Runs of characters that are shown as they are, in JSON and in markup, and the escaped ones between them.
 use Rattle.std.proofs.Common.{arith, ◌≡◌, ℕ, suc, ◌+◌, ◌/◌, ◌<◌, ◌≤◌, List, [], ◌∷◌, ◌++◌, length, get_or, take, drop, refl, sym, ap, subst, ◌∙◌, append-nil, append_assoc, ⊎_elim, length-append}
 use Rattle.std.specs.List.{All}
 use Rattle.std.specs.Prelude.{IsUtf8}

@@ -96,7 +96,7 @@ pub fn device_error_line(alloc: Global, name: &str, error: &io::Error) -> Result
 }
 
 /// The line that says this of an input.
-#[tactic(auto, using(crate::proofs::AddedCharacterLemmas::escaped_and_more))]
+#[tactic(auto, using(crate::proofs::JoinedAddedStringsLemmas::escaped_and_more))]
 pub fn input_line(alloc: Global, name: &str, said: &str) -> Result<String, AllocError>
     ensures { IfOk result (λ line. AddsEscaped (codes "capnp_show: ") name.now
         (codes ": " ++ (said.now ++ codes "\n")) [] (string_bytes line)) }
@@ -107,7 +107,7 @@ pub fn input_line(alloc: Global, name: &str, said: &str) -> Result<String, Alloc
 }
 
 /// The front of a line about an input.
-#[tactic(auto, using(crate::proofs::AddedCharacterLemmas::escaped_between))]
+#[tactic(auto, using(crate::proofs::JoinedAddedStringsLemmas::escaped_between))]
 pub fn named_line(alloc: Global, name: &str) -> Result<String, AllocError>
     ensures { IfOk result (λ line. AddsEscaped (codes "capnp_show: ") name.now (codes ": ")
         [] (string_bytes line)) }

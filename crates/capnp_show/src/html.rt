@@ -34,7 +34,7 @@ pub fn push_end(markup: &mut String) -> Result<(), AllocError>
 }
 
 /// Adds the heading of an input.
-#[tactic(auto, using(crate::proofs::AddedCharacterLemmas::marked_between))]
+#[tactic(auto, using(crate::proofs::JoinedAddedStringsLemmas::marked_between))]
 pub fn push_input(markup: &mut String, name: &str) -> Result<(), AllocError>
     ensures { OnOk result (AddsMarked (codes "<h1>") name.now (codes "</h1>\n")
         (string_bytes markup.old) (string_bytes markup.new)) }

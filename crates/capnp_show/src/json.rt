@@ -16,7 +16,7 @@ use std::alloc::AllocError;
 use std::fmt::Write;
 
 /// Adds the front of an object: the file's name.
-#[tactic(auto, using(crate::proofs::AddedCharacterLemmas::escaped_between))]
+#[tactic(auto, using(crate::proofs::JoinedAddedStringsLemmas::escaped_between))]
 pub fn push_file(line: &mut String, name: &str) -> Result<(), AllocError>
     ensures { OnOk result (AddsEscaped (codes "{\"file\":\"") name.now (codes "\"")
         (string_bytes line.old) (string_bytes line.new)) }

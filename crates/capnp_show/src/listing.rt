@@ -29,7 +29,7 @@ pub struct Listed {
 }
 
 /// Adds what comes in front of a line.
-#[tactic(auto, using(crate::proofs::AddedCharacterLemmas::escaped_between))]
+#[tactic(auto, using(crate::proofs::JoinedAddedStringsLemmas::escaped_between))]
 pub fn push_name(line: &mut String, name: Option<&str>) -> Result<(), AllocError>
     ensures { OnOk result (MatchOption name.entry (string_bytes line.new ≡ string_bytes line.old)
         (λ shown. AddsEscaped [] shown.now (codes ": ") (string_bytes line.old) (string_bytes line.new))) }

@@ -59,7 +59,7 @@ impl Progress {
     }
 
     /// The line for these numbers of MB and of messages that are read.
-    #[tactic(auto, using(crate::proofs::AddedCharacterLemmas::escaped_and_more))]
+    #[tactic(auto, using(crate::proofs::JoinedAddedStringsLemmas::escaped_and_more))]
     pub fn line(
         &self,
         alloc: Global,

@@ -4,11 +4,11 @@ use Rattle.std.proofs.lemmas.List.{append_cancel_right}
 use Rattle.capnp_frame.specs.declared.error.Error.{Error}
 use Rattle.capnp_frame.specs.declared.error.ErrorKind.{ErrorKind}
 use Rattle.capnp_wire.specs.Prelude.{Form, null, struct, numbers, none, Shape, PointsTo, nothing, word_at, at, root, Root, NoWord, PointerError, Pointer, Denotes, nowhere, at_place, Shows, Accepts, Reads, ViewError, MeetsLimit, IsText, TextFormError, StructFormError, Within, unlimited_root}
-use Rattle.capnp_layout.proofs.objects.OneObjectLemmas.{one_object}
-use Rattle.capnp_wire.proofs.views.ViewErrorLemmas.{one_denoted}
-use Rattle.capnp_layout.proofs.pointers.InvalidPointerLemmas.{word_of_object, no_word_there, invalid_pointer_has_no_object}
-use Rattle.capnp_wire.proofs.forms.TrimmedObjectLemmas.{null_is_zero}
-use Rattle.capnp_wire.proofs.pointers.NullPointerLemmas.{null_by_word}
+use Rattle.capnp_layout.proofs.objects.UniqueObjectLemmas.{one_object}
+use Rattle.capnp_wire.proofs.views.RejectedExcludesAcceptedLemmas.{one_denoted}
+use Rattle.capnp_layout.proofs.pointers.ErrorExcludesObjectLemmas.{word_of_object, no_word_there, invalid_pointer_has_no_object}
+use Rattle.capnp_wire.proofs.forms.ObjectTrimmedByLastWordsLemmas.{null_is_zero}
+use Rattle.capnp_wire.proofs.pointers.NullWhereWordIsZeroLemmas.{null_by_word}
 use Rattle.capnp_build.specs.Prelude.{Space, used_of, message}
 use Rattle.capnp_uses.specs.Roots.{HasRootForm}
 

@@ -6,7 +6,7 @@ use Rattle.capnp_frame.specs.declared.error.Error.{Error}
 use Rattle.capnp_frame.specs.declared.error.ErrorKind.{ErrorKind}
 use Rattle.capnp_frame.specs.declared.error.ErrorKind.TheVariants.{DeviceFailed}
 use Rattle.capnp_frame.specs.Prelude.{Fails}
-use Rattle.capnp_frame.proofs.sources.SourceCallLemmas.{never_fails}
+use Rattle.capnp_frame.proofs.sources.JoinedCallsAdvanceSourceLemmas.{never_fails}
 use Rattle.capnp_pack.specs.Prelude.{Packs, Unpacks, ChunkError, unpacking}
 
 -- a buffer that is filled with what was packed

@@ -7,17 +7,17 @@ use Rattle.capnp_frame.specs.declared.error.ErrorKind.{ErrorKind}
 use Rattle.capnp_frame.specs.declared.error.ErrorKind.TheVariants.{DeviceFailed, OutOfMemory}
 use Rattle.capnp_frame.specs.Prelude.{Fails, Adds, KeepsLimit, default_limit, lengths, IsWritable, IsWithinSegmentLimit, TakesMemory}
 use Rattle.capnp_frame.specs.declared.serialize.segment_table.Padding.TheVariants.{Zero}
-use Rattle.capnp_frame.proofs.encodings.FramedSizeLemmas.{HasTable-writable}
-use Rattle.capnp_frame.proofs.encodings.UniqueEncodingLemmas.{encodings_part}
+use Rattle.capnp_frame.proofs.encodings.WrittenFrameSizeAndChunksLemmas.{HasTable-writable}
+use Rattle.capnp_frame.proofs.encodings.UniqueDivisionIntoEncodingsLemmas.{encodings_part}
 use Rattle.capnp_pack.specs.Prelude.{unpacking}
-use Rattle.capnp_pack.proofs.encodings.PackedFrameLemmas.{packed_requests, packed_encoding_is}
+use Rattle.capnp_pack.proofs.encodings.FoundMessageIsPackedFrameLemmas.{packed_requests, packed_encoding_is}
 use Rattle.capnp_wire.specs.Prelude.{default_root, Form, root, NoWord, Pointer, Struct, HasData, IsStruct, Reads, ViewError, StructFormError}
 use Rattle.capnp.specs.declared.streams.Format.TheVariants.{Packed}
 use Rattle.capnp.specs.Prelude.{gives_of, BeginsPacked, NextError, IsPackedEncodingOf}
 use Rattle.capnp_uses.specs.Reading.{ShowsPackedStruct}
 use Rattle.capnp_uses.specs.Roots.{HasPlainRoot, PackedStructError}
-use Rattle.capnp.proofs.SliceStreamLemmas.{slice_reader_error}
-use Rattle.capnp.proofs.PlainSinkLemmas.{IsWithin-written}
+use Rattle.capnp.proofs.SliceStreamReadToItsEndLemmas.{slice_reader_error}
+use Rattle.capnp.proofs.MessageWriteLemmas.{IsWithin-written}
 
 packed_read : (limit : Option ℕ) (read message : List (List ℕ)) (encoding left : List ℕ) → BeginsPacked Zero limit read encoding left → IsWritable message → IsPackedEncodingOf message encoding → read ≡ message
 packed_read limit read message encoding left begins writable packed =

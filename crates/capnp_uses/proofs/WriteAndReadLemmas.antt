@@ -8,23 +8,23 @@ use Rattle.capnp_frame.specs.declared.error.ErrorKind.TheVariants.{DeviceFailed,
 use Rattle.capnp_frame.specs.declared.message.options.ReaderOptions.{ReaderOptions}
 use Rattle.capnp_frame.specs.Prelude.{KeepsLimit, AreWithin, IsTooLarge, word_count, lengths, size_in_words, Adds, IfKnown, ReadsStream, IsWritable, IsWithinSegmentLimit}
 use Rattle.capnp_frame.specs.declared.io.Read.{Ghosts}
-use Rattle.capnp_frame.proofs.slices.SliceAgreementLemmas.{limit_cases}
-use Rattle.capnp_frame.proofs.tables.WordLimitLemmas.{past_limit}
+use Rattle.capnp_frame.proofs.slices.SliceReadersRejectSameBytesLemmas.{limit_cases}
+use Rattle.capnp_frame.proofs.tables.ErrorAfterTableLemmas.{past_limit}
 use Rattle.capnp_layout.specs.Prelude.{Trees, At, at, root}
 use Rattle.capnp_wire.specs.Prelude.{HasWords}
-use Rattle.capnp_wire.proofs.layouts.TestedObjectLemmas.{pointer_word_is_there}
+use Rattle.capnp_wire.proofs.forms.ObjectPassesWhereTrimmedLemmas.{pointer_word_is_there}
 use Rattle.capnp_build.specs.Prelude.{Space, Built, message, IsSet, IsPut}
 use Rattle.capnp_build.specs.declared.allocator.Allocator as allocator
-use Rattle.capnp_build.proofs.roots.NullRootLemmas.{root_is_there}
+use Rattle.capnp_build.proofs.roots.NullRootTreeLemmas.{root_is_there}
 use Rattle.capnp_message.specs.Seen.{ReadMessage}
 use Rattle.capnp.specs.declared.streams.Format.{Format}
 use Rattle.capnp.specs.Prelude.{ExternalError, by_format, ReadsMessage, OrFailsAtEnd, rules_of, FoundNext, IsEncodingOf, output_of}
-use Rattle.capnp.proofs.MessageSequenceLemmas.{encoding_found}
-use Rattle.capnp.proofs.FormatReaderLemmas.{or_fails_failed}
+use Rattle.capnp.proofs.MessageSequenceReadBackLemmas.{encoding_found}
+use Rattle.capnp.proofs.ReaderOutcomeByFormatRulesLemmas.{or_fails_failed}
 use Rattle.capnp.proofs.SourceEncodingLemmas.{or_fails_accepted, or_fails_reads}
-use Rattle.capnp.proofs.RunLemmas.{format_lawful, format_requested, format_parts}
+use Rattle.capnp.proofs.RunOutputMessageByMessageLemmas.{format_lawful, format_requested, format_parts}
 use Rattle.capnp_uses.specs.Roots.{HasRootOf, ReadsWritten, ReadAgainError, StaysUnset, StaysUnread}
-use Rattle.capnp_uses.proofs.AppendedLemmas.{memory_only}
+use Rattle.capnp_uses.proofs.AppendedMessagesReadBackLemmas.{memory_only}
 
 -- where there is a tree at the root, there is a segment
 pub has_segment : (spaces : List Space) (trees : Trees) (traversed : ℕ) → At (message spaces) (root ∷ []) trees traversed → 0 < length spaces

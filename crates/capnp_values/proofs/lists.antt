@@ -1,4 +1,4 @@
 -- Lists of pointers.
 pub mod ItemMeasureLemmas
 pub mod ItemWriteLemmas
-pub mod PointerListLemmas
+pub mod PointerListMeasureLemmas

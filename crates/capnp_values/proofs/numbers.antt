@@ -1,4 +1,4 @@
 -- Numbers: the fields of data sections, and lists.
-pub mod FullWordLemmas
-pub mod NumberListLemmas
-pub mod DataSectionLemmas
+pub mod NumberWordWriteLemmas
+pub mod NumberListAsWordsLemmas
+pub mod DataFieldSetLemmas

@@ -1,7 +1,7 @@
 -- Lists of structs.
-pub mod ElementTreeLemmas
+pub mod ElementTreesOutputWordsLemmas
 pub mod ElementWriteLemmas
 pub mod StructListMeasureLemmas
 pub mod StructListWriteLemmas
 pub mod ElementMeasureLemmas
-pub mod ElementKeptLemmas
+pub mod CanonicalElementSizeLemmas

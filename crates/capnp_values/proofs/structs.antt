@@ -1,5 +1,5 @@
 -- Structs: their data words, and their pointer fields.
-pub mod PointersKeptLemmas
+pub mod KeptPointerCountLemmas
 pub mod FieldWriteLemmas
-pub mod StructTreeLemmas
-pub mod StructSectionLemmas
+pub mod StructMeasureLemmas
+pub mod DataWordWriteLemmas

@@ -1,7 +1,7 @@
 -- Values as parts of others: their trees, and the words that are measured of these.
-pub mod MeasuredPartLemmas
-pub mod MeasureResultLemmas
+pub mod ValueAsPartWordsLemmas
+pub mod MeasureOutcomeIsUniqueLemmas
 pub mod NullValueLemmas
-pub mod UntrimmedValueLemmas
-pub mod ValueWordLemmas
-pub mod LazyValueLemmas
+pub mod EqualWordsIfUntrimmedLemmas
+pub mod MeasureWithinBoundElseErrorLemmas
+pub mod LazyValueAsDeclaredLemmas

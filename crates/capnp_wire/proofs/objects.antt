@@ -1,6 +1,4 @@
 -- Objects, and what is in them.
-pub mod NumberElementLemmas
-pub mod LastWordLemmas
-pub mod ReadLocalLemmas
-pub mod ReadStructLemmas
-pub mod NumberStructLemmas
+pub mod NumberElementReadLemmas
+pub mod NumbersPaddedByLastWordLemmas
+pub mod NumberAsStructLemmas

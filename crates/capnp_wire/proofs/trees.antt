@@ -1,3 +1,2 @@
 -- Trees of objects, trimmed and narrowed.
-pub mod TreeCountLemmas
-pub mod TreeSizeLemmas
+pub mod JoinedTreesSizeLemmas

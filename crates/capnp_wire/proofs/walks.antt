@@ -1,12 +1,12 @@
 -- Walks over the objects that a pointer points to.
-pub mod WalkErrorLemmas
+pub mod WalkErrorExcludesTreesLemmas
 pub mod WalkProgressLemmas
-pub mod MeasuringWalkLemmas
-pub mod PointerRunWalkLemmas
-pub mod EmptyStructWalkLemmas
-pub mod TestedLayoutLemmas
-pub mod TestStepLemmas
-pub mod TestProgressLemmas
-pub mod VisitedObjectLemmas
-pub mod EarlyEndLemmas
-pub mod OneEndLemmas
+pub mod MeasuringWalkCountOrErrorLemmas
+pub mod WalkEntersPointerRunLemmas
+pub mod EmptyStructWalkAndCopyLemmas
+pub mod CanonicalTestProgressLemmas
+pub mod ObjectTestedBeforePointersLemmas
+pub mod StoppedTestExcludesCanonicalTreesLemmas
+pub mod UniqueCanonicalTestOutcomeLemmas
+pub mod WalkEntersLocalObjectLemmas
+pub mod NullPointersWalkAndCopyLemmas

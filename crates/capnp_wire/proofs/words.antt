@@ -1,2 +1,3 @@
 -- Words, bytes and numbers.
-pub mod BitLemmas
+pub mod FieldAndElementAreBitsLemmas
+pub mod WordCountAdditionWithOverflowLemmas

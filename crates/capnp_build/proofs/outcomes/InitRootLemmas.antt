@@ -1,4 +1,5 @@
--- What making the root a new object keeps, from what its steps keep.
+-- What making the root a new object does, from its steps: clearing the root, placing the object's block. A view of
+-- a new object fails as making it does.
 use Rattle.std.proofs.Common.{◌≡◌, ◌∙◌, inl, inr, ℕ, length, Result, Ok, Err, refl, ap, sym, arith}
 use Rattle.capnp_frame.specs.declared.error.Error.{Error}
 use Rattle.capnp_layout.specs.Prelude.{Form, null}
@@ -7,11 +8,11 @@ use Rattle.capnp_build.specs.declared.owned_builder.OwnedBuilder as owned_builde
 use Rattle.capnp_frame.specs.Prelude.{IsPreorder}
 use Rattle.capnp_build.specs.Prelude.{Built, NewWords, InitWords, IsNew, PutsBlock, InitsRoot, ClearsRoot, FirstSegmentError, InitsView}
 use Rattle.std.specs.Borrow.{MutBor}
-use Rattle.capnp_build.proofs.roots.NullRootLemmas.{null_root}
-use Rattle.capnp_build.proofs.layouts.BlockPlaceLemmas.{still_cleared, found_no_room}
-use Rattle.capnp_build.proofs.outcomes.FirstActionLemmas.{first_put}
+use Rattle.capnp_build.proofs.roots.NullRootTreeLemmas.{null_root}
+use Rattle.capnp_build.proofs.outcomes.BlockPrefersFirstSegmentLemmas.{still_cleared, found_no_room}
+use Rattle.capnp_build.proofs.outcomes.FirstBlockSegmentChoiceLemmas.{first_put}
 use Rattle.capnp_build.proofs.states.StayingBytesLemmas.{zero_stays, outside_stays}
-use Rattle.capnp_build.proofs.outcomes.RootOutcomeLemmas.{cleared_root, room_first, finds_no_room, block_is_not_taken, still_granted}
+use Rattle.capnp_build.proofs.outcomes.SetRootLemmas.{cleared_root, room_first, finds_no_room, block_is_not_taken, still_granted}
 
 -- a new object's block is placed once the root is cleared
 pub inits_root : {A S K : Type 0} (alloc : allocator.Ghosts A S) (schema : owned_builder.Ghosts K) (n : ℕ) (form : Form) (old cleared new : Built A)

@@ -6,8 +6,8 @@ use Rattle.std.proofs.lemmas.Bool.{cases_lt}
 use Rattle.std.proofs.lemmas.List.{drop-take, take-append-le, drop-append-le, length-replicate}
 use Rattle.capnp_build.specs.Prelude.{Space, written, with_bytes, space_at, KeepsBytes, KeepsOutside, IsAdded, IsZeroAt}
 use Rattle.capnp_build.specs.declared.arena.location.RootLocation.{RootLocation}
-use Rattle.capnp_build.proofs.words.SegmentByteLemmas.{front_same}
-use Rattle.capnp_build.proofs.words.UsedByteLemmas.{written_zero}
+use Rattle.capnp_build.proofs.words.SegmentWriteKeepsEarlierWordsLemmas.{front_same}
+use Rattle.capnp_build.proofs.words.UsedBytesThenZerosLemmas.{written_zero}
 
 -- one segment is another one
 pub set_part : (spaces : List Space) (i j from n : ℕ) (s : Space) → (i ≡ j → take n (drop from s.used) ≡ take n (drop from (space_at spaces i).used))

@@ -1,12 +1,13 @@
--- Segments that use whole words.
+-- Segments use whole words, and still do after a write and once words are added; so they can be written as a
+-- message.
 use Rattle.std.proofs.lemmas.List.{length-replicate, length-map}
 use Rattle.std.proofs.Common.{◌≡◌, ℕ, zero, suc, ◌+◌, ◌-◌, ◌*◌, ◌^◌, ◌<◌, ◌≤◌, List, [], ◌∷◌, ◌++◌, length, map, replicate, Option, Some, None, slice_set, slice_index_or}
 use Rattle.std.proofs.Common.{ap, sym, subst, ◌∙◌, arith, length-append}
 use Rattle.std.specs.List.{AllByRecursion}
 use Rattle.capnp_frame.specs.Prelude.{IsWholeWords, lengths, FitsField, IsWritable}
 use Rattle.capnp_build.specs.Prelude.{Space, with_block, with_bytes, written, with_more, used_of, spaces_of, space_at, no_space, free_words_of, UsesWords}
-use Rattle.capnp_build.proofs.states.SegmentOrderLemmas.{same_at}
-use Rattle.capnp_build.proofs.words.UsedByteLemmas.{written_length}
+use Rattle.capnp_build.proofs.states.OutSegmentListChangesLemmas.{same_at}
+use Rattle.capnp_build.proofs.words.UsedBytesThenZerosLemmas.{written_length}
 
 -- words more, as many as there is room for
 pub more_words : (space : Space) (block : List ℕ) (words : ℕ) → UsesWords space → length block ≡ 8 * words → words ≤ free_words_of space → UsesWords (with_more space block)

@@ -1,19 +1,20 @@
--- A data word of the struct at the root that is another one.
+-- Eight bytes that are written over a data word of the root's struct replace this word of its tree, and nothing
+-- else. All trees of a root have as many data words.
 use Rattle.std.proofs.Common.{◌≡◌, ℕ, zero, suc, ◌+◌, ◌-◌, ◌*◌, ◌^◌, ◌<◌, ◌≤◌, ◌==◌, if◌then◌else◌, List, [], ◌∷◌, ◌++◌, length, take, drop, Some, slice_set, w64, refl, ap, sym, subst, ◌∙◌}
 use Rattle.std.proofs.Common.{arith, length-append, length-set}
 use Rattle.std.proofs.lemmas.List.{set-append_left, drop-set-add}
 use Rattle.std.proofs.lemmas.List.Elements.{All-set}
 use Rattle.std.proofs.Math.Seq.{take-set-lt}
 use Rattle.std.specs.Int.{to_le_bytes}
-use Rattle.capnp_layout.proofs.objects.OneObjectLemmas.{one_tree}
+use Rattle.capnp_layout.proofs.objects.UniqueObjectLemmas.{one_tree}
 use Rattle.capnp_layout.specs.Prelude.{words_of, words_from, struct, Trees, none, tree, count, object_size, total_words, word_at, At, root, struct_pointer, minus_one, body, pointers_to, slots, run, Laid}
-use Rattle.capnp_layout.proofs.words.WordByteLemmas.{length-words_of}
+use Rattle.capnp_layout.proofs.words.WordsOfBytesLemmas.{length-words_of}
 use Rattle.capnp_build.specs.Prelude.{Space, written, with_bytes, space_at, message, root_word, landing_pad_of, IsLaid}
 use Rattle.capnp_build.specs.declared.arena.location.RootLocation.{RootLocation}
-use Rattle.capnp_build.proofs.words.SegmentWordLemmas.{words_set}
-use Rattle.capnp_build.proofs.states.ChangedSegmentLemmas.{set_used}
-use Rattle.capnp_build.proofs.words.UsedByteLemmas.{written_length}
-use Rattle.capnp_build.proofs.words.SegmentByteLemmas.{root_kept, word_kept}
+use Rattle.capnp_build.proofs.words.PartAndWriteAsWordsLemmas.{words_set}
+use Rattle.capnp_build.proofs.states.SegmentSizesAfterChangeLemmas.{set_used}
+use Rattle.capnp_build.proofs.words.UsedBytesThenZerosLemmas.{written_length}
+use Rattle.capnp_build.proofs.words.SegmentWriteKeepsEarlierWordsLemmas.{root_kept, word_kept}
 
 -- a data word is another one
 set_body : (words : List ℕ) (children : Trees) (i x : ℕ) → i < length words → slice_set (body (tree (struct words) children none)) i x ≡ body (tree (struct (slice_set words i x)) children none)

@@ -1,16 +1,17 @@
--- What a write into the object at the root keeps, and what it sets.
+-- What a write into the object at the root keeps, and what it sets: a data word, a number of a list of words, or
+-- some bytes.
 use Rattle.std.proofs.Common.{refl, ◌≡◌, inl, inr, sym, subst, MatchOption, ℕ, ◌+◌, ◌*◌, ◌^◌, ◌<◌, ◌≤◌, List, length, Option, Some, slice_set, w64, ap, arith, ◌∙◌, slice_index_or, length-set}
 use Rattle.std.specs.Prelude.{⊤}
 use Rattle.std.specs.Int.{to_le_bytes}
 use Rattle.capnp_layout.specs.Prelude.{null, numbers, none, struct}
 use Rattle.capnp_build.proofs.writes.RootDataWordLemmas.{field_laid, same_fields}
-use Rattle.capnp_build.proofs.states.SegmentOrderLemmas.{pairs_set}
+use Rattle.capnp_build.proofs.states.OutSegmentListChangesLemmas.{pairs_set}
 use Rattle.capnp_build.proofs.states.StayingBytesLemmas.{kept_outside}
-use Rattle.capnp_build.proofs.layouts.TreeLayoutLemmas.{laid_as, laid_root}
-use Rattle.capnp_build.proofs.roots.RootReadBackLemmas.{number_laid, same_numbers}
-use Rattle.capnp_build.proofs.writes.RootBodyLemmas.{bytes_laid}
-use Rattle.capnp_build.proofs.states.ChangedSegmentLemmas.{size_set}
-use Rattle.capnp_build.proofs.words.UsedByteLemmas.{written_length}
+use Rattle.capnp_build.proofs.layouts.LaidTreeReadAtRootLemmas.{laid_as, laid_root}
+use Rattle.capnp_build.proofs.roots.RootObjectFromBodyBytesLemmas.{number_laid, same_numbers}
+use Rattle.capnp_build.proofs.writes.RewrittenRootBodyTreeLemmas.{bytes_laid}
+use Rattle.capnp_build.proofs.states.SegmentSizesAfterChangeLemmas.{size_set}
+use Rattle.capnp_build.proofs.words.UsedBytesThenZerosLemmas.{written_length}
 use Rattle.capnp_build.specs.Prelude.{Built, IsLaid, IsBuilt, LiesOutside, size_in_words, IsWritten, HasField, IsFieldSet, HasNumber, IsNumberSet, HasBytes, IsBytesSet, Space, written, with_bytes, BuilderState, space_at, with_space, pairs}
 use Rattle.capnp_build.specs.declared.arena.location.RootLocation.{RootLocation}
 

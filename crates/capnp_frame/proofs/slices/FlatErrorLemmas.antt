@@ -1,4 +1,5 @@
--- The lines of the readers of slices and buffers.
+-- With which kind the readers of slices and buffers fail: at most one line of their table is the first that holds,
+-- and none is where a message is.
 use Rattle.std.proofs.Common.{◌≡◌, ℕ, ◌+◌, ◌-◌, ◌*◌, ◌/◌, ◌%◌, ◌<◌, ◌≤◌, ◌^◌, Option, None, inl, inr, List, ◌++◌, length, take, refl, sym, ap, ◌∙◌, subst, arith, append_assoc, length-append}
 use Rattle.std.specs.Prelude.{sum}
 use lib.Seq.{take-append-le}
@@ -9,11 +10,11 @@ use Rattle.capnp_frame.specs.declared.error.ErrorKind.TheVariants.{BufferNotLarg
 use Rattle.capnp_frame.specs.declared.serialize.segment_table.Padding.{Padding}
 use Rattle.capnp_frame.specs.declared.serialize.segment_table.Padding.TheVariants.{Any}
 use Rattle.capnp_frame.specs.Prelude.{table_field, table_size, KeepsPadding, IsTable, KeepsLimit, IsWithin, Splits, RunsShort, TableFound, Unless, DeclaresCount, TakesForLengths, FailsLeaving, IsTooShort, LimitError, RestError, IsOutOfRange, IsTooLarge, RejectsPadding, TableError, HasFrame, number, declared_lengths, declared_padding, FlatForm, by_words, by_fields, cut_kind, count_end, count_of, AcceptsSeveral, lengths_end, CutsSegments, LengthsError, FlatCountError, FlatError}
-use Rattle.capnp_frame.proofs.tables.TableFieldLemmas.{count_declared}
-use Rattle.capnp_frame.proofs.encodings.FrameRequestLemmas.{length-table}
-use Rattle.capnp_frame.proofs.tables.DeclaredTables.{number-table_field, table_is, Declared, declared_from_table}
-use Rattle.capnp_frame.proofs.encodings.FrontMessageLemmas.{holds_from_begins}
-use Rattle.capnp_frame.proofs.errors.ErrorTableLemmas.{Unless-once, Unless-after, in_range, within_limit}
+use Rattle.capnp_frame.proofs.tables.UniqueTableLengthsLemmas.{count_declared}
+use Rattle.capnp_frame.proofs.encodings.PlainRequestsTakeFrameLemmas.{length-table}
+use Rattle.capnp_frame.proofs.tables.TableDeclaredByFieldsLemmas.{number-table_field, table_is, Declared, declared_from_table}
+use Rattle.capnp_frame.proofs.encodings.DeclaredMessageIsFrontFrameLemmas.{holds_from_begins}
+use Rattle.capnp_frame.proofs.errors.UniqueErrorLineLemmas.{Unless-once, Unless-after, in_range, within_limit}
 
 -- one line at most is the first that holds
 pub FlatError-once : (form : FlatForm) (rule : Padding) (limit : Option ℕ) (kind other : ErrorKind) (bytes : List ℕ) → FlatError form rule limit kind bytes → FlatError form rule limit other bytes → kind ≡ other

@@ -4,8 +4,8 @@ use Rattle.std.proofs.lemmas.List.{drop-drop}
 use Rattle.std.proofs.lemmas.List.Sums.{sum_by-cons}
 use Rattle.std.specs.Prelude.{sum, slice_get}
 use Rattle.capnp_frame.specs.Prelude.{table_field, table_size, cut, number, declared_lengths, declared_segments, HoldsMessage}
-use Rattle.capnp_frame.proofs.tables.DeclaredTables.{number_at, numbers-take, numbers-suc, number-table_field}
-use Rattle.capnp_frame.proofs.tables.RunningSumLemmas.{sum_push}
+use Rattle.capnp_frame.proofs.tables.TableDeclaredByFieldsLemmas.{number_at, numbers-take, numbers-suc, number-table_field}
+use Rattle.capnp_frame.proofs.tables.PartsCutAtRunningSumsLemmas.{sum_push}
 
 pub cut_at : (ns body : List ℕ) (i n : ℕ) → slice_get ns i ≡ Some n → slice_get (cut ns body) i ≡ Some (take (8 * n) (drop (8 * sum (take i ns)) body))
 cut_at [] body i n here = cc

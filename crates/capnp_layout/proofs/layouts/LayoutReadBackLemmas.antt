@@ -2,11 +2,11 @@
 use Rattle.std.proofs.Common.{◌≡◌, ℕ, ◌+◌, ◌-◌, ◌*◌, ◌^◌, ◌<◌, ◌≤◌, ◌==◌, if◌then◌else◌, List, [], ◌∷◌, ◌++◌, length, Some, slice_get, refl, sym, ◌∙◌, ap, subst, arith, length-append}
 use Rattle.std.proofs.lemmas.Bool.Decides.{nat_tests}
 use Rattle.capnp_layout.specs.Prelude.{offset, struct_pointer, list_pointer, minus_one, Form, null, struct, numbers, pointers, structs, Trees, none, tree, count, PointsTo, is_null, At, nowhere, at, object_size, total_words, pointer, slots, pointers_to, own, body, HasRoom, AllHaveRoom, Reaches, AllReach, placed}
-use Rattle.capnp_layout.proofs.words.SubsliceLemmas.{Holds, holds_left, holds_right, holds_room, holds_none}
-use Rattle.capnp_layout.proofs.pointers.PointerFieldLemmas.{StructFields, ListFields, struct_fields, list_fields}
-use Rattle.capnp_layout.proofs.pointers.SlotRunLemmas.{Linked}
+use Rattle.capnp_layout.proofs.words.WordRunPartsInSegmentLemmas.{Holds, holds_left, holds_right, holds_room, holds_none}
+use Rattle.capnp_layout.proofs.pointers.PointerWordFieldLemmas.{StructFields, ListFields, struct_fields, list_fields}
+use Rattle.capnp_layout.proofs.pointers.LayoutSlotPointersAndPlacesLemmas.{Linked}
 use Rattle.capnp_layout.proofs.layouts.LayoutSizeLemmas.{Before, before_more, slots_before, length-slots, length-own_of, links_of, length-links, length-body, elements_even}
-use Rattle.capnp_layout.proofs.layouts.FormReadBackLemmas.{Read, Points, read_struct, read_pointers, read_numbers, read_structs}
+use Rattle.capnp_layout.proofs.layouts.ObjectReadBackLemmas.{Read, Points, read_struct, read_pointers, read_numbers, read_structs}
 
 pub if_positive : (k a b : ℕ) → 0 < k → (if k == 0 then a else b) ≡ b
 if_positive k a b positive = grind (arith, nat_tests)

@@ -1,10 +1,10 @@
--- How long the parts of a layout are.
+-- How long the parts of a layout are, and that the slots of an object lie within it.
 use Rattle.std.proofs.lemmas.List.Elements.{All-head, All-tail}
 use Rattle.std.proofs.Common.{◌≡◌, ℕ, zero, suc, ◌+◌, ◌*◌, ◌^◌, ◌<◌, ◌≤◌, List, [], ◌∷◌, ◌++◌, length, take, drop, refl, sym, ◌∙◌, ap, subst, arith, length-append, length-take, length-drop}
 use Rattle.std.specs.Prelude.{All, ⊤}
 use Rattle.capnp_layout.specs.Prelude.{number_of, width, words_for, Form, null, struct, numbers, pointers, structs, Trees, none, tree, count, object_size, total_words, run, element_runs, slots, pointers_to, woven, own, body, HasRoom, AllHaveRoom}
-use Rattle.capnp_layout.proofs.words.DigitLemmas.{length-digits}
-use Rattle.capnp_layout.proofs.pointers.SlotRunLemmas.{AllOf}
+use Rattle.capnp_layout.proofs.words.DigitsToNumberAndBackLemmas.{length-digits}
+use Rattle.capnp_layout.proofs.pointers.LayoutSlotPointersAndPlacesLemmas.{AllOf}
 
 -- slots that lie before a word of their object
 abbrev pub Before : ℕ → List ℕ → Type 0

@@ -1,11 +1,12 @@
--- A tree whose body is anywhere in a message is read back at the place of its pointer.
+-- A tree that is laid out anywhere in a message is read back at its pointer: a local one, or a far one to a
+-- landing pad of one word.
 use Rattle.std.proofs.Common.{◌≡◌, ℕ, zero, suc, ◌+◌, ◌-◌, ◌^◌, ◌<◌, ◌≤◌, ◌==◌, if◌then◌else◌, false, true, List, [], ◌∷◌, ◌++◌}
 use Rattle.std.proofs.Common.{length, take, drop, Some, slice_get, refl, sym, ◌∙◌, ap, subst, arith, length-take}
 use Rattle.std.proofs.lemmas.List.{take-append-drop}
 use Rattle.capnp_layout.specs.Prelude.{pointer_kind, words_from, landing_pad_segment, landing_pad_position, has_wide_landing_pad, Form, null, struct, numbers, pointers, structs, Trees, none, tree, count, object_size, total_words, PointsTo, is_null, is_object, local, far, double_far, IsFar, landing_pad, word_at, Shape, At, nowhere, at, pointer, struct_pointer, minus_one, body, far_pointer, Laid, AllHaveRoom, slots}
 use Rattle.capnp_layout.specs.Tree.{is_null as is_null_form}
 use Rattle.capnp_layout.specs.declared.place.Place.{Place}
-use Rattle.capnp_layout.proofs.words.SubsliceLemmas.{Holds}
+use Rattle.capnp_layout.proofs.words.WordRunPartsInSegmentLemmas.{Holds}
 use Rattle.capnp_layout.proofs.layouts.LayoutReadBackLemmas.{trees_are_at, local_reaches, few_reach}
 
 -- words at their place

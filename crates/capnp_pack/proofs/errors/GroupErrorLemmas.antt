@@ -1,4 +1,4 @@
--- The errors of a group.
+-- With which kinds a group fails: its bytes are cut, or it has more words than what is asked for.
 use Rattle.std.specs.Prelude.{◌==◌, if◌then◌else◌}
 use Rattle.std.proofs.Common.{Bool, true, false, ◌/◌, ◌≡◌, ℕ, zero, suc, ◌+◌, ◌-◌, ◌*◌, ◌%◌, ◌<◌, ◌≤◌, Option, Some, None, IfSome, ◌⊎◌}
 use Rattle.std.proofs.Common.{inl, inr, lit<, List, [], ◌∷◌, ◌++◌, length, replicate, refl, sym, ap, ◌∙◌, subst, arith, append_assoc}
@@ -9,7 +9,7 @@ use Rattle.capnp_frame.specs.declared.error.ErrorKind.{ErrorKind}
 use Rattle.capnp_frame.specs.declared.error.ErrorKind.TheVariants.{PrematureEndOfPackedInput, PackedInputDidNotEndCleanlyOnASegmentBoundary}
 use Rattle.capnp_frame.specs.Prelude.{IfKnown, RequestError, RunsShort}
 use Rattle.capnp_pack.specs.Prelude.{tagged, zeros, literal, AreZero, zero_word, marked, unmarked, group_size, IsHeadAt, GroupError, PackedError, FirstGroupError, ErrorAfter, zero_words, true_false, bit_cases}
-use Rattle.capnp_pack.proofs.unpacking.FrontGroupLemmas.{concat-zeros}
+use Rattle.capnp_pack.proofs.unpacking.GroupIsRequestPartLemmas.{concat-zeros}
 
 -- an error after a tag is one of the chunk
 pub group_error : (F : Type 0) (n tag : ℕ) (old mid : Option (List ℕ)) (kind : ErrorKind) → IfKnown old mid (λ raw left. raw ≡ tag ∷ left) →

@@ -4,13 +4,13 @@ use Rattle.std.specs.List.{concat, AllByRecursion}
 use Rattle.std.proofs.lemmas.List.{append-nil, drop_all, take_all, length-drop, length-take-le}
 use Rattle.capnp_frame.specs.Prelude.{Appending, IfKnown}
 use Rattle.capnp_frame.specs.declared.error.Error.{Error}
-use Rattle.capnp_frame.proofs.sources.RequestSequenceLemmas.{IfKnown-join, IfKnown-weaker}
+use Rattle.capnp_frame.proofs.sources.JoinedRequestPartsLemmas.{IfKnown-join, IfKnown-weaker}
 use lib.Count.{ones, ones-le}
 use Rattle.capnp_pack.specs.Prelude.{Group, IsWord, group_encoding, IfFirst, PacksWords, PacksTo, HandsTo, Hands, IsGroupOf, IsZero, tag_of, nonzero, tagged, zeros, literal, zero_bytes, zero_word, HasFewZeros, IsRun, EndsGroup}
-use Rattle.capnp_pack.proofs.words.TagLemmas.{tag_zero, tag_full, top_word, marked_tag, zeros_cons, zeros_suc, nonzero_suc}
-use Rattle.capnp_pack.proofs.packing.OneGroupLemmas.{IsGroupOf-zeros, IsGroupOf-literal, IsGroupOf-tagged}
-use Rattle.capnp_pack.proofs.packing.WholeChunkLemmas.{other_words, words_after, packed_more, PacksTo-more, run_of_none}
-use Rattle.capnp_pack.proofs.packing.HandedOnLemmas.{Hands-join, Hands-none}
+use Rattle.capnp_pack.proofs.words.NonzeroByteTagLemmas.{tag_zero, tag_full, top_word, marked_tag, zeros_cons, zeros_suc, nonzero_suc}
+use Rattle.capnp_pack.proofs.packing.UniqueGroupByTagLemmas.{IsGroupOf-zeros, IsGroupOf-literal, IsGroupOf-tagged}
+use Rattle.capnp_pack.proofs.packing.ChunkPackedGroupByGroupLemmas.{other_words, words_after, packed_more, PacksTo-more, run_of_none}
+use Rattle.capnp_pack.proofs.packing.HandedAndBufferedBytesJoinLemmas.{Hands-join, Hands-none}
 
 nonzero_all : (w : List ℕ) → zero_bytes w ≡ 0 → nonzero w ≡ w
 nonzero_all [] e = refl

@@ -1,11 +1,11 @@
--- How long a packed encoding is.
+-- How many bytes the packed encoding of a number of words has at most.
 use Rattle.std.proofs.Common.{◌≡◌, ℕ, zero, suc, ◌+◌, ◌*◌, ◌/◌, ◌<◌, ◌≤◌, inl, inr, List, [], ◌∷◌, length, replicate, refl, sym, ap, ◌∙◌, arith, length-append}
 use Rattle.std.proofs.lemmas.Bool.{cases_lt}
 use Rattle.std.specs.List.{concat, AllByRecursion}
 use Rattle.std.proofs.lemmas.List.{length-replicate}
 use Rattle.capnp_pack.specs.Prelude.{Group, tagged, zeros, literal, IsGroup, zero_word, zero_bytes, group_encoding, marked, encoding_of, words_of_groups, Packs, IsLongest, AreLongest, IfFirst, tag_of, nonzero, length-words}
-use Rattle.capnp_pack.proofs.words.TagLemmas.{zeros_cons, zeros_suc, nonzero_suc, tag_once, tag_whole, top, top_word, marked_tag}
-use Rattle.capnp_pack.proofs.packing.OneEncodingLemmas.{words_whole}
+use Rattle.capnp_pack.proofs.words.NonzeroByteTagLemmas.{zeros_cons, zeros_suc, nonzero_suc, tag_once, tag_whole, top, top_word, marked_tag}
+use Rattle.capnp_pack.proofs.packing.WordsPackUniquelyAndUnpackLemmas.{words_whole}
 
 pub nonzero_len : (w : List ℕ) → length (nonzero w) + zero_bytes w ≡ length w
 nonzero_len [] = refl

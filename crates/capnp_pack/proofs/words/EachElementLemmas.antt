@@ -1,4 +1,4 @@
--- What holds of each element.
+-- What holds of each element of two lists holds of each of the list that joins them, and of each of a part.
 use Rattle.std.proofs.Common.{ℕ, zero, suc, List, [], ◌∷◌, ◌++◌, take, drop}
 use Rattle.std.specs.List.{AllByRecursion}
 

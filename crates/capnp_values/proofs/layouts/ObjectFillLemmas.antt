@@ -2,9 +2,9 @@
 use Rattle.std.proofs.Common.{◌≡◌, ℕ, ◌+◌, ◌*◌, ◌≤◌, List, [], ◌∷◌, length, take, drop, sym, ◌∙◌, ap, arith, length-take, length-drop}
 use Rattle.capnp_layout.specs.Prelude.{struct, pointers, structs, Trees, none, tree, count, total_words, run, element_runs, woven, body, struct_pointer, HasRoom, AllHaveRoom, put, put_data_sections, fill, moved, section_slots}
 use Rattle.capnp_layout.proofs.layouts.LayoutSizeLemmas.{length-woven, elements_even}
-use Rattle.capnp_layout.proofs.layouts.BlockLemmas.{put_both, length-put, put_none}
-use Rattle.capnp_wire.proofs.layouts.BlockElementLemmas.{moved_run, moved_elements, put_short, put_data_sections_woven}
-use Rattle.capnp_wire.proofs.layouts.PointerFillLemmas.{fill_is}
+use Rattle.capnp_layout.proofs.layouts.PutWordsCombinedLemmas.{put_both, length-put, put_none}
+use Rattle.capnp_wire.proofs.layouts.DataWriteKeepsPointerSlotsLemmas.{moved_run, moved_elements, put_short, put_data_sections_woven}
+use Rattle.capnp_wire.proofs.layouts.LayoutByFillingPointerSlotsLemmas.{fill_is}
 
 -- a struct
 pub struct_filled : (next : ℕ) (words : List ℕ) (children : Trees) (block : List ℕ) → HasRoom (struct words) (count children) → AllHaveRoom children

@@ -6,15 +6,15 @@ use Rattle.capnp_frame.specs.declared.error.ErrorKind.{ErrorKind}
 use Rattle.capnp_layout.specs.Prelude.{Trees, none, tree, count, total_words, output}
 use Rattle.capnp_wire.specs.Prelude.{WordsError, HasPart}
 use Rattle.capnp_wire.specs.declared.traits.TreeWords.{TreeWords}
-use Rattle.capnp_layout.proofs.trees.TrimmedTreeLemmas.{total-trim}
-use Rattle.capnp_wire.proofs.views.MeasuredPartLemmas.{untrimmed_words, same_tree_words}
+use Rattle.capnp_layout.proofs.trees.TrimIdempotenceAndSizeLemmas.{total-trim}
+use Rattle.capnp_wire.proofs.views.ValueAsPartTwoMeasuresLemmas.{untrimmed_words, same_tree_words}
 use Rattle.capnp_values.specs.Fields.{IsSettled, IsValueInFront, FieldsError}
 use Rattle.capnp_values.specs.FieldLaws.{settled_none, settled_more}
 use Rattle.capnp_values.specs.Measured.{tree_words, both_words, MeasuresValue}
 use Rattle.capnp_values.specs.Lists.{AreItems, ValuesError}
-use Rattle.capnp_values.proofs.values.MeasuredPartLemmas.{words_of_part, has_part, part_of, part_less, more_total}
-use Rattle.capnp_values.proofs.values.MeasureResultLemmas.{same_words, error_first, error_rest}
-use Rattle.capnp_values.proofs.values.ValueWordLemmas.{AreMeasured}
+use Rattle.capnp_values.proofs.values.ValueAsPartWordsLemmas.{words_of_part, has_part, part_of, part_less, more_total}
+use Rattle.capnp_values.proofs.values.MeasureOutcomeIsUniqueLemmas.{same_words, error_first, error_rest}
+use Rattle.capnp_values.proofs.values.MeasureWithinBoundElseErrorLemmas.{AreMeasured}
 
 -- the values from one on
 pub from_here : {V : Type 0} (items : List V) (i : ℕ) (v : V) → i < length items → v ≡ get_or items i v → drop i items ≡ v ∷ drop (i + 1) items

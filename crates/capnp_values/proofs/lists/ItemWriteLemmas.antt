@@ -3,13 +3,13 @@ use Rattle.std.proofs.Common.{◌≡◌, ℕ, suc, ◌+◌, ◌-◌, ◌/◌, �
 use Rattle.capnp_layout.specs.Prelude.{words_of, Form, Trees, none, tree, total_words, pointer_to, run, body, output, put, fill}
 use Rattle.capnp_wire.specs.Prelude.{IsCopied, HasRoomAt, IsFreeFrom}
 use Rattle.capnp_wire.specs.declared.layout.copy.Copied.{Copied}
-use Rattle.capnp_layout.proofs.words.WordByteLemmas.{length-words_of}
-use Rattle.capnp_layout.proofs.layouts.BlockLemmas.{length-put}
-use Rattle.capnp_wire.proofs.layouts.TreesCopyLemmas.{fill_step, none_output}
-use Rattle.capnp_wire.proofs.layouts.FreeBlockLemmas.{free_after, free_copied}
-use Rattle.capnp_wire.proofs.layouts.CopyPlanLemmas.{room_output}
+use Rattle.capnp_layout.proofs.words.WordsOfBytesLemmas.{length-words_of}
+use Rattle.capnp_layout.proofs.layouts.PutWordsCombinedLemmas.{length-put}
+use Rattle.capnp_wire.proofs.layouts.TreeCopySequenceLemmas.{fill_step, none_output}
+use Rattle.capnp_wire.proofs.layouts.ZeroFreePartLemmas.{free_after, free_copied}
+use Rattle.capnp_wire.proofs.layouts.CopyPlanFillsLayoutLemmas.{room_output}
 use Rattle.capnp_values.specs.Lists.{AreItems, HasRoomForItems, AreItemsWritten}
-use Rattle.capnp_values.proofs.values.MeasuredPartLemmas.{part_total, more_total}
+use Rattle.capnp_values.proofs.values.ValueAsPartWordsLemmas.{part_total, more_total}
 use Rattle.capnp_values.proofs.lists.ItemMeasureLemmas.{from_here, no_item_left}
 
 -- The first i values are written: what is left to be put into the block so that all are written, and the

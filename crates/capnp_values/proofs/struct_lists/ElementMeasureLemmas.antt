@@ -6,14 +6,14 @@ use Rattle.std.proofs.lemmas.List.Elements.{All-nil, All-cons}
 use Rattle.capnp_frame.specs.declared.error.Error.{Error}
 use Rattle.capnp_frame.specs.declared.error.ErrorKind.{ErrorKind}
 use Rattle.capnp_layout.specs.Prelude.{Trees, none, total_words, before, output}
-use Rattle.capnp_layout.proofs.trees.TreePartLemmas.{total-before}
+use Rattle.capnp_layout.proofs.trees.TreePartsSizeAndPropertiesLemmas.{total-before}
 use Rattle.capnp_wire.specs.declared.traits.TreeWords.{TreeWords}
-use Rattle.capnp_wire.proofs.views.MeasuredPartLemmas.{same_tree_words}
+use Rattle.capnp_wire.proofs.views.ValueAsPartTwoMeasuresLemmas.{same_tree_words}
 use Rattle.capnp_values.specs.Measured.{tree_words, both_words, MeasuresValue}
 use Rattle.capnp_values.specs.Fields.{IsSettled}
 use Rattle.capnp_values.specs.StructLists.{AreElements, ElementsError, AreEven, MeasuresElements}
 use Rattle.capnp_values.proofs.lists.ItemMeasureLemmas.{from_here, measured_few, no_item_left, onto, onto_none, onto_both, nothing_after}
-use Rattle.capnp_values.proofs.struct_lists.ElementTreeLemmas.{rooms_before, total_front}
+use Rattle.capnp_values.proofs.struct_lists.ElementTreesOutputWordsLemmas.{rooms_before, total_front}
 
 -- what is measured of a struct in front of others
 abbrev MeasuresTrees : {V : Type 0} → (V → Trees → Type 0) → (V → ErrorKind → Type 0) → List V → Bool → Result TreeWords Error → Type 0

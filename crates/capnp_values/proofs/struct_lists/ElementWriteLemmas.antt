@@ -3,14 +3,14 @@ use Rattle.std.proofs.Common.{◌≡◌, ℕ, ◌+◌, ◌*◌, ◌<◌, ◌≤�
 use Rattle.std.proofs.Math.Nat.{mul-le-mul_left}
 use Rattle.capnp_layout.specs.Prelude.{words_of, Trees, count, total_words, first, following, before, trim, run, output, put, fill}
 use Rattle.capnp_wire.specs.Prelude.{IsFreeFrom}
-use Rattle.capnp_layout.proofs.trees.TreePartLemmas.{count-first, total-before, least_pointers_within}
-use Rattle.capnp_layout.proofs.trees.NarrowedPointerLemmas.{first-before, following-before}
+use Rattle.capnp_layout.proofs.trees.TreePartsSizeAndPropertiesLemmas.{count-first, total-before, least_pointers_within}
+use Rattle.capnp_layout.proofs.trees.PointerNarrowingIdempotenceLemmas.{first-before, following-before}
 use Rattle.capnp_values.specs.Fields.{IsSettled, AreFieldsWritten}
 use Rattle.capnp_values.specs.StructLists.{AreElements, element_pointers, output_children, fill_elements, HasRoomForElements}
 use Rattle.capnp_values.specs.StructListPlaces.{ElementPlace}
-use Rattle.capnp_values.proofs.lists.PointerListLemmas.{count_output}
+use Rattle.capnp_values.proofs.lists.PointerListMeasureLemmas.{count_output}
 use Rattle.capnp_values.proofs.lists.ItemMeasureLemmas.{from_here, no_item_left}
-use Rattle.capnp_values.proofs.struct_lists.ElementTreeLemmas.{shown_front}
+use Rattle.capnp_values.proofs.struct_lists.ElementTreesOutputWordsLemmas.{shown_front}
 
 shown_total : (c : Bool) (m p : ℕ) (words : List ℕ) (elements : List (List ℕ)) (fields rest children : Trees) → children ≡ before fields rest → count fields ≡ p
     → total_words (output_children c m p (words ∷ elements) children) ≡ total_words (first m (output c fields)) + total_words (output_children c m p elements rest)

@@ -7,16 +7,16 @@ use Rattle.capnp_frame.specs.declared.error.Error.{Error}
 use Rattle.capnp_frame.specs.declared.error.ErrorKind.{ErrorKind}
 use Rattle.capnp_frame.specs.declared.error.ErrorKind.TheVariants.{AllocationTooLarge}
 use Rattle.capnp_layout.specs.Prelude.{structs, Trees, none, tree, count, total_words, output, AllHaveRoom}
-use Rattle.capnp_layout.proofs.words.ZeroCutLemmas.{least_data_within}
+use Rattle.capnp_layout.proofs.words.TrailingZeroRemovalIdempotenceLemmas.{least_data_within}
 use Rattle.capnp_layout.proofs.layouts.LayoutSizeLemmas.{elements_even}
-use Rattle.capnp_wire.proofs.views.MeasuredPartLemmas.{same_tree_words}
+use Rattle.capnp_wire.proofs.views.ValueAsPartTwoMeasuresLemmas.{same_tree_words}
 use Rattle.capnp_values.specs.Measured.{tree_words, MeasuresValue}
 use Rattle.capnp_values.specs.Fields.{IsSettled}
 use Rattle.capnp_wire.specs.declared.traits.TreeWords.{TreeWords}
 use Rattle.capnp_values.specs.StructLists.{AreElements, IsStructListTree, TooManyStructs, StructListError, element_data, element_pointers, AreEven, MeasuresElements}
 use Rattle.capnp_values.specs.StructListPlaces.{AreDeclared, IsDeclared}
 use Rattle.capnp_values.proofs.lists.ItemMeasureLemmas.{measured_few}
-use Rattle.capnp_values.proofs.struct_lists.ElementTreeLemmas.{elements_settled, structs_value_total}
+use Rattle.capnp_values.proofs.struct_lists.ElementTreesOutputWordsLemmas.{elements_settled, structs_value_total}
 use Rattle.capnp_values.proofs.struct_lists.ElementWriteLemmas.{pointers_within}
 
 -- what can be declared of it

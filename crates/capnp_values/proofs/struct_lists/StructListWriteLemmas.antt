@@ -4,13 +4,13 @@ use Rattle.std.proofs.lemmas.List.{length-map}
 use Rattle.capnp_layout.specs.Prelude.{structs, Trees, none, tree, count, total_words, list_pointer, struct_pointer, output, AllHaveRoom, put, put_data_sections, fill, section_slots}
 use Rattle.capnp_wire.specs.Prelude.{IsCopied}
 use Rattle.capnp_layout.proofs.layouts.LayoutSizeLemmas.{elements_even}
-use Rattle.capnp_layout.proofs.layouts.BlockLemmas.{length-put}
-use Rattle.capnp_wire.proofs.layouts.CopyPlanLemmas.{room_output}
+use Rattle.capnp_layout.proofs.layouts.PutWordsCombinedLemmas.{length-put}
+use Rattle.capnp_wire.proofs.layouts.CopyPlanFillsLayoutLemmas.{room_output}
 use Rattle.capnp_values.specs.Fields.{IsSettled}
 use Rattle.capnp_values.specs.StructLists.{AreElements, IsStructListTree, element_data, element_pointers, output_children, AreEven, fill_elements}
 use Rattle.capnp_values.proofs.layouts.ObjectFillLemmas.{structs_filled}
-use Rattle.capnp_values.proofs.layouts.ElementFillLemmas.{elements_filled}
-use Rattle.capnp_values.proofs.struct_lists.ElementTreeLemmas.{elements_settled, structs_output, total_shown}
+use Rattle.capnp_values.proofs.layouts.ElementwiseFillSameBlockLemmas.{elements_filled}
+use Rattle.capnp_values.proofs.struct_lists.ElementTreesOutputWordsLemmas.{elements_settled, structs_output, total_shown}
 use Rattle.capnp_values.specs.StructListPlaces.{AreDeclared, ListPlace}
 use Rattle.capnp_values.proofs.struct_lists.StructListMeasureLemmas.{size_declared, struct_list_total, list_rooms}
 

@@ -3,12 +3,12 @@ use Rattle.std.proofs.Common.{◌≡◌, ℕ, suc, ◌+◌, ◌-◌, ◌/◌, �
 use Rattle.capnp_layout.specs.Prelude.{words_of, Form, Trees, none, tree, count, total_words, first, trim, trim_form, trim_children, pointer_to, run, body, output, put, fill}
 use Rattle.capnp_wire.specs.Prelude.{IsCopied, HasRoomAt, IsFreeFrom}
 use Rattle.capnp_wire.specs.declared.layout.copy.Copied.{Copied}
-use Rattle.capnp_layout.proofs.words.WordByteLemmas.{length-words_of}
-use Rattle.capnp_wire.proofs.layouts.TreesCopyLemmas.{fill_step}
-use Rattle.capnp_wire.proofs.layouts.FreeBlockLemmas.{free_after, free_copied}
-use Rattle.capnp_wire.proofs.layouts.CopyPlanLemmas.{room_output}
+use Rattle.capnp_layout.proofs.words.WordsOfBytesLemmas.{length-words_of}
+use Rattle.capnp_wire.proofs.layouts.TreeCopySequenceLemmas.{fill_step}
+use Rattle.capnp_wire.proofs.layouts.ZeroFreePartLemmas.{free_after, free_copied}
+use Rattle.capnp_wire.proofs.layouts.CopyPlanFillsLayoutLemmas.{room_output}
 use Rattle.capnp_values.specs.Fields.{IsPart, IsValueInFront, CanWriteFields, AreFieldsWritten}
-use Rattle.capnp_values.proofs.values.MeasuredPartLemmas.{part_total}
+use Rattle.capnp_values.proofs.values.ValueAsPartWordsLemmas.{part_total}
 
 -- fields that are written: the first value, and the fields after it
 pub record FieldsSplit (h hs : Trees → Type 0) (c : Bool) (n next room : ℕ) : Type 0 where

@@ -1,8 +1,8 @@
--- The null pointer as a value.
+-- The null pointer as a value: it has no words and one tree, and never fails.
 use Rattle.std.proofs.Common.{◌≡◌, Bool, true, false, refl, sym, ◌∙◌, arith}
 use Rattle.capnp_layout.specs.Prelude.{null, Trees, none, tree, total_words, output}
 use Rattle.capnp_wire.specs.Prelude.{HasWords}
-use Rattle.capnp_wire.proofs.views.UniqueValueLemmas.{IsOne}
+use Rattle.capnp_wire.proofs.views.UniqueValueTreeAndMeasureLemmas.{IsOne}
 
 abbrev pub IsNull : Trees → Type 0
 IsNull trees = trees ≡ tree null none none

@@ -1,7 +1,7 @@
 -- A layout is read back as its tree.
 use Rattle.std.proofs.Common.{ℕ, ◌+◌, ◌^◌, ◌<◌, List, [], ◌∷◌, refl, arith}
 use Rattle.capnp_layout.specs.Prelude.{Form, Trees, none, tree, count, At, total_words, pointer, body, layout, AllHaveRoom, AllReach, root}
-use Rattle.capnp_layout.proofs.words.SubsliceLemmas.{Holds, holds_right, holds_all}
+use Rattle.capnp_layout.proofs.words.WordRunPartsInSegmentLemmas.{Holds, holds_right, holds_all}
 use Rattle.capnp_layout.proofs.layouts.LayoutReadBackLemmas.{few_reach, trees_are_at}
 
 -- the root of the one segment in which a tree is laid out is that tree, where every field has room

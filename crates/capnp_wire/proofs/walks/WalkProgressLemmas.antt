@@ -8,11 +8,11 @@ use Rattle.capnp_wire.specs.Prelude.{CountsMore, EntersObject, Walked, WalkedAll
 use Rattle.capnp_layout.specs.declared.place.Place.{Place}
 use Rattle.capnp_layout.specs.declared.pointer_slots.PointerSlots.{PointerSlots}
 use Rattle.capnp_layout.specs.declared.object.Object.{Object as ReadObject}
-use Rattle.capnp_layout.proofs.trees.TreeCountLemmas.{within_none, less_none, within_both, less_both}
-use Rattle.capnp_wire.proofs.trees.TreeCountLemmas.{counts_none, counts_both}
-use Rattle.capnp_layout.proofs.trees.TreeSizeLemmas.{OwnOf, own_output}
-use Rattle.capnp_wire.proofs.trees.TreeSizeLemmas.{placed_nowhere, placed_both, placed_over, placed_null, plain_trees_at}
-use Rattle.capnp_wire.proofs.walks.WalkErrorLemmas.{walk_error_more, walk_error_after}
+use Rattle.capnp_layout.proofs.trees.TraversalLimitCountLemmas.{within_none, less_none, within_both, less_both}
+use Rattle.capnp_wire.proofs.words.WordCountAdditionWithOverflowLemmas.{counts_none, counts_both}
+use Rattle.capnp_layout.proofs.trees.TreeSizeUntrimmedAndTrimmedLemmas.{OwnOf, own_output}
+use Rattle.capnp_wire.proofs.trees.JoinedTreesSizeLemmas.{placed_nowhere, placed_both, placed_over, placed_null, plain_trees_at}
+use Rattle.capnp_wire.proofs.walks.WalkErrorExcludesTreesLemmas.{walk_error_more, walk_error_after}
 
 -- How far a walk over the pointers of an object has come: which are done, and what is left of the
 -- limit, and has been counted since.

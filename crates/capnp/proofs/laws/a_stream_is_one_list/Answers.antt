@@ -1,5 +1,5 @@
 -- Both formats part streams in one way.
-use Rattle.capnp.proofs.RunEndLemmas.{stream_once}
+use Rattle.capnp.proofs.StreamEndByRunResultLemmas.{stream_once}
 use Rattle.capnp.proofs.laws.a_stream_is_one_list.Goals as goal
 
 pub returns : goal.returns

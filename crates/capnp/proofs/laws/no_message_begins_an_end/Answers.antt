@@ -1,5 +1,5 @@
 -- Both formats part streams in one way.
-use Rattle.capnp.proofs.RunLemmas.{format_parts}
+use Rattle.capnp.proofs.RunOutputMessageByMessageLemmas.{format_parts}
 use Rattle.capnp.proofs.laws.no_message_begins_an_end.Goals as goal
 
 pub returns : goal.returns

@@ -1,5 +1,5 @@
 -- Both formats part streams in one way.
-use Rattle.capnp.proofs.RunLemmas.{format_parts}
+use Rattle.capnp.proofs.RunOutputMessageByMessageLemmas.{format_parts}
 use Rattle.capnp.proofs.laws.one_message_begins_a_stream.Goals as goal
 
 pub returns : goal.returns

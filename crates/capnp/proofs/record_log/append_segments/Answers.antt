@@ -1,7 +1,7 @@
 -- The log has one record more, or is cut back.
 use Rattle.std.proofs.Common.{◌≡◌, length, arith}
-use Rattle.capnp.proofs.MessageChunkLemmas.{packed_memory}
-use Rattle.capnp.proofs.RecordLogLemmas.{appended_log, kept_back}
+use Rattle.capnp.proofs.MemoryWriteErrorLemmas.{packed_memory}
+use Rattle.capnp.proofs.RecordLogReadBackLemmas.{appended_log, kept_back}
 use Rattle.capnp.proofs.record_log.append_segments.Goals as goal
 
 pub returns-in-Ok : goal.returns-in-Ok

@@ -2,8 +2,8 @@
 use Rattle.std.proofs.Common.{drop}
 use Rattle.capnp_frame.specs.declared.serialize.segment_table.Padding.TheVariants.{Zero}
 use Rattle.capnp.specs.declared.streams.Format.TheVariants.{Packed}
-use Rattle.capnp.proofs.RecordLogLemmas.{log_is_read, cut_is_reported, cut_reported}
-use Rattle.capnp.proofs.SliceStreamLemmas.{ends_or_memory}
+use Rattle.capnp.proofs.RecordLogReadBackLemmas.{log_is_read, cut_is_reported, cut_reported}
+use Rattle.capnp.proofs.SliceStreamReadToItsEndLemmas.{ends_or_memory}
 use Rattle.capnp.proofs.record_log.read_log.Goals as goal
 
 pub returns-clause-read : goal.returns-clause-read

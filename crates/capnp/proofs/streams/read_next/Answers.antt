@@ -2,10 +2,10 @@
 use Rattle.std.proofs.Common.{length}
 use Rattle.std.specs.List.{concat}
 use Rattle.capnp_frame.specs.Prelude.{Outgrows, TakesMemory}
-use Rattle.capnp_frame.proofs.sources.AllocatingReaderLemmas.{reads_with_less}
+use Rattle.capnp_frame.proofs.sources.AllocatingReaderOutcomeLemmas.{reads_with_less}
 use Rattle.capnp_pack.specs.Prelude.{Unpacks, packed_rules}
 use Rattle.capnp.specs.Prelude.{IsPlainSource}
-use Rattle.capnp.proofs.FormatReaderLemmas.{plain_reads_reusing, Outgrows-none}
+use Rattle.capnp.proofs.ReaderOutcomeByFormatRulesLemmas.{plain_reads_reusing, Outgrows-none}
 use Rattle.capnp.proofs.streams.read_next.Goals as goal
 
 pub returns-in-Framed : goal.returns-in-Framed

@@ -1,9 +1,9 @@
 -- Each turn writes one more message, or ends the run.
 use Rattle.std.proofs.Common.{rules, refl, inl, inr}
-use Rattle.capnp_frame.proofs.sources.RequestSequenceLemmas.{IfKnown-join, Advances-join, Fails-join, Grows-join}
-use Rattle.capnp.proofs.RunEndLemmas.{writes_each}
-use Rattle.capnp.proofs.FormatReaderLemmas.{reading_error}
-use Rattle.capnp.proofs.RunLemmas.{HasWritten-next, written_next, all_written, most_written, failed_reading, failed_at_message, left_as_written, message_run_error}
+use Rattle.capnp_frame.proofs.sources.JoinedRequestPartsLemmas.{IfKnown-join, Advances-join, Fails-join, Grows-join}
+use Rattle.capnp.proofs.StreamEndByRunResultLemmas.{writes_each}
+use Rattle.capnp.proofs.ReaderOutcomeByFormatRulesLemmas.{reading_error}
+use Rattle.capnp.proofs.RunOutputMessageByMessageLemmas.{HasWritten-next, written_next, all_written, most_written, failed_reading, failed_at_message, left_as_written, message_run_error}
 use Rattle.capnp.proofs.streams.write_each_message.Goals as goal
 
 pub returns-in-Ok-None : goal.returns-in-Ok-None

@@ -1,6 +1,6 @@
 -- What was written is the encodings.
 use Rattle.capnp.specs.Prelude.{input_of, Transcodes, TranscodedErrors, IsOtherEncoding}
-use Rattle.capnp.proofs.TranscodingLemmas.{WritesEach-weaker, other_encoding_added}
+use Rattle.capnp.proofs.TranscodingRunLemmas.{WritesEach-weaker, other_encoding_added}
 use Rattle.capnp.proofs.transcoding.transcode_by.Goals as goal
 
 pub returns-in-Ok : goal.returns-in-Ok

@@ -1,7 +1,7 @@
 -- A value is written into a part of some bytes.
 use Rattle.std.proofs.Common.{◌≡◌, ◌-◌, ◌/◌, ◌∙◌, ℕ, List, length, take, drop, ap, arith}
-use Rattle.capnp_layout.proofs.words.WordByteLemmas.{length-words_of}
-use Rattle.capnp_build.proofs.words.BlockValueLemmas.{part_room, part_free, is_block, part_written, part_long}
+use Rattle.capnp_layout.proofs.words.WordsOfBytesLemmas.{length-words_of}
+use Rattle.capnp_build.proofs.words.WrittenPartIsValueBlockLemmas.{part_room, part_free, is_block, part_written, part_long}
 use Rattle.capnp_build.proofs.segment_space.write_into.Goals as goal
 
 pub write-copied-requires-clause-value : goal.write-copied-requires-clause-value

@@ -1,6 +1,6 @@
 -- Whether the last byte is zero.
 use Rattle.std.proofs.Common.{◌≡◌, ℕ, suc, ◌+◌, ◌-◌, List, [], ◌∷◌, ◌++◌, length, take, true, false, ap, ◌∙◌, arith, length-append}
-use Rattle.capnp_wire.proofs.views.ShownFormLemmas.{zero_after}
+use Rattle.capnp_wire.proofs.views.EnteredObjectShownLemmas.{zero_after}
 use Rattle.capnp_build.proofs.text.ends_with_zero.Goals as goal
 
 none_in : (bytes text : List ℕ) → length bytes ≡ 0 → bytes ≡ text ++ 0 ∷ [] → ⊥

@@ -1,5 +1,5 @@
 -- A failure rejects the root.
-use Rattle.capnp_build.proofs.roots.RootTypeLemmas.{form_error_there}
+use Rattle.capnp_build.proofs.roots.NoSegmentRootLemmas.{form_error_there}
 use Rattle.capnp_build.proofs.view.accept.Goals as goal
 
 pub returns-clause-kind : goal.returns-clause-kind

@@ -1,5 +1,5 @@
 -- Where the object finds no room, none was there once the root was cleared.
-use Rattle.capnp_build.proofs.layouts.BlockPlaceLemmas.{found_no_room}
+use Rattle.capnp_build.proofs.outcomes.BlockPrefersFirstSegmentLemmas.{found_no_room}
 use Rattle.capnp_build.proofs.view.init.Goals as goal
 
 pub returns-clause-no_room : goal.returns-clause-no_room

@@ -2,7 +2,7 @@
 use Rattle.std.proofs.Common.{refl, ap, ◌∙◌, rules}
 use Rattle.capnp_frame.specs.Prelude.{kind_number}
 use Rattle.capnp_c.specs.Fronts.{root_by}
-use Rattle.capnp_c.proofs.OneFrontMessageLemmas.{has_or_error, one_reason}
+use Rattle.capnp_c.proofs.UniqueCanonicalFormOutcomeLemmas.{has_or_error, one_reason}
 use Rattle.capnp_c.proofs.canonical.measure_form.Goals as goal
 
 pub returns-in-Ok : goal.returns-in-Ok

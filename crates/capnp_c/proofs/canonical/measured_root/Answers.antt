@@ -1,6 +1,6 @@
 -- The root is found, and its form is measured, or one of the two fails.
 use Rattle.std.proofs.lemmas.Result.{err_from_is_err_and}
-use Rattle.capnp_c.proofs.OneFrontMessageLemmas.{root_form_error}
+use Rattle.capnp_c.proofs.UniqueCanonicalFormOutcomeLemmas.{root_form_error}
 use Rattle.capnp_c.proofs.canonical.measured_root.Goals as goal
 
 pub returns-in_err-root-clause-form_error : goal.returns-in_err-root-clause-form_error

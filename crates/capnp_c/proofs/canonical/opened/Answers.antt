@@ -1,7 +1,7 @@
 -- The arena is over the message that is there.
 use Rattle.std.proofs.Common.{ap, ◌∙◌}
 use Rattle.std.proofs.lemmas.Result.{err_from_is_err_and}
-use Rattle.capnp_c.proofs.OneFrontMessageLemmas.{one_front, same_root}
+use Rattle.capnp_c.proofs.UniqueFrontMessageLemmas.{one_front, same_root}
 use Rattle.capnp_c.proofs.canonical.opened.Goals as goal
 
 pub returns-clause-front : goal.returns-clause-front

@@ -4,7 +4,7 @@ use Rattle.std.proofs.lemmas.Result.{err_from_is_err_and}
 use Rattle.capnp_layout.specs.Prelude.{words_of}
 use Rattle.capnp_wire.specs.Prelude.{IsCanonicalForm}
 use Rattle.capnp_c.specs.Fronts.{root_by, RootHasForm, RootCanonicalFormError}
-use Rattle.capnp_c.proofs.OneFrontMessageLemmas.{front_form}
+use Rattle.capnp_c.proofs.UniqueCanonicalFormOutcomeLemmas.{front_form}
 use Rattle.capnp_c.proofs.canonical.written.Goals as goal
 
 pub returns-in_err-arena-clause-form_error : goal.returns-in_err-arena-clause-form_error

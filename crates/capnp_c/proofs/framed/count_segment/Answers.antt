@@ -2,7 +2,7 @@
 use Rattle.std.proofs.Common.{sym, ap, ◌∙◌, rules}
 use Rattle.std.specs.Prelude.{option_copied}
 use Rattle.capnp_frame.specs.Prelude.{kind_number}
-use Rattle.capnp_c.proofs.OneFrontMessageLemmas.{one_front, segment_words, segment_there, returned_segment_is_there}
+use Rattle.capnp_c.proofs.UniqueFrontMessageLemmas.{one_front, segment_words, segment_there, returned_segment_is_there}
 use Rattle.capnp_c.proofs.framed.count_segment.Goals as goal
 
 pub returns-in-Some : goal.returns-in-Some

@@ -1,7 +1,7 @@
 -- A message that is there is found, and one that is cut or too large fails by its line.
 use Rattle.std.proofs.Common.{◌≡◌, ◌+◌, inr, length, refl, ap, ◌∙◌, arith, rules, length-append}
 use Rattle.capnp_frame.specs.Prelude.{kind_number}
-use Rattle.capnp_c.proofs.WholeBufferLemmas.{front_table}
+use Rattle.capnp_c.proofs.PackMessageIntoBufferLemmas.{front_table}
 use Rattle.capnp_c.proofs.framed.step_over.Goals as goal
 
 pub returns-in-Ok : goal.returns-in-Ok

@@ -2,7 +2,7 @@
 use Rattle.std.proofs.Common.{rules, arith, ◌≤◌, ◌+◌, length, ap, ◌∙◌}
 use Rattle.std.proofs.lemmas.Bool.{false≢true}
 use Rattle.capnp_frame.specs.Prelude.{kind_number}
-use Rattle.capnp_c.proofs.PackedBufferLemmas.{packed_alone, block_error, packed_fits}
+use Rattle.capnp_c.proofs.PackWordsIntoBufferLemmas.{packed_alone, block_error, packed_fits}
 use Rattle.capnp_c.proofs.packed.linsjoar_pack.Goals as goal
 
 pub returns-in-Ok-clause-short : goal.returns-in-Ok-clause-short

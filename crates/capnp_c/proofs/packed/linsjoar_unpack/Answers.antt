@@ -2,7 +2,7 @@
 use Rattle.std.proofs.Common.{ap, ◌∙◌}
 use Rattle.capnp_frame.specs.Prelude.{kind_number}
 use Rattle.capnp_pack.specs.Prelude.{unpacking}
-use Rattle.capnp_c.proofs.PackedBufferLemmas.{slice_chunk_error}
+use Rattle.capnp_c.proofs.PackWordsIntoBufferLemmas.{slice_chunk_error}
 use Rattle.capnp_c.proofs.packed.linsjoar_unpack.Goals as goal
 
 pub returns-in-Ok-clause-errors : goal.returns-in-Ok-clause-errors

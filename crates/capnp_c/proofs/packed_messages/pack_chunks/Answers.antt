@@ -2,7 +2,7 @@
 use Rattle.std.proofs.Common.{◌≡◌, ◌-◌, [], ◌∷◌, length, take, drop, Ok, Err, arith}
 use Rattle.std.proofs.lemmas.List.{take_all, length-drop}
 use Rattle.std.proofs.lemmas.Result.{err_from_is_err_and}
-use Rattle.capnp_c.proofs.PackedChunkLemmas.{packs_one, packs_after, packs_failed}
+use Rattle.capnp_c.proofs.PackChunkCallSequenceLemmas.{packs_one, packs_after, packs_failed}
 use Rattle.capnp_c.proofs.packed_messages.pack_chunks.Goals as goal
 
 pub returns-in_err-pack_into : goal.returns-in_err-pack_into

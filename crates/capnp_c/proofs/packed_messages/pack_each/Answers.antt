@@ -2,7 +2,7 @@
 use Rattle.std.proofs.Common.{arith, Ok, Err, ◌+◌}
 use Rattle.std.proofs.lemmas.List.{take_all}
 use Rattle.std.proofs.lemmas.Result.{err_from_is_err_and}
-use Rattle.capnp_c.proofs.PackedChunkLemmas.{packs_one, packs_next, packs_failed_at}
+use Rattle.capnp_c.proofs.PackChunkCallSequenceLemmas.{packs_one, packs_next, packs_failed_at}
 use Rattle.capnp_c.proofs.packed_messages.pack_each.Goals as goal
 
 pub returns-in_err-pack_into : goal.returns-in_err-pack_into

@@ -3,8 +3,8 @@ use Rattle.std.proofs.Common.{◌≡◌, ◌+◌, ◌≤◌, [], length, rules, 
 use Rattle.std.proofs.lemmas.Bool.{false≢true}
 use Rattle.capnp_frame.specs.Prelude.{kind_number}
 use Rattle.capnp_pack.specs.Prelude.{IsPackedEncoding}
-use Rattle.capnp_c.proofs.OneFrontMessageLemmas.{one_front}
-use Rattle.capnp_c.proofs.WholeBufferLemmas.{one_rest, message_alone, message_fits, message_error, encoding_of_parts}
+use Rattle.capnp_c.proofs.UniqueFrontMessageLemmas.{one_front}
+use Rattle.capnp_c.proofs.PackMessageIntoBufferLemmas.{one_rest, message_alone, message_fits, message_error, encoding_of_parts}
 use Rattle.capnp_c.proofs.packed_messages.pack_message.Goals as goal
 
 pub returns-in-Err : goal.returns-in-Err

@@ -1,7 +1,7 @@
 -- A message begins with its table.
 use Rattle.std.proofs.Common.{◌+◌, ◌*◌, ◌/◌, [], take, arith, sym, ap, ◌∙◌}
 use Rattle.std.proofs.lemmas.List.{length-take-le}
-use Rattle.capnp_c.proofs.WholeBufferLemmas.{front_table}
+use Rattle.capnp_c.proofs.PackMessageIntoBufferLemmas.{front_table}
 use Rattle.capnp_c.proofs.packed_messages.table_of.Goals as goal
 
 pub slice_bounds-result-end : goal.slice_bounds-result-end

@@ -1,8 +1,8 @@
 -- What is unpacked is the framed encoding of the message that is there.
 use Rattle.std.proofs.Common.{◌≡◌, length, rules, arith, ap, ◌∙◌, Some}
 use Rattle.capnp_frame.specs.Prelude.{kind_number}
-use Rattle.capnp_frame.proofs.sources.SourceCallLemmas.{never_fails}
-use Rattle.capnp_c.proofs.UnpackedMessageLemmas.{front_message, taken, none_found, own_kind, in_room}
+use Rattle.capnp_frame.proofs.sources.JoinedCallsAdvanceSourceLemmas.{never_fails}
+use Rattle.capnp_c.proofs.UnpackMessageIntoBufferLemmas.{front_message, taken, none_found, own_kind, in_room}
 use Rattle.capnp_c.proofs.packed_messages.unpack_message.Goals as goal
 
 pub returns-in-Ok-Some : goal.returns-in-Ok-Some

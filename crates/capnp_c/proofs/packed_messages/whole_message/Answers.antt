@@ -1,6 +1,6 @@
 -- At most one message is at the front of the bytes, and the bytes after it are determined.
 use Rattle.std.proofs.Common.{◌≡◌, ◌<◌, [], length, arith, ap, rules}
-use Rattle.capnp_c.proofs.WholeBufferLemmas.{one_rest}
+use Rattle.capnp_c.proofs.PackMessageIntoBufferLemmas.{one_rest}
 use Rattle.capnp_c.proofs.packed_messages.whole_message.Goals as goal
 
 pub returns-in_err-segments-clause-accepted : goal.returns-in_err-segments-clause-accepted

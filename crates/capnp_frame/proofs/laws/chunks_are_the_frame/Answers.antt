@@ -1,6 +1,6 @@
 -- The chunks of a message, joined, are its frame.
 use Rattle.std.proofs.Common.{length, ◌∙◌, ap}
-use Rattle.capnp_frame.proofs.encodings.FramedSizeLemmas.{concat-chunks, length-frame_bytes}
+use Rattle.capnp_frame.proofs.encodings.WrittenFrameSizeAndChunksLemmas.{concat-chunks, length-frame_bytes}
 use Rattle.capnp_frame.proofs.laws.chunks_are_the_frame.Goals as goal
 
 pub returns-clause-joined : goal.returns-clause-joined

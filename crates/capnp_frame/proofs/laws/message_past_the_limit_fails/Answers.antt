@@ -1,5 +1,5 @@
 -- Its table is there, and the next line is the limit's.
-use Rattle.capnp_frame.proofs.tables.WordLimitLemmas.{past_limit}
+use Rattle.capnp_frame.proofs.tables.ErrorAfterTableLemmas.{past_limit}
 use Rattle.capnp_frame.proofs.laws.message_past_the_limit_fails.Goals as goal
 
 pub returns : goal.returns

@@ -1,5 +1,5 @@
 -- Its table is the only one that is there.
-use Rattle.capnp_frame.proofs.sources.KeptMemoryLemmas.{fits_kept}
+use Rattle.capnp_frame.proofs.sources.KeptMemorySufficesLemmas.{fits_kept}
 use Rattle.capnp_frame.proofs.laws.smaller_messages_take_no_memory.Goals as goal
 
 pub returns : goal.returns

@@ -1,8 +1,8 @@
 -- The chunks are the frame, joined.
 use Rattle.std.proofs.Common.{sym, ◌∙◌}
 use Rattle.capnp_frame.specs.Prelude.{chunks}
-use Rattle.capnp_frame.proofs.sinks.SinkCallLemmas.{left_is_front}
-use Rattle.capnp_frame.proofs.encodings.FramedSizeLemmas.{concat-chunks}
+use Rattle.capnp_frame.proofs.sinks.ChunkWritesUntilFailureLemmas.{left_is_front}
+use Rattle.capnp_frame.proofs.encodings.WrittenFrameSizeAndChunksLemmas.{concat-chunks}
 use Rattle.capnp_frame.proofs.laws.what_is_left_of_a_message_is_a_front.Goals as goal
 
 pub returns : goal.returns

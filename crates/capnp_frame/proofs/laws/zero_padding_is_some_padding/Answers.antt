@@ -1,6 +1,6 @@
 -- Zeros are some padding, and the table that is written has no other.
-use Rattle.capnp_frame.proofs.encodings.FrameRequestLemmas.{zero_table_is}
-use Rattle.capnp_frame.proofs.encodings.MessageRequestLemmas.{zero_message_is}
+use Rattle.capnp_frame.proofs.encodings.PlainRequestsTakeFrameLemmas.{zero_table_is}
+use Rattle.capnp_frame.proofs.encodings.MessageFoundByRequestsLemmas.{zero_message_is}
 use Rattle.capnp_frame.proofs.laws.zero_padding_is_some_padding.Goals as goal
 
 pub returns-clause-table : goal.returns-clause-table

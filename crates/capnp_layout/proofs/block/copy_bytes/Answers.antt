@@ -1,5 +1,5 @@
 -- A front as long as the whole is the whole.
-use Rattle.capnp_layout.proofs.words.WholeFrontLemmas.{length_of_front, front_is_whole}
+use Rattle.capnp_layout.proofs.words.WholeSliceCopyLemmas.{length_of_front, front_is_whole}
 use Rattle.capnp_layout.proofs.block.copy_bytes.Goals as goal
 
 pub copy_from_slice-requires : goal.copy_from_slice-requires

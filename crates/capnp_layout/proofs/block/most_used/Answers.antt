@@ -1,8 +1,8 @@
 -- The most words that one part needs, part by part.
 use Rattle.std.proofs.Common.{◌≡◌, ◌+◌, ◌-◌, ◌/◌, ◌<◌, max, length, ◌∙◌, sym, arith, ℕ}
 use Rattle.capnp_layout.specs.Prelude.{words_of}
-use Rattle.capnp_layout.proofs.words.TrailingZeroLemmas.{most_next, most_none, most_within, stretch_next}
-use Rattle.capnp_layout.proofs.layouts.ObjectCopyLemmas.{most_within_parts}
+use Rattle.capnp_layout.proofs.words.LengthWithoutTrailingZerosLemmas.{most_next, most_none, most_within, stretch_next}
+use Rattle.capnp_layout.proofs.words.TrimmedSectionBoundLemmas.{most_within_parts}
 use Rattle.capnp_layout.proofs.block.most_used.Goals as goal
 
 pub returns-then-count-eq0-clause-value : goal.returns-then-count-eq0-clause-value

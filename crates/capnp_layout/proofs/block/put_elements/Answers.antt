@@ -1,8 +1,8 @@
 -- The last word of a list is put again, without the bits after its elements.
 use Rattle.std.proofs.Common.{◌≡◌, ℕ, ◌*◌, ◌%◌, ◌<◌, sym, ◌∙◌, ap, arith}
 use Rattle.capnp_layout.specs.Prelude.{words_of, code_of, width, words_for, put}
-use Rattle.capnp_layout.proofs.words.WordByteLemmas.{length-words_of}
-use Rattle.capnp_layout.proofs.objects.ListPaddingLemmas.{no_bits_left, part_word, shifted, any_below}
+use Rattle.capnp_layout.proofs.words.WordsOfBytesLemmas.{length-words_of}
+use Rattle.capnp_layout.proofs.objects.CopiedListLastWordMaskedLemmas.{no_bits_left, part_word, shifted, any_below}
 use Rattle.capnp_layout.proofs.block.put_elements.Goals as goal
 
 pub returns-then-following-ne0-clause-words : goal.returns-then-following-ne0-clause-words

@@ -1,6 +1,6 @@
 -- Words of a segment are put as their bytes.
 use Rattle.std.proofs.Common.{◌≡◌, ◌+◌, ◌*◌, ◌-◌, arith}
-use Rattle.capnp_layout.proofs.words.PutBytesLemmas.{words_part}
+use Rattle.capnp_layout.proofs.words.PutBytesAsWordsLemmas.{words_part}
 use Rattle.capnp_layout.proofs.block.put_words.Goals as goal
 
 pub returns-clause-words : goal.returns-clause-words

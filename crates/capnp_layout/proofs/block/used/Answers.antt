@@ -1,8 +1,8 @@
 -- Words are left out from the end on while they are zero.
 use Rattle.std.proofs.Common.{◌≡◌, ◌∙◌, arith}
 use Rattle.capnp_layout.specs.Prelude.{words_of}
-use Rattle.capnp_layout.proofs.words.WordByteLemmas.{length-words_of}
-use Rattle.capnp_layout.proofs.words.TrailingZeroLemmas.{last_used, last_unused}
+use Rattle.capnp_layout.proofs.words.WordsOfBytesLemmas.{length-words_of}
+use Rattle.capnp_layout.proofs.words.LengthWithoutTrailingZerosLemmas.{last_used, last_unused}
 use Rattle.capnp_layout.proofs.block.used.Goals as goal
 
 pub returns-then-word_at-ne0 : goal.returns-then-word_at-ne0

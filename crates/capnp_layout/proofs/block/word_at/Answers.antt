@@ -1,7 +1,7 @@
 -- A word of a segment is the number of its eight bytes.
 use Rattle.std.proofs.Common.{ℕ, ◌/◌, length, Some, slice_index_or, List, [], w64, sym, ◌∙◌, ap, arith}
 use Rattle.std.specs.Int.{from_le_bytes}
-use Rattle.capnp_layout.proofs.words.WordByteLemmas.{word_of_chunk}
+use Rattle.capnp_layout.proofs.words.WordsOfBytesLemmas.{word_of_chunk}
 use Rattle.capnp_layout.proofs.block.word_at.Goals as goal
 
 pub returns : goal.returns

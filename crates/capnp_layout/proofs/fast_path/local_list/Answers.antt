@@ -1,7 +1,7 @@
 -- A pointer points to a list of numbers in its segment where there is room for the list.
 use Rattle.std.proofs.Common.{◌+◌, ◌/◌, ◌≤◌, length, refl, sym, arith}
 use Rattle.capnp_layout.specs.Prelude.{words_of, code_of, width, words_for}
-use Rattle.capnp_layout.proofs.pointers.LocalObjectLemmas.{word_there, number_list_is_at}
+use Rattle.capnp_layout.proofs.pointers.LocalObjectIsAtLemmas.{word_there, number_list_is_at}
 use Rattle.capnp_layout.proofs.fast_path.local_list.Goals as goal
 
 pub returns : goal.returns

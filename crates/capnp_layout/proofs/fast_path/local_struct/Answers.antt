@@ -1,7 +1,7 @@
 -- A pointer points to a struct in its segment where there is room for the struct.
 use Rattle.std.proofs.Common.{◌+◌, ◌/◌, ◌≤◌, length, sym, arith}
 use Rattle.capnp_layout.specs.Prelude.{words_of}
-use Rattle.capnp_layout.proofs.pointers.LocalObjectLemmas.{word_there, struct_is_at_local}
+use Rattle.capnp_layout.proofs.pointers.LocalObjectIsAtLemmas.{word_there, struct_is_at_local}
 use Rattle.capnp_layout.proofs.fast_path.local_struct.Goals as goal
 
 pub returns : goal.returns

@@ -1,7 +1,7 @@
 -- A pointer points to a list of structs in its segment where there is room for its words, and for its elements in these.
 use Rattle.std.proofs.Common.{◌+◌, ◌*◌, ◌/◌, ◌≤◌, length, sym, arith}
 use Rattle.capnp_layout.specs.Prelude.{words_of}
-use Rattle.capnp_layout.proofs.pointers.LocalObjectLemmas.{word_there, struct_list_is_at}
+use Rattle.capnp_layout.proofs.pointers.LocalObjectIsAtLemmas.{word_there, struct_list_is_at}
 use Rattle.capnp_layout.proofs.fast_path.local_structs.Goals as goal
 
 pub returns : goal.returns

@@ -2,8 +2,8 @@
 use Rattle.std.proofs.Common.{◌<◌, Some, sym, ◌∙◌, ap, subst, arith, lit≤}
 use Rattle.std.proofs.lemmas.Result.{err_from_is_err_and}
 use Rattle.capnp_layout.specs.Prelude.{message_of, local, PointerError, no_word, past_segment, bad_landing_pad, capability}
-use Rattle.capnp_layout.proofs.pointers.LocalObjectLemmas.{word_there}
-use Rattle.capnp_layout.proofs.pointers.LandingPadLemmas.{local_landing}
+use Rattle.capnp_layout.proofs.pointers.LocalObjectIsAtLemmas.{word_there}
+use Rattle.capnp_layout.proofs.pointers.LandingPadTargetsAndErrorsLemmas.{local_landing}
 use Rattle.capnp_layout.proofs.landing_pad.resolve.Goals as goal
 
 pub returns-in_err-pointer-clause-errors : goal.returns-in_err-pointer-clause-errors

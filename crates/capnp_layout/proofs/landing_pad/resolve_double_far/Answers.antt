@@ -3,9 +3,9 @@ use Rattle.std.proofs.Common.{◌≡◌, ℕ, None, slice_get, sym, ap, ◌∙�
 use Rattle.capnp_layout.specs.Prelude.{landing_pad_segment, message_of, landing_pad, IsFar, BadLandingPad, not_far, no_content}
 use Rattle.capnp_layout.specs.declared.place.Place.{Place}
 use Rattle.capnp_frame.specs.declared.error.ErrorKind.TheVariants.{InvalidSegmentId}
-use Rattle.capnp_layout.proofs.words.MessageWordLemmas.{segment_is_there, no_segment_is_there}
-use Rattle.capnp_frame.proofs.sources.SourceCallLemmas.{passed_on}
-use Rattle.capnp_layout.proofs.pointers.LandingPadLemmas.{wide_error, is_far_word, not_far_word, wide_landing, content_place}
+use Rattle.capnp_layout.proofs.words.WordAtPlaceLemmas.{segment_is_there, no_segment_is_there}
+use Rattle.capnp_frame.proofs.sources.JoinedCallsAdvanceSourceLemmas.{passed_on}
+use Rattle.capnp_layout.proofs.pointers.LandingPadTargetsAndErrorsLemmas.{wide_error, is_far_word, not_far_word, wide_landing, content_place}
 use Rattle.capnp_layout.proofs.landing_pad.resolve_double_far.Given as given
 use Rattle.capnp_layout.proofs.landing_pad.resolve_double_far.Goals as goal
 use Rattle.capnp_layout.proofs.landing_pad.resolve_double_far.Goals.{In_ok-content}

@@ -1,9 +1,9 @@
 -- A far pointer points to its object through a landing pad of one word, or of two.
 use Rattle.std.proofs.Common.{◌≡◌, ℕ, Some, sym, subst}
 use Rattle.capnp_layout.specs.Prelude.{IsFarPointer, HasWideLandingPad, message_of, word_at, landing_pad, BadLandingPad, no_tag}
-use Rattle.capnp_frame.proofs.sources.SourceCallLemmas.{passed_on}
-use Rattle.capnp_layout.proofs.pointers.LandingPadLemmas.{not_is_true, not_is_false, narrow_landing, landing_pad_word, no_second_word, no_landing_pad_segment, no_landing_pad_word, narrow_error, is_narrow}
-use Rattle.capnp_layout.proofs.pointers.LandingPadLemmas.{is_double_far, wide_landing_pad, wide_found, wide_errors}
+use Rattle.capnp_frame.proofs.sources.JoinedCallsAdvanceSourceLemmas.{passed_on}
+use Rattle.capnp_layout.proofs.pointers.LandingPadTargetsAndErrorsLemmas.{not_is_true, not_is_false, narrow_landing, landing_pad_word, no_second_word, no_landing_pad_segment, no_landing_pad_word, narrow_error, is_narrow}
+use Rattle.capnp_layout.proofs.pointers.LandingPadTargetsAndErrorsLemmas.{is_double_far, wide_landing_pad, wide_found, wide_errors}
 use Rattle.capnp_layout.proofs.landing_pad.resolve_far.Given as given
 use Rattle.capnp_layout.proofs.landing_pad.resolve_far.Goals as goal
 use Rattle.capnp_layout.proofs.landing_pad.resolve_far.Goals.{In_ok-first, In_ok-tag}

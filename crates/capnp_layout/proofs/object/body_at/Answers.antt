@@ -2,7 +2,7 @@
 use Rattle.std.proofs.Common.{◌+◌, ◌/◌, ◌<◌, ◌≤◌, length, arith}
 use Rattle.std.proofs.lemmas.Result.{err_from_is_err_and}
 use Rattle.capnp_layout.specs.Prelude.{code, code_of, width, words_for}
-use Rattle.capnp_layout.proofs.pointers.ReadObjectLemmas.{struct_is_at, numbers_are_at, pointers_are_at, struct_misfits, list_misfits, pointers_misfit}
+use Rattle.capnp_layout.proofs.pointers.ObjectFitOrErrorLemmas.{struct_is_at, numbers_are_at, pointers_are_at, struct_misfits, list_misfits, pointers_misfit}
 use Rattle.capnp_layout.proofs.object.body_at.Goals as goal
 
 pub returns-in_err-expect_room-in-Struct-clause-errors : goal.returns-in_err-expect_room-in-Struct-clause-errors

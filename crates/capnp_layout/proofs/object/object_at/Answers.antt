@@ -1,8 +1,8 @@
 -- The segment of the pointer is there, or the call fails.
 use Rattle.std.proofs.Common.{sym, subst}
 use Rattle.capnp_layout.specs.Prelude.{message_of, PointerError, no_word, no_segment}
-use Rattle.capnp_layout.proofs.words.MessageWordLemmas.{segment_is_there, no_segment_is_there}
-use Rattle.capnp_frame.proofs.sources.SourceCallLemmas.{passed_on}
+use Rattle.capnp_layout.proofs.words.WordAtPlaceLemmas.{segment_is_there, no_segment_is_there}
+use Rattle.capnp_frame.proofs.sources.JoinedCallsAdvanceSourceLemmas.{passed_on}
 use Rattle.capnp_layout.proofs.object.object_at.Goals as goal
 
 pub returns-in_err-segment-clause-errors : goal.returns-in_err-segment-clause-errors

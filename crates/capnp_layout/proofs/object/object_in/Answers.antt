@@ -2,8 +2,8 @@
 use Rattle.std.proofs.Common.{◌<◌, sym, subst, arith}
 use Rattle.std.proofs.lemmas.Result.{err_from_is_err_and}
 use Rattle.capnp_layout.specs.Prelude.{message_of, IsStart, IsLanding, PointerError, too_deep, no_start, misfits, words_of}
-use Rattle.capnp_layout.proofs.pointers.LandingPadLemmas.{object_is_at}
-use Rattle.capnp_layout.proofs.trees.FieldRoomLemmas.{room_of_shape}
+use Rattle.capnp_layout.proofs.pointers.LandingPadTargetsAndErrorsLemmas.{object_is_at}
+use Rattle.capnp_layout.proofs.trees.ReadTreeSizesAndWordsBoundedLemmas.{room_of_shape}
 use Rattle.capnp_layout.proofs.object.object_in.Goals as goal
 
 pub returns-then-nesting-eq0-clause-errors : goal.returns-then-nesting-eq0-clause-errors

@@ -1,6 +1,6 @@
 -- Where there is a tree, no error is met.
 use Rattle.capnp_layout.specs.Prelude.{message_of}
-use Rattle.capnp_layout.proofs.layouts.CopiedTargetLemmas.{error_no_tree}
+use Rattle.capnp_layout.proofs.pointers.ErrorExcludesTreeLemmas.{error_no_tree}
 use Rattle.capnp_layout.proofs.object.object_there.Goals as goal
 
 pub returns-in-Err : goal.returns-in-Err

@@ -1,7 +1,7 @@
 -- The elements of a list of structs are after its tag.
 use Rattle.std.proofs.Common.{◌+◌, ◌*◌, ◌<◌, ◌≤◌, arith}
 use Rattle.std.proofs.lemmas.Result.{err_from_is_err_and}
-use Rattle.capnp_layout.proofs.pointers.ReadObjectLemmas.{structs_misfit, no_tag_misfits, odd_tag_misfits, many_elements_misfit, structs_are_at}
+use Rattle.capnp_layout.proofs.pointers.ObjectFitOrErrorLemmas.{structs_misfit, no_tag_misfits, odd_tag_misfits, many_elements_misfit, structs_are_at}
 use Rattle.capnp_layout.proofs.object.structs.Goals as goal
 
 pub returns-in_err-expect_room-clause-errors : goal.returns-in_err-expect_room-clause-errors

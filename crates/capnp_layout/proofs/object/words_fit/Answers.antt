@@ -1,6 +1,6 @@
 -- A number of eight bytes is below 2 ^ 64.
 use Rattle.std.proofs.Common.{arith}
-use Rattle.capnp_layout.proofs.objects.ListWordLemmas.{all_words_below}
+use Rattle.capnp_layout.proofs.objects.ByteListElementLemmas.{all_words_below}
 use Rattle.capnp_layout.proofs.object.words_fit.Goals as goal
 
 pub returns-clause-words : goal.returns-clause-words

@@ -2,7 +2,7 @@
 use Rattle.std.proofs.Common.{sym, subst}
 use Rattle.std.proofs.lemmas.Result.{err_from_is_err_and}
 use Rattle.capnp_layout.specs.Prelude.{message_of, NoWord, no_segment, past_segment}
-use Rattle.capnp_layout.proofs.words.MessageWordLemmas.{segment_is_there, no_segment_is_there, word_is_in_message}
+use Rattle.capnp_layout.proofs.words.WordAtPlaceLemmas.{segment_is_there, no_segment_is_there, word_is_in_message}
 use Rattle.capnp_layout.proofs.place.pointer_at.Goals as goal
 
 pub returns-in_err-segment : goal.returns-in_err-segment

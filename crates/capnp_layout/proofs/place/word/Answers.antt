@@ -2,7 +2,7 @@
 use Rattle.std.proofs.Common.{◌≡◌, ℕ, ◌/◌, ◌<◌, ◌≤◌, length, nat_lt, false, Some, slice_index_or, List, w64, sym, ◌∙◌, ap, arith}
 use Rattle.std.specs.Int.{from_le_bytes}
 use borrow.Author.Tests.{ltb-true, ltb-false}
-use Rattle.capnp_layout.proofs.words.WordByteLemmas.{word_of_chunk, no_word}
+use Rattle.capnp_layout.proofs.words.WordsOfBytesLemmas.{word_of_chunk, no_word}
 use Rattle.capnp_layout.proofs.place.word.Goals as goal
 
 pub returns-in-Some-clause-value : goal.returns-in-Some-clause-value

@@ -1,6 +1,6 @@
 -- These words are both options.
 use Rattle.std.proofs.Common.{◌≡◌, rules, codes, string_bytes}
-use Rattle.capnp_ls.proofs.LineLemmas.{two_words}
+use Rattle.capnp_ls.proofs.LineListsSegmentLengthsLemmas.{two_words}
 use Rattle.capnp_ls.proofs.command.options_of.Goals as goal
 
 pub returns-in-len2-clause-some : goal.returns-in-len2-clause-some

@@ -2,12 +2,12 @@
 use Rattle.std.proofs.Common.{rules, refl, inl, inr, length}
 use Rattle.capnp.specs.Prelude.{default_limit}
 use Rattle.capnp.proofs.PassedOn.{IfKnown-join, Advances-join, Fails-join, Grows-join}
-use Rattle.capnp.proofs.RunEndLemmas.{writes_each}
-use Rattle.capnp.proofs.FormatReaderLemmas.{skipping_error}
-use Rattle.capnp.proofs.RunLemmas.{HasWritten-next, written_next, all_written, most_written, failed_reading, failed_at_message, left_as_written, message_run_error}
+use Rattle.capnp.proofs.StreamEndByRunResultLemmas.{writes_each}
+use Rattle.capnp.proofs.ReaderOutcomeByFormatRulesLemmas.{skipping_error}
+use Rattle.capnp.proofs.RunOutputMessageByMessageLemmas.{HasWritten-next, written_next, all_written, most_written, failed_reading, failed_at_message, left_as_written, message_run_error}
 use Rattle.capnp_ls.specs.declared.command.Command.TheVariants.{Listing}
 use Rattle.capnp_ls.specs.Output.{Prints, PrintedErrors}
-use Rattle.capnp_ls.proofs.MessageLineLemmas.{few_lengths, line_written, message_line_left, line_error, line_untouched}
+use Rattle.capnp_ls.proofs.MessageLineWrittenOrErrorLemmas.{few_lengths, line_written, message_line_left, line_error, line_untouched}
 use Rattle.capnp_ls.proofs.lines.list_each.Goals as goal
 
 pub print_line-requires : goal.print_line-requires

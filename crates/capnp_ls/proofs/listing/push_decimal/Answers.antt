@@ -1,7 +1,7 @@
 -- Digit by digit, from the last.
 use Rattle.std.proofs.Common.{arith, rules, ◌≡◌, ◌+◌, ◌-◌, ap, ◌++◌, ◌∙◌, sym, length, take, drop, set, length-drop}
 use Rattle.std.proofs.lemmas.List.{take_all}
-use Rattle.capnp_ls.proofs.DecimalDigitLemmas.{two_places, tenth_below, digit_more, digit_first}
+use Rattle.capnp_ls.proofs.DecimalDigitsFromLastLemmas.{two_places, tenth_below, digit_more, digit_first}
 use Rattle.capnp_ls.proofs.listing.push_decimal.Goals as goal
 
 pub loop-left-preserved : goal.loop-left-preserved

@@ -4,7 +4,7 @@ use Rattle.std.specs.Prelude.{decimal}
 use Rattle.std.proofs.lemmas.List.{append-nil}
 use Rattle.std.proofs.lemmas.Option.{slice_get_within}
 use Rattle.capnp_ls.specs.Output.{spaced}
-use Rattle.capnp_ls.proofs.LineLemmas.{ListsLengths-next, ListsLengths-whole, lengths_parts}
+use Rattle.capnp_ls.proofs.LineListsSegmentLengthsLemmas.{ListsLengths-next, ListsLengths-whole, lengths_parts}
 use Rattle.capnp_ls.proofs.listing.write_line.Goals as goal
 
 pub overflow_add-id : goal.overflow_add-id

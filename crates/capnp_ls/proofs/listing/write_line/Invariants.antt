@@ -1,6 +1,6 @@
 -- The first lengths are listed after what was in the line before.
 use Rattle.std.proofs.Common.{◌-◌, ◌≡◌, ◌++◌, List, ℕ, length}
-use Rattle.capnp_ls.proofs.LineLemmas.{ListsLengths}
+use Rattle.capnp_ls.proofs.LineListsSegmentLengthsLemmas.{ListsLengths}
 use Rattle.capnp_ls.proofs.listing.write_line.Given as goal
 
 abbrev pub invariant-loop-words : goal.invariant-loop-words

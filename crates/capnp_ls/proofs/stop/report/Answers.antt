@@ -1,6 +1,6 @@
 -- What is left of the line is left of a line that reports the stop.
 use Rattle.capnp_ls.specs.Stop.{IsLineOf}
-use Rattle.capnp_ls.proofs.LineLemmas.{line_left}
+use Rattle.capnp_ls.proofs.LineListsSegmentLengthsLemmas.{line_left}
 use Rattle.capnp_ls.proofs.stop.report.Goals as goal
 
 pub returns-in_ok-line-in-Refused-clause-left : goal.returns-in_ok-line-in-Refused-clause-left

@@ -1,6 +1,6 @@
 -- The form is its own canonical form, and canonical.
 use Rattle.std.proofs.lemmas.Result.{err_from_is_err_and}
-use Rattle.capnp_message.proofs.FormOfFormLemmas.{own_of, has_form, one_form, form_canonical}
+use Rattle.capnp_message.proofs.IdempotentCanonicalFormLemmas.{own_of, has_form, one_form, form_canonical}
 use Rattle.capnp_message.proofs.laws.canonicalize_form.Goals as goal
 
 pub returns-in_err-is_canonical-clause-kind : goal.returns-in_err-is_canonical-clause-kind

@@ -2,7 +2,7 @@
 use Rattle.std.proofs.Common.{◌∙◌, ap}
 use Rattle.std.proofs.lemmas.Result.{err_from_is_err_and}
 use Rattle.capnp_layout.specs.Prelude.{words_of}
-use Rattle.capnp_message.proofs.FormOfFormLemmas.{one_form}
+use Rattle.capnp_message.proofs.IdempotentCanonicalFormLemmas.{one_form}
 use Rattle.capnp_message.proofs.laws.canonicalize_twice.Goals as goal
 
 pub returns-clause-same : goal.returns-clause-same

@@ -5,7 +5,7 @@ use Rattle.capnp_orphans.specs.Orphans.{IsOrphan}
 use Rattle.capnp_orphans.specs.Segments.{body_of}
 use Rattle.capnp_orphans.specs.OrphanLaws.{struct_value, keeps_on}
 use Rattle.capnp_orphan_tests.specs.Uses.{IsBinary, binary, node_words}
-use Rattle.capnp_orphan_tests.proofs.BinaryTreeLemmas.{binary_in_front}
+use Rattle.capnp_orphan_tests.proofs.CanonicalFormDeterminedByRootTreeLemmas.{binary_in_front}
 use Rattle.capnp_orphan_tests.proofs.uses.+tree.Goals as goal
 
 pub returns-then-depth-eq0 : goal.returns-then-depth-eq0

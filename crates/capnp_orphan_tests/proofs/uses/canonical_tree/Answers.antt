@@ -3,7 +3,7 @@ use Rattle.std.proofs.Common.{◌≡◌, ◌∷◌, [], ℕ, subst, sym, ap}
 use Rattle.capnp_layout.specs.Prelude.{none, message_of, At, root, word_numbers}
 use Rattle.capnp_orphans.specs.Segments.{Segment}
 use Rattle.capnp_orphan_tests.specs.Uses.{binary}
-use Rattle.capnp_orphan_tests.proofs.BinaryTreeLemmas.{canonical_tree_of}
+use Rattle.capnp_orphan_tests.proofs.CanonicalFormDeterminedByRootTreeLemmas.{canonical_tree_of}
 use Rattle.capnp_orphan_tests.proofs.uses.canonical_tree.Goals as goal
 
 pub returns : goal.returns

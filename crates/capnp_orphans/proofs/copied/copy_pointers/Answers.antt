@@ -2,7 +2,7 @@
 use Rattle.std.proofs.Common.{◌≡◌, ℕ, length, arith, refl, sym, subst}
 use Rattle.capnp_wire.specs.Prelude.{struct_of, pointer_of}
 use Rattle.capnp_orphans.specs.Holds.{word_of}
-use Rattle.capnp_orphans.proofs.PointersCopyLemmas.{ArePointersCopied, one_copied, all_copied, copy_failed, same_failure}
+use Rattle.capnp_orphans.proofs.PointersCopiedUntilErrorLemmas.{ArePointersCopied, one_copied, all_copied, copy_failed, same_failure}
 use Rattle.capnp_orphans.proofs.copied.copy_pointers.Goals as goal
 
 pub returns-in_err-copy : goal.returns-in_err-copy

@@ -1,6 +1,6 @@
 -- The first pointers are copied.
 use Rattle.capnp_wire.specs.Prelude.{struct_of}
-use Rattle.capnp_orphans.proofs.PointersCopyLemmas.{ArePointersCopied}
+use Rattle.capnp_orphans.proofs.PointersCopiedUntilErrorLemmas.{ArePointersCopied}
 use Rattle.capnp_orphans.proofs.copied.copy_pointers.Given as goal
 
 abbrev pub invariant-loop-index : goal.invariant-loop-index

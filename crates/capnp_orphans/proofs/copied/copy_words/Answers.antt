@@ -1,7 +1,7 @@
 -- One more word is copied.
 use Rattle.std.proofs.Common.{length, arith}
 use Rattle.capnp_wire.specs.Prelude.{struct_of}
-use Rattle.capnp_orphans.proofs.OnePointerCopyLemmas.{next_word}
+use Rattle.capnp_orphans.proofs.PointerCopyWordsAndErrorLemmas.{next_word}
 use Rattle.capnp_orphans.proofs.copied.copy_words.Goals as goal
 
 pub loop-index-preserved : goal.loop-index-preserved

@@ -1,6 +1,6 @@
 -- A field is some of the bits of the data word that it is in.
 use Rattle.std.proofs.Common.{◌*◌, ◌/◌, ◌%◌, ◌^◌, ℕ, sym, ap, ◌∙◌, arith}
-use Rattle.capnp_wire.proofs.words.BitLemmas.{field_in_word}
+use Rattle.capnp_wire.proofs.words.FieldAndElementAreBitsLemmas.{field_in_word}
 use Rattle.capnp_orphans.proofs.draft.field_bits.Goals as goal
 
 pub returns-clause-bits : goal.returns-clause-bits

@@ -1,5 +1,5 @@
--- The law, as ResizedDataLemmas proves it.
-use Rattle.capnp_orphans.proofs.ResizedDataLemmas.{field_in}
+-- The law, as ResizedDataFieldLemmas proves it.
+use Rattle.capnp_orphans.proofs.ResizedDataFieldLemmas.{field_in}
 use Rattle.capnp_orphans.proofs.laws.fields_stay.Goals as goal
 
 pub returns : goal.returns

@@ -1,6 +1,6 @@
 -- The bytes from the first one on are zero.
 use Rattle.std.proofs.Common.{◌≡◌, ◌∙◌, ◌+◌, ◌-◌, ℕ, length, take, drop, replicate, ap, arith, length-take, length-drop}
-use Rattle.capnp_orphans.proofs.WrittenOrphanLemmas.{middle_zero}
+use Rattle.capnp_orphans.proofs.WrittenBlockIsOrphanLemmas.{middle_zero}
 use Rattle.capnp_orphans.proofs.segment.prepare.Goals as goal
 
 pub returns-then-bytes-from-ge64-clause-zero : goal.returns-then-bytes-from-ge64-clause-zero

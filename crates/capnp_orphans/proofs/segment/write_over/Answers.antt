@@ -1,7 +1,7 @@
 -- The object's block replaces the bytes from this one on.
 use Rattle.std.proofs.Common.{◌≡◌, ◌∙◌, ◌+◌, ◌-◌, ◌*◌, ◌≤◌, ◌++◌, ℕ, List, length, take, drop, sym, ap, subst, arith, length-take, length-drop}
 use Rattle.std.specs.Prelude.{replicate}
-use Rattle.capnp_orphans.proofs.WrittenOrphanLemmas.{middle_part, middle_long}
+use Rattle.capnp_orphans.proofs.WrittenBlockIsOrphanLemmas.{middle_part, middle_long}
 use Rattle.capnp_orphans.proofs.segment.write_over.Goals as goal
 
 part_long : (from added : ℕ) (bytes : List ℕ) → from + added ≤ length bytes → length (take (from + added - from) (drop from bytes)) ≡ added

@@ -1,10 +1,10 @@
 -- Each struct is put after those before it.
 use Rattle.std.proofs.Common.{◌≡◌, ◌+◌, ◌-◌, ◌*◌, ◌<◌, ◌≤◌, ℕ, ◌++◌, length, drop, arith, length-take, length-drop, ap, ◌∙◌}
 use Rattle.capnp_layout.specs.Prelude.{words_of}
-use Rattle.capnp_layout.proofs.words.WordByteLemmas.{length-words_of}
-use Rattle.capnp_layout.proofs.objects.StructElementLemmas.{struct_ends}
+use Rattle.capnp_layout.proofs.words.WordsOfBytesLemmas.{length-words_of}
+use Rattle.capnp_layout.proofs.objects.StructElementPlaceLemmas.{struct_ends}
 use Rattle.capnp_orphans.specs.Orphans.{links}
-use Rattle.capnp_orphans.proofs.OrphanStructListLemmas.{element_put, all_elements, sized_more, all_sized}
+use Rattle.capnp_orphans.proofs.StructDraftsWrittenAsOrphanLemmas.{element_put, all_elements, sized_more, all_sized}
 use Rattle.capnp_orphans.proofs.struct_list.put_elements.Goals as goal
 
 pub loop-index-preserved : goal.loop-index-preserved

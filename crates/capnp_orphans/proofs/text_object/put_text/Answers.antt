@@ -1,6 +1,6 @@
 -- The last word is zero where the bytes end.
 use Rattle.std.proofs.Common.{◌++◌, ◌-◌, ◌∙◌, ℕ, List, length, take, drop, ap, arith, length-take, length-drop}
-use Rattle.capnp_orphans.proofs.TextBlockLemmas.{end_zero}
+use Rattle.capnp_orphans.proofs.WrittenTextIsOrphanLemmas.{end_zero}
 use Rattle.capnp_orphans.proofs.text_object.put_text.Goals as goal
 
 pub returns-clause-put : goal.returns-clause-put

@@ -4,10 +4,10 @@ use Rattle.std.specs.Prelude.{option_map}
 use Rattle.std.proofs.lemmas.List.{length-map}
 use Rattle.std.proofs.lemmas.Option.{slice_get-map, slice_get_read}
 use Rattle.capnp_layout.specs.Prelude.{words_of}
-use Rattle.capnp_layout.proofs.words.WordByteLemmas.{length-words_of}
-use Rattle.capnp_values.proofs.structs.StructSectionLemmas.{next_put, all_put}
+use Rattle.capnp_layout.proofs.words.WordsOfBytesLemmas.{length-words_of}
+use Rattle.capnp_values.proofs.structs.DataWordWriteLemmas.{next_put, all_put}
 use Rattle.capnp_orphans.specs.Orphans.{link, links}
-use Rattle.capnp_orphans.proofs.OrphanPointerLemmas.{links_get, length-orphan_links}
+use Rattle.capnp_orphans.proofs.OrphanPointerReadLemmas.{links_get, length-orphan_links}
 use Rattle.capnp_orphans.proofs.written.put_links.Goals as goal
 
 pub put_word-requires : goal.put_word-requires

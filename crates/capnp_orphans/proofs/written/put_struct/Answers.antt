@@ -2,7 +2,7 @@
 use Rattle.std.proofs.Common.{◌+◌, ◌*◌, ◌∙◌, ℕ, List, drop, length, ap, arith, length-take}
 use Rattle.std.proofs.lemmas.List.{map-id}
 use Rattle.capnp_orphans.specs.Orphans.{links}
-use Rattle.capnp_orphans.proofs.WrittenOrphanLemmas.{two_parts}
+use Rattle.capnp_orphans.proofs.WrittenBlockIsOrphanLemmas.{two_parts}
 use Rattle.capnp_orphans.proofs.written.put_struct.Goals as goal
 
 pub returns-clause-words : goal.returns-clause-words

@@ -1,6 +1,6 @@
 -- The bytes are one part.
 use Rattle.std.proofs.Common.{rules}
-use Rattle.capnp_pack.proofs.packing.CallSequenceLemmas.{hands_chunk}
+use Rattle.capnp_pack.proofs.packing.PackerOutcomeFromSinkCallLemmas.{hands_chunk}
 use Rattle.capnp_pack.proofs.buffer.flush.Goals as goal
 
 pub returns-clause-hands : goal.returns-clause-hands

@@ -2,8 +2,8 @@
 use Rattle.std.proofs.Common.{rules, arith, ◌≡◌, ◌<◌, ◌∙◌, sym, ap, subst, length, w8}
 use lib.Count.{ones}
 use borrow.Rule.Simd.Moves.{SwzOk}
-use Rattle.capnp_pack.proofs.tables.FrontLaneLemmas.{front_lanes, front_zero}
-use Rattle.capnp_pack.proofs.tables.MarkedByteLemmas.{mark_entry_of, mark_entry_ok, ones_tag}
+use Rattle.capnp_pack.proofs.tables.StoredLanesPackOrSpreadLemmas.{front_lanes, front_zero}
+use Rattle.capnp_pack.proofs.tables.CompactShuffleLemmas.{mark_entry_of, mark_entry_ok, ones_tag}
 use Rattle.capnp_pack.proofs.buffer.nonzero_front.Goals as goal
 
 pub swizzle : goal.swizzle

@@ -2,7 +2,7 @@
 use Rattle.std.proofs.Common.{rules, arith, ◌≡◌, [], ◌∷◌, ◌++◌, ◌∙◌, ap, take, length, append_assoc}
 use lib.Count.{ones, ones-le}
 use Rattle.capnp_pack.specs.Prelude.{nonzero}
-use Rattle.capnp_pack.proofs.tables.FrontLaneLemmas.{stored, stored_zero}
+use Rattle.capnp_pack.proofs.tables.StoredLanesPackOrSpreadLemmas.{stored, stored_zero}
 use Rattle.capnp_pack.proofs.buffer.push_word.Goals as goal
 
 pub returns-clause-word : goal.returns-clause-word

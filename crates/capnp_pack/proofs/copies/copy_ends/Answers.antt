@@ -1,7 +1,7 @@
 -- The two moves meet.
 use Rattle.std.proofs.Common.{rules, arith, ◌-◌, ◌≡◌, ◌∙◌, ap, length, take, drop, length-drop}
 use Rattle.std.proofs.lemmas.List.{take_all}
-use Rattle.capnp_pack.proofs.unpacking.ShownByteLemmas.{copied_ends}
+use Rattle.capnp_pack.proofs.unpacking.ShownGroupsUnpackToBufferLemmas.{copied_ends}
 use Rattle.capnp_pack.proofs.copies.copy_ends.Goals as goal
 
 pub returns : goal.returns

@@ -1,6 +1,6 @@
 -- What is copied is the front of what is shown.
 use Rattle.std.proofs.Common.{rules, take}
-use Rattle.capnp_pack.proofs.unpacking.StoredByteLemmas.{shown_bytes_taken}
+use Rattle.capnp_pack.proofs.unpacking.LiteralRunReadLemmas.{shown_bytes_taken}
 use Rattle.capnp_pack.proofs.group.copy_shown.Goals as goal
 
 pub returns-clause-takes : goal.returns-clause-takes

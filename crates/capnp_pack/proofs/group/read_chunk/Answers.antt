@@ -1,11 +1,11 @@
 -- Each group returns a part of what the ones before it left of the request.
 use Rattle.std.proofs.Common.{rules, inr, ◌≡◌, ◌+◌, ◌-◌, ◌≤◌, arith, ◌∙◌, sym, subst, length}
 use Rattle.capnp_pack.specs.Prelude.{Unpacks, PackedError}
-use Rattle.capnp_frame.proofs.sources.RequestSequenceLemmas.{Advances-join, ReturnsPart-fill, not_empty_before, ends}
-use Rattle.capnp_frame.proofs.sources.SourceCallLemmas.{passed_on, Asked-err}
-use Rattle.capnp_pack.proofs.errors.OverrunLemmas.{over_after}
-use Rattle.capnp_pack.proofs.unpacking.TakenGroupLemmas.{more_taken}
-use Rattle.capnp_pack.proofs.errors.ChunkErrorLemmas.{group_failed, group_missing, first_missing, chunk_taken, no_chunk_taken, end_before}
+use Rattle.capnp_frame.proofs.sources.JoinedRequestPartsLemmas.{Advances-join, ReturnsPart-fill, not_empty_before, ends}
+use Rattle.capnp_frame.proofs.sources.JoinedCallsAdvanceSourceLemmas.{passed_on, Asked-err}
+use Rattle.capnp_pack.proofs.errors.ConsumedAtCountOverrunLemmas.{over_after}
+use Rattle.capnp_pack.proofs.unpacking.TakenGroupsUnpackedByteCountLemmas.{more_taken}
+use Rattle.capnp_pack.proofs.errors.ChunkRequestErrorLemmas.{group_failed, group_missing, first_missing, chunk_taken, no_chunk_taken, end_before}
 use Rattle.capnp_pack.proofs.group.read_chunk.Goals as goal
 
 pub returns-in_err-count-clause-errors : goal.returns-in_err-count-clause-errors

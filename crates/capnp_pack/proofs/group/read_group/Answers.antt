@@ -1,9 +1,9 @@
 -- A group is a part of the result of each request that it fits into.
 use Rattle.std.proofs.Common.{rules, refl}
-use Rattle.capnp_pack.proofs.packing.CallSequenceLemmas.{next_err, next_ok}
-use Rattle.capnp_frame.proofs.sources.SourceCallLemmas.{passed_on}
-use Rattle.capnp_pack.proofs.errors.OverrunLemmas.{device_is_other, first_over}
-use Rattle.capnp_pack.proofs.unpacking.FrontGroupLemmas.{group_found}
+use Rattle.capnp_pack.proofs.unpacking.UnpackerOutcomeFromSourceCallLemmas.{next_err, next_ok}
+use Rattle.capnp_frame.proofs.sources.JoinedCallsAdvanceSourceLemmas.{passed_on}
+use Rattle.capnp_pack.proofs.errors.ConsumedAtCountOverrunLemmas.{device_is_other, first_over}
+use Rattle.capnp_pack.proofs.unpacking.GroupIsRequestPartLemmas.{group_found}
 use Rattle.capnp_pack.proofs.errors.GroupErrorLemmas.{group_error}
 use Rattle.capnp_pack.proofs.group.read_group.Goals as goal
 

@@ -1,7 +1,7 @@
 -- The groups that are shown are a part of the result of each request that they fit into.
 use Rattle.std.proofs.Common.{rules, arith, ◌<◌}
-use Rattle.capnp_pack.proofs.unpacking.TakenGroupLemmas.{shown_taken}
-use Rattle.capnp_pack.proofs.unpacking.ShownByteLemmas.{shown_takes, shown_some}
+use Rattle.capnp_pack.proofs.unpacking.TakenGroupsUnpackedByteCountLemmas.{shown_taken}
+use Rattle.capnp_pack.proofs.unpacking.ShownGroupsUnpackToBufferLemmas.{shown_takes, shown_some}
 use Rattle.capnp_pack.proofs.group.read_groups.Goals as goal
 
 pub returns-clause-takes : goal.returns-clause-takes

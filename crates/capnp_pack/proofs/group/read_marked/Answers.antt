@@ -1,9 +1,9 @@
 -- Each byte is read by its bit.
 use Rattle.std.proofs.Common.{rules, take}
 use Rattle.std.proofs.lemmas.List.{length-take-le, take_all, take_more_set}
-use Rattle.capnp_frame.proofs.sources.RequestSequenceLemmas.{Advances-join}
-use Rattle.capnp_pack.proofs.packing.CallSequenceLemmas.{takes_err}
-use Rattle.capnp_pack.proofs.words.TaggedWordLemmas.{marks_more, marks_all, marks_cut}
+use Rattle.capnp_frame.proofs.sources.JoinedRequestPartsLemmas.{Advances-join}
+use Rattle.capnp_pack.proofs.unpacking.UnpackerOutcomeFromSourceCallLemmas.{takes_err}
+use Rattle.capnp_pack.proofs.words.MarkedByteReadLemmas.{marks_more, marks_all, marks_cut}
 use Rattle.capnp_pack.proofs.group.read_marked.Goals as goal
 
 pub returns-in_err-byte : goal.returns-in_err-byte

@@ -1,7 +1,7 @@
 -- The bytes so far belong to the tag, and the bits that are left give the others.
 use Rattle.std.proofs.Common.{take}
 use Rattle.capnp_frame.specs.Prelude.{IfKnown, Advances}
-use Rattle.capnp_pack.proofs.words.TaggedWordLemmas.{MarksTo}
+use Rattle.capnp_pack.proofs.words.MarkedByteReadLemmas.{MarksTo}
 use Rattle.capnp_pack.proofs.group.read_marked.Given as goal
 
 abbrev pub invariant-loop-byte : goal.invariant-loop-byte

@@ -1,10 +1,10 @@
 -- The run is a request of a given number of bytes, after its count.
 use Rattle.std.proofs.Common.{rules, arith}
 use Rattle.std.proofs.lemmas.Grind.{common_steps}
-use Rattle.capnp_pack.proofs.packing.CallSequenceLemmas.{takes_passed, takes_err, takes_own, takes_ok}
-use Rattle.capnp_frame.proofs.sources.SourceCallLemmas.{passed_on}
-use Rattle.capnp_pack.proofs.errors.OverrunLemmas.{cut_is_other, short_is_other, count_over}
-use Rattle.capnp_pack.proofs.errors.RunErrorLemmas.{count_missing, count_large, run_short}
+use Rattle.capnp_pack.proofs.unpacking.UnpackerOutcomeFromSourceCallLemmas.{takes_passed, takes_err, takes_own, takes_ok}
+use Rattle.capnp_frame.proofs.sources.JoinedCallsAdvanceSourceLemmas.{passed_on}
+use Rattle.capnp_pack.proofs.errors.ConsumedAtCountOverrunLemmas.{cut_is_other, short_is_other, count_over}
+use Rattle.capnp_pack.proofs.errors.LiteralRunErrorLemmas.{count_missing, count_large, run_short}
 use Rattle.capnp_pack.proofs.group.read_run.Goals as goal
 
 pub returns-in_err-further-clause-takes : goal.returns-in_err-further-clause-takes

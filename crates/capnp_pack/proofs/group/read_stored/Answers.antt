@@ -1,7 +1,7 @@
 -- What is copied and what is read after it are the bytes, joined.
 use Rattle.std.proofs.Common.{rules}
-use Rattle.capnp_pack.proofs.packing.CallSequenceLemmas.{takes_err, takes_ok}
-use Rattle.capnp_pack.proofs.unpacking.StoredByteLemmas.{stored_given, stored_short}
+use Rattle.capnp_pack.proofs.unpacking.UnpackerOutcomeFromSourceCallLemmas.{takes_err, takes_ok}
+use Rattle.capnp_pack.proofs.unpacking.LiteralRunReadLemmas.{stored_given, stored_short}
 use Rattle.capnp_pack.proofs.group.read_stored.Goals as goal
 
 pub returns-in_err-read_exact : goal.returns-in_err-read_exact

@@ -1,10 +1,10 @@
 -- A marked word, and a run after it where its tag is 255.
 use Rattle.std.proofs.Common.{rules, arith, length, ◌≡◌, take, drop, take_at}
-use Rattle.capnp_pack.proofs.packing.CallSequenceLemmas.{takes_passed, takes_err, takes_ok}
-use Rattle.capnp_frame.proofs.sources.SourceCallLemmas.{passed_on}
-use Rattle.capnp_pack.proofs.errors.OverrunLemmas.{cut_is_other, literal_over}
-use Rattle.capnp_pack.proofs.errors.RunErrorLemmas.{word_cut, run_cut}
-use Rattle.capnp_pack.proofs.unpacking.WordGroupLemmas.{tagged_found, literal_found, filled_front}
+use Rattle.capnp_pack.proofs.unpacking.UnpackerOutcomeFromSourceCallLemmas.{takes_passed, takes_err, takes_ok}
+use Rattle.capnp_frame.proofs.sources.JoinedCallsAdvanceSourceLemmas.{passed_on}
+use Rattle.capnp_pack.proofs.errors.ConsumedAtCountOverrunLemmas.{cut_is_other, literal_over}
+use Rattle.capnp_pack.proofs.errors.LiteralRunErrorLemmas.{word_cut, run_cut}
+use Rattle.capnp_pack.proofs.unpacking.MarkedWordAndRunAreGroupLemmas.{tagged_found, literal_found, filled_front}
 use Rattle.capnp_pack.proofs.group.read_words.Goals as goal
 
 pub returns-in_err-read_word-clause-takes : goal.returns-in_err-read_word-clause-takes

@@ -1,11 +1,11 @@
 -- The count after the tag is the length of the run.
 use Rattle.std.proofs.Common.{rules, arith, ◌+◌, ◌*◌, refl}
 use Rattle.std.proofs.lemmas.Grind.{common_steps}
-use Rattle.capnp_pack.proofs.packing.CallSequenceLemmas.{takes_own}
-use Rattle.capnp_frame.proofs.sources.SourceCallLemmas.{passed_on}
-use Rattle.capnp_pack.proofs.errors.OverrunLemmas.{device_is_other, zeros_over}
+use Rattle.capnp_pack.proofs.unpacking.UnpackerOutcomeFromSourceCallLemmas.{takes_own}
+use Rattle.capnp_frame.proofs.sources.JoinedCallsAdvanceSourceLemmas.{passed_on}
+use Rattle.capnp_pack.proofs.errors.ConsumedAtCountOverrunLemmas.{device_is_other, zeros_over}
 use Rattle.capnp_pack.proofs.errors.GroupErrorLemmas.{group_run_error, count_error}
-use Rattle.capnp_pack.proofs.unpacking.FrontGroupLemmas.{zeros_found}
+use Rattle.capnp_pack.proofs.unpacking.GroupIsRequestPartLemmas.{zeros_found}
 use Rattle.capnp_pack.proofs.group.read_zeros.Goals as goal
 
 pub returns-then-count-buffer-clause-takes : goal.returns-then-count-buffer-clause-takes

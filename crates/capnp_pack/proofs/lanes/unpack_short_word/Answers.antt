@@ -1,7 +1,7 @@
 -- The marked bytes are the front of those that are copied.
 use Rattle.std.proofs.Common.{rules, arith, ◌≤◌, ◌≡◌, ◌∙◌, sym, ap, take}
 use Rattle.std.proofs.lemmas.List.{take-take}
-use Rattle.capnp_pack.proofs.tables.BytePlaceLemmas.{spread_front}
+use Rattle.capnp_pack.proofs.tables.ExpandShuffleLemmas.{spread_front}
 use Rattle.capnp_pack.proofs.lanes.unpack_short_word.Goals as goal
 
 pub returns-clause-taken : goal.returns-clause-taken

@@ -1,8 +1,8 @@
 -- The table has each lane's place.
 use Rattle.std.proofs.Common.{rules, arith, ◌<◌, sym, subst, w8}
 use borrow.Rule.Simd.Moves.{SwzOk}
-use Rattle.capnp_pack.proofs.tables.FrontLaneLemmas.{spread_lanes}
-use Rattle.capnp_pack.proofs.tables.BytePlaceLemmas.{entry_of, entry_ok}
+use Rattle.capnp_pack.proofs.tables.StoredLanesPackOrSpreadLemmas.{spread_lanes}
+use Rattle.capnp_pack.proofs.tables.ExpandShuffleLemmas.{entry_of, entry_ok}
 use Rattle.capnp_pack.proofs.lanes.unpack_word.Goals as goal
 
 pub swizzle : goal.swizzle

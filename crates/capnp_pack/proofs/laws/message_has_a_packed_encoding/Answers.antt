@@ -1,5 +1,5 @@
 -- Its table and its segments are whole words, which have packed encodings.
-use Rattle.capnp_pack.proofs.encodings.PackedFrameLemmas.{packed_encoding_some}
+use Rattle.capnp_pack.proofs.encodings.FoundMessageIsPackedFrameLemmas.{packed_encoding_some}
 use Rattle.capnp_pack.proofs.laws.message_has_a_packed_encoding.Goals as goal
 
 pub returns : goal.returns

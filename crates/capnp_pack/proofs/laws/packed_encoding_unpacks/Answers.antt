@@ -1,5 +1,5 @@
 -- A packed encoding is a chunk, and a request has at most one result.
-use Rattle.capnp_pack.proofs.packing.OneEncodingLemmas.{Packs-unpacks, Packs-unpacks-alone}
+use Rattle.capnp_pack.proofs.packing.WordsPackUniquelyAndUnpackLemmas.{Packs-unpacks, Packs-unpacks-alone}
 use Rattle.capnp_pack.proofs.laws.packed_encoding_unpacks.Goals as goal
 
 pub returns-clause-alone : goal.returns-clause-alone

@@ -1,8 +1,8 @@
 -- The parts that are left are a front of the only packed encoding.
 use Rattle.std.proofs.Common.{inl, inr, sym, ap, ◌++◌, ◌∙◌}
 use Rattle.std.specs.List.{concat}
-use Rattle.capnp_frame.proofs.sinks.SinkCallLemmas.{left_is_front}
-use Rattle.capnp_pack.proofs.packing.OneEncodingLemmas.{Packs-once}
+use Rattle.capnp_frame.proofs.sinks.ChunkWritesUntilFailureLemmas.{left_is_front}
+use Rattle.capnp_pack.proofs.packing.WordsPackUniquelyAndUnpackLemmas.{Packs-once}
 use Rattle.capnp_pack.proofs.laws.what_is_left_of_packed_words_is_a_front.Goals as goal
 
 pub returns : goal.returns

@@ -1,14 +1,14 @@
 -- The buffer takes the front of what is left, and then a call packs more of it or hands the buffer on.
 use Rattle.std.proofs.Common.{arith, ◌-◌, ap, length, length-drop, take, drop, refl, []}
 use Rattle.std.proofs.lemmas.List.{nil_from_length}
-use Rattle.capnp_frame.proofs.sources.RequestSequenceLemmas.{Grows-join}
+use Rattle.capnp_frame.proofs.sources.JoinedRequestPartsLemmas.{Grows-join}
 use Rattle.capnp_pack.proofs.packing.BufferedGroupLemmas.{handed_on, taken_on, words_from_done}
-use Rattle.capnp_pack.proofs.packing.CallSequenceLemmas.{hands_last, hands_failed}
+use Rattle.capnp_pack.proofs.packing.PackerOutcomeFromSinkCallLemmas.{hands_last, hands_failed}
 use Rattle.capnp_pack.proofs.words.ChunkWordLemmas.{whole_words}
-use Rattle.capnp_pack.proofs.packing.PackerGrantLemmas.{granted_kept, granted_last, granted_on}
-use Rattle.capnp_pack.proofs.packing.FailedPackLemmas.{left_last, left_rest}
-use Rattle.capnp_pack.proofs.packing.OneEncodingLemmas.{Packs-of-words}
-use Rattle.capnp_pack.proofs.packing.WholeChunkLemmas.{packed_all}
+use Rattle.capnp_pack.proofs.packing.GrantCoversGroupAndRestLemmas.{granted_kept, granted_last, granted_on}
+use Rattle.capnp_pack.proofs.packing.LeftAfterFailureLemmas.{left_last, left_rest}
+use Rattle.capnp_pack.proofs.packing.WordsPackUniquelyAndUnpackLemmas.{Packs-of-words}
+use Rattle.capnp_pack.proofs.packing.ChunkPackedGroupByGroupLemmas.{packed_all}
 use Rattle.capnp_pack.proofs.packed_write.pack.Goals as goal
 
 pub loop-left-preserved : goal.loop-left-preserved

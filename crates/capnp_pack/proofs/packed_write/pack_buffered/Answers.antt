@@ -1,7 +1,7 @@
 -- The last word is packed after those before it.
 use Rattle.std.proofs.Common.{rules, arith, ◌≡◌, ◌<◌, ◌+◌, ◌-◌, length, get_or, [], take, drop}
 use Rattle.capnp_pack.proofs.packing.BufferedGroupLemmas.{buffered_more, last_word, no_word_left, tagged_group}
-use Rattle.capnp_pack.proofs.packing.WholeChunkLemmas.{next_words, other_words}
+use Rattle.capnp_pack.proofs.packing.ChunkPackedGroupByGroupLemmas.{next_words, other_words}
 use Rattle.capnp_pack.proofs.packed_write.pack_buffered.Goals as goal
 
 pub returns-clause-packs : goal.returns-clause-packs

@@ -1,10 +1,10 @@
 -- The word and its tag are in the buffer, in front of the words after it.
 use Rattle.std.proofs.Common.{rules, length, take, ◌≡◌, Ok, refl, sym}
-use Rattle.capnp_pack.proofs.packing.CallSequenceLemmas.{hands_passed}
+use Rattle.capnp_pack.proofs.packing.PackerOutcomeFromSinkCallLemmas.{hands_passed}
 use Rattle.capnp_pack.proofs.words.ChunkWordLemmas.{each_word}
-use Rattle.capnp_pack.proofs.packing.PackerGrantLemmas.{literal_granted}
-use Rattle.capnp_pack.proofs.packing.HandedOnLemmas.{Hands-same}
-use Rattle.capnp_pack.proofs.packing.FailedPackLemmas.{left_literal}
+use Rattle.capnp_pack.proofs.packing.GrantCoversGroupAndRestLemmas.{literal_granted}
+use Rattle.capnp_pack.proofs.packing.HandedAndBufferedBytesJoinLemmas.{Hands-same}
+use Rattle.capnp_pack.proofs.packing.LeftAfterFailureLemmas.{left_literal}
 use Rattle.capnp_pack.proofs.packing.BufferedGroupLemmas.{made_literal, literal_front}
 use Rattle.capnp_pack.proofs.packed_write.pack_literal.Goals as goal
 

@@ -2,10 +2,10 @@
 use Rattle.std.proofs.Common.{[], take}
 use Rattle.std.proofs.lemmas.Bool.{false≢true}
 use Rattle.capnp_pack.proofs.packing.BufferedGroupLemmas.{handed_next, no_words_packed}
-use Rattle.capnp_pack.proofs.packing.CallSequenceLemmas.{hands_ok, hands_passed}
-use Rattle.capnp_pack.proofs.packing.PackerGrantLemmas.{granted_flushed, group_granted_next, group_granted}
-use Rattle.capnp_pack.proofs.packing.FailedPackLemmas.{left_buffer, left_group}
-use Rattle.capnp_pack.proofs.packing.WholeChunkLemmas.{next_words, other_words}
+use Rattle.capnp_pack.proofs.packing.PackerOutcomeFromSinkCallLemmas.{hands_ok, hands_passed}
+use Rattle.capnp_pack.proofs.packing.GrantCoversGroupAndRestLemmas.{granted_flushed, group_granted_next, group_granted}
+use Rattle.capnp_pack.proofs.packing.LeftAfterFailureLemmas.{left_buffer, left_group}
+use Rattle.capnp_pack.proofs.packing.ChunkPackedGroupByGroupLemmas.{next_words, other_words}
 use Rattle.capnp_pack.proofs.packed_write.pack_next.Goals as goal
 
 pub returns-in_err-flush-clause-hands : goal.returns-in_err-flush-clause-hands

@@ -2,11 +2,11 @@
 use Rattle.std.proofs.Common.{rules, arith, ◌≡◌, ◌+◌, take, refl, subst}
 use Rattle.std.proofs.lemmas.Bool.{false≢true}
 use Rattle.std.specs.List.{flat_map}
-use Rattle.capnp_frame.proofs.sources.RequestSequenceLemmas.{Grows-join}
-use Rattle.capnp_pack.proofs.packing.CallSequenceLemmas.{hands_passed, hands_err}
-use Rattle.capnp_pack.proofs.packing.HandedOnLemmas.{IfKnown-literal}
-use Rattle.capnp_pack.proofs.packing.PackerGrantLemmas.{run_granted, run_kept}
-use Rattle.capnp_pack.proofs.packing.FailedPackLemmas.{left_count, left_words}
+use Rattle.capnp_frame.proofs.sources.JoinedRequestPartsLemmas.{Grows-join}
+use Rattle.capnp_pack.proofs.packing.PackerOutcomeFromSinkCallLemmas.{hands_passed, hands_err}
+use Rattle.capnp_pack.proofs.packing.HandedAndBufferedBytesJoinLemmas.{IfKnown-literal}
+use Rattle.capnp_pack.proofs.packing.GrantCoversGroupAndRestLemmas.{run_granted, run_kept}
+use Rattle.capnp_pack.proofs.packing.LeftAfterFailureLemmas.{left_count, left_words}
 use Rattle.capnp_pack.proofs.packed_write.pack_run.Goals as goal
 
 pub returns-clause-hands : goal.returns-clause-hands

@@ -2,8 +2,8 @@
 use Rattle.std.proofs.Common.{rules, arith, ◌≡◌, ◌<◌, ◌≤◌, ◌+◌, ◌-◌, ap, length, length-drop, get_or, [], take, drop}
 use lib.Count.{ones, ones-le}
 use Rattle.capnp_pack.proofs.packing.BufferedGroupLemmas.{buffered_more, tagged_group, ends_zeros, filled_by}
-use Rattle.capnp_pack.proofs.packing.WholeChunkLemmas.{next_words, other_words}
-use Rattle.capnp_pack.proofs.words.TagLemmas.{mark_left, no_tag}
+use Rattle.capnp_pack.proofs.packing.ChunkPackedGroupByGroupLemmas.{next_words, other_words}
+use Rattle.capnp_pack.proofs.words.NonzeroByteTagLemmas.{mark_left, no_tag}
 use Rattle.capnp_pack.proofs.packed_write.pack_stretch.Goals as goal
 
 pub loop-end-preserved : goal.loop-end-preserved

@@ -3,7 +3,7 @@ use Rattle.std.proofs.Common.{rules, arith, ◌≡◌, ◌+◌, ◌-◌, take, d
 use Rattle.std.specs.List.{concat}
 use Rattle.capnp_pack.specs.Prelude.{zero_bytes, HasFewZeros}
 use Rattle.capnp_pack.proofs.words.EachElementLemmas.{AllByRecursion-take}
-use Rattle.capnp_pack.proofs.words.EightWordLemmas.{all_full, all_more}
+use Rattle.capnp_pack.proofs.words.LeadingZeroWordsByMaskLemmas.{all_full, all_more}
 use Rattle.capnp_pack.proofs.runs.full_eights.Goals as goal
 
 pub loop-count-preserved : goal.loop-count-preserved

@@ -3,7 +3,7 @@ use Rattle.std.proofs.Common.{rules, arith, ◌+◌, ◌-◌, ℕ, zero, suc, sy
 use Rattle.std.proofs.Math.Nat.{max-eq_left}
 use Rattle.std.specs.List.{AllByRecursion}
 use Rattle.capnp_pack.specs.Prelude.{HasFewZeros}
-use Rattle.capnp_pack.proofs.words.EightWordLemmas.{all_one, all_more}
+use Rattle.capnp_pack.proofs.words.LeadingZeroWordsByMaskLemmas.{all_one, all_more}
 use Rattle.capnp_pack.proofs.runs.literal_run.Goals as goal
 
 pub loop-count-preserved : goal.loop-count-preserved

@@ -1,7 +1,7 @@
 -- Each bit is a lane's.
 use Rattle.std.proofs.Common.{rules, ◌≡◌, length, arith}
-use Rattle.capnp_pack.proofs.tables.MarkedByteLemmas.{marks_word}
-use Rattle.capnp_pack.proofs.words.TagLemmas.{tag_below, top_word}
+use Rattle.capnp_pack.proofs.tables.CompactShuffleLemmas.{marks_word}
+use Rattle.capnp_pack.proofs.words.NonzeroByteTagLemmas.{tag_below, top_word}
 use Rattle.capnp_pack.proofs.runs.tag.Goals as goal
 
 pub overflow_cast-result : goal.overflow_cast-result

@@ -6,7 +6,7 @@ use Rattle.std.specs.List.{concat}
 use Rattle.capnp_pack.specs.Prelude.{IsWord, IfFirst, IsZero, tag_of}
 use Rattle.capnp_pack.proofs.words.EachElementLemmas.{AllByRecursion-take, AllByRecursion-drop}
 use Rattle.capnp_pack.proofs.words.ChunkWordLemmas.{each_word}
-use Rattle.capnp_pack.proofs.words.EightWordLemmas.{all_one, all_zero, all_more, first_of_part, zeros_reported}
+use Rattle.capnp_pack.proofs.words.LeadingZeroWordsByMaskLemmas.{all_one, all_zero, all_more, first_of_part, zeros_reported}
 use Rattle.capnp_pack.proofs.runs.zero_run.Goals as goal
 
 pub returns-then-marks-ne0 : goal.returns-then-marks-ne0

@@ -2,7 +2,7 @@
 use Rattle.std.proofs.Common.{rules, arith, ◌≡◌, ap, ◌∙◌, length}
 use lib.Count.{ones}
 use Rattle.capnp_pack.specs.Prelude.{nonzero}
-use Rattle.capnp_pack.proofs.tables.MarkedByteLemmas.{ones_tag}
+use Rattle.capnp_pack.proofs.tables.CompactShuffleLemmas.{ones_tag}
 use Rattle.capnp_pack.proofs.packing.SizeBoundLemmas.{nonzero_len}
 use Rattle.capnp_pack.proofs.runs.zeros.Goals as goal
 

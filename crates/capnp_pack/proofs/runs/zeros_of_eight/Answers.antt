@@ -2,7 +2,7 @@
 use Rattle.std.proofs.Common.{rules, ◌≡◌}
 use Rattle.std.specs.List.{flat_map}
 use Rattle.capnp_pack.proofs.words.ChunkWordLemmas.{each_word}
-use Rattle.capnp_pack.proofs.words.EightWordLemmas.{zeros_eight}
+use Rattle.capnp_pack.proofs.words.LeadingZeroWordsByMaskLemmas.{zeros_eight}
 use Rattle.capnp_pack.proofs.runs.zeros_of_eight.Goals as goal
 
 pub returns : goal.returns

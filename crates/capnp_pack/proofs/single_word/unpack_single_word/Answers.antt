@@ -3,7 +3,7 @@ use Rattle.std.proofs.Common.{rules, arith, ◌<◌, ◌≡◌, ◌-◌, ◌∷�
 use Rattle.std.proofs.lemmas.List.{take_all, take_at}
 use lib.Count.{ones}
 use Rattle.capnp_pack.specs.Prelude.{MarkedAt}
-use Rattle.capnp_pack.proofs.tables.SingleWordGroupLemmas.{single_word_unpacked}
+use Rattle.capnp_pack.proofs.unpacking.SingleWordGroupsExtendUnpackedLemmas.{single_word_unpacked}
 use Rattle.capnp_pack.proofs.single_word.unpack_single_word.Goals as goal
 
 pub returns-clause-group : goal.returns-clause-group

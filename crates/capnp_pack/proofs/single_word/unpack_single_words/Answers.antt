@@ -1,6 +1,6 @@
 -- Groups after groups.
 use Rattle.std.proofs.Common.{rules, arith, ◌∙◌}
-use Rattle.capnp_pack.proofs.tables.SingleWordGroupLemmas.{unpacked_on}
+use Rattle.capnp_pack.proofs.unpacking.SingleWordGroupsExtendUnpackedLemmas.{unpacked_on}
 use Rattle.capnp_pack.proofs.single_word.unpack_single_words.Goals as goal
 
 pub loop-filled-preserved : goal.loop-filled-preserved

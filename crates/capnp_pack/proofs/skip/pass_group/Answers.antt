@@ -1,6 +1,6 @@
 -- The table says how many bytes the group has before a run, and its last one of these how long that is.
 use Rattle.std.proofs.Common.{rules, arith, ◌≡◌, ◌-◌, ◌<◌, ◌∷◌, drop, get_or}
-use Rattle.capnp_pack.proofs.unpacking.PassedGroupLemmas.{group_passes, run_passes}
+use Rattle.capnp_pack.proofs.unpacking.SkippedGroupSizeLemmas.{group_passes, run_passes}
 use Rattle.capnp_pack.proofs.skip.pass_group.Goals as goal
 
 pub returns-then-tag-further-le255-clause-group : goal.returns-then-tag-further-le255-clause-group

@@ -1,5 +1,5 @@
 -- Groups after groups.
-use Rattle.capnp_pack.proofs.unpacking.PassedGroupLemmas.{none_passes, passes_on}
+use Rattle.capnp_pack.proofs.unpacking.SkippedGroupSizeLemmas.{none_passes, passes_on}
 use Rattle.capnp_pack.proofs.skip.pass_shown.Goals as goal
 
 pub loop-group-init : goal.loop-group-init

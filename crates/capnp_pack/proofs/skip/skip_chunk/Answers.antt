@@ -1,10 +1,10 @@
 -- Each turn skips more groups of the chunk.
 use Rattle.std.proofs.Common.{rules, arith, inr, ◌+◌, ◌-◌, ◌≡◌}
-use Rattle.capnp_frame.proofs.sources.SourceCallLemmas.{passed_on, Asked-err}
-use Rattle.capnp_frame.proofs.sources.RequestSequenceLemmas.{Advances-join, not_empty_before}
-use Rattle.capnp_pack.proofs.errors.OverrunLemmas.{over_after}
-use Rattle.capnp_pack.proofs.unpacking.TakenGroupLemmas.{more_taken}
-use Rattle.capnp_pack.proofs.unpacking.SkippedChunkLemmas.{skip_failed, skip_missing, skip_none, chunk_skipped}
+use Rattle.capnp_frame.proofs.sources.JoinedCallsAdvanceSourceLemmas.{passed_on, Asked-err}
+use Rattle.capnp_frame.proofs.sources.JoinedRequestPartsLemmas.{Advances-join, not_empty_before}
+use Rattle.capnp_pack.proofs.errors.ConsumedAtCountOverrunLemmas.{over_after}
+use Rattle.capnp_pack.proofs.unpacking.TakenGroupsUnpackedByteCountLemmas.{more_taken}
+use Rattle.capnp_pack.proofs.unpacking.SkipOutcomeIsRequestOutcomeLemmas.{skip_failed, skip_missing, skip_none, chunk_skipped}
 use Rattle.capnp_pack.proofs.skip.skip_chunk.Goals as goal
 
 pub returns-in_err-size-clause-errors : goal.returns-in_err-size-clause-errors

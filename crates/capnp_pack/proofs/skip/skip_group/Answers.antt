@@ -1,6 +1,6 @@
 -- There is room for all that is asked for, or for each group.
 use Rattle.std.proofs.Common.{rules, ◌≡◌, ◌∙◌, length}
-use Rattle.capnp_pack.proofs.unpacking.SkippedChunkLemmas.{skip_room, group_skipped, over_skipped}
+use Rattle.capnp_pack.proofs.unpacking.SkipOutcomeIsRequestOutcomeLemmas.{skip_room, group_skipped, over_skipped}
 use Rattle.capnp_pack.proofs.skip.skip_group.Goals as goal
 
 pub returns-clause-takes : goal.returns-clause-takes

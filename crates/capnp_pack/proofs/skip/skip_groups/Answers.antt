@@ -1,6 +1,6 @@
 -- The groups that are shown are at the front of what is unread.
 use Rattle.std.proofs.Common.{rules, arith, ◌<◌}
-use Rattle.capnp_pack.proofs.unpacking.SkippedChunkLemmas.{passes_taken, passes_some}
+use Rattle.capnp_pack.proofs.unpacking.SkipOutcomeIsRequestOutcomeLemmas.{passes_taken, passes_some}
 use Rattle.capnp_pack.proofs.skip.skip_groups.Goals as goal
 
 pub returns-clause-takes : goal.returns-clause-takes

@@ -1,6 +1,6 @@
 -- The three requests take the three chunks.
 use Rattle.std.proofs.Common.{rules, ◌≡◌}
-use Rattle.capnp_pack.proofs.encodings.PackedStreamLemmas.{packed_reads}
+use Rattle.capnp_pack.proofs.encodings.PackedReaderLemmas.{packed_reads}
 use Rattle.capnp_pack.proofs.stream.try_read_packed_segments.Goals as goal
 
 pub returns : goal.returns

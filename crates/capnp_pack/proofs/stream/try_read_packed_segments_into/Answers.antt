@@ -1,6 +1,6 @@
 -- The three requests take the three chunks.
 use Rattle.std.proofs.Common.{rules, ◌≡◌, length}
-use Rattle.capnp_pack.proofs.encodings.PackedStreamLemmas.{packed_reads_into}
+use Rattle.capnp_pack.proofs.encodings.PackedReaderLemmas.{packed_reads_into}
 use Rattle.capnp_pack.proofs.stream.try_read_packed_segments_into.Goals as goal
 
 pub returns : goal.returns

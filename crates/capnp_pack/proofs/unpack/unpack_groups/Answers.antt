@@ -1,7 +1,7 @@
 -- Groups after groups.
 use Rattle.std.proofs.Common.{rules, ◌+◌, ◌∙◌}
-use Rattle.capnp_frame.proofs.sources.RequestSequenceLemmas.{length-put_mid}
-use Rattle.capnp_pack.proofs.tables.SingleWordGroupLemmas.{unpacked_on, unpacked_kept}
+use Rattle.capnp_frame.proofs.sources.JoinedRequestPartsLemmas.{length-put_mid}
+use Rattle.capnp_pack.proofs.unpacking.SingleWordGroupsExtendUnpackedLemmas.{unpacked_on, unpacked_kept}
 use Rattle.capnp_pack.proofs.unpack.unpack_groups.Goals as goal
 
 pub loop-buffer-preserved : goal.loop-buffer-preserved

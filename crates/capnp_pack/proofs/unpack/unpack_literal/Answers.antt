@@ -1,9 +1,9 @@
 -- A word, and a run after its count.
 use Rattle.std.proofs.Common.{rules, arith, ◌≡◌, ◌-◌, ◌*◌, ◌++◌, ◌∙◌, ap, refl, length, take, drop, get_or, length-drop}
 use Rattle.std.proofs.lemmas.List.{take_all}
-use Rattle.capnp_frame.proofs.sources.RequestSequenceLemmas.{length-put_mid}
-use Rattle.capnp_pack.proofs.unpacking.ShownByteLemmas.{literal_after}
-use Rattle.capnp_frame.proofs.sources.RequestSequenceLemmas.{put_mid_front}
+use Rattle.capnp_frame.proofs.sources.JoinedRequestPartsLemmas.{length-put_mid}
+use Rattle.capnp_pack.proofs.unpacking.ShownGroupsUnpackToBufferLemmas.{literal_after}
+use Rattle.capnp_frame.proofs.sources.JoinedRequestPartsLemmas.{put_mid_front}
 use Rattle.capnp_pack.proofs.unpack.unpack_literal.Goals as goal
 
 pub returns : goal.returns

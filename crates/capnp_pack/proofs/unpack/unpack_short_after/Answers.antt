@@ -1,7 +1,7 @@
 -- A word with some marked bytes.
 use Rattle.std.proofs.Common.{rules, arith, length, ◌≡◌, ◌<◌}
 use Rattle.std.proofs.lemmas.List.{take_at}
-use Rattle.capnp_pack.proofs.unpacking.ShownByteLemmas.{tagged_after}
+use Rattle.capnp_pack.proofs.unpacking.ShownGroupsUnpackToBufferLemmas.{tagged_after}
 use Rattle.capnp_pack.proofs.unpack.unpack_short_after.Goals as goal
 
 pub unpack_short_word-used-requires-clause-long : goal.unpack_short_word-used-requires-clause-long

@@ -1,6 +1,6 @@
 -- The tag and what follows it.
 use Rattle.std.proofs.Common.{rules, ◌≡◌, ◌∷◌}
-use Rattle.capnp_pack.proofs.unpacking.ShownByteLemmas.{group_unpacked}
+use Rattle.capnp_pack.proofs.unpacking.ShownGroupsUnpackToBufferLemmas.{group_unpacked}
 use Rattle.capnp_pack.proofs.unpack.unpack_short_group.Goals as goal
 
 pub returns-clause-group : goal.returns-clause-group

@@ -1,5 +1,5 @@
 -- Where no group is shown, none is taken.
-use Rattle.capnp_pack.proofs.tables.SingleWordGroupLemmas.{no_group_unpacked}
+use Rattle.capnp_pack.proofs.unpacking.SingleWordGroupsExtendUnpackedLemmas.{no_group_unpacked}
 use Rattle.capnp_pack.proofs.unpack.unpack_shown.Goals as goal
 
 pub returns : goal.returns

@@ -1,6 +1,6 @@
 -- The count is the length of the run.
 use Rattle.std.proofs.Common.{rules, arith, ◌≡◌, ◌+◌, ◌*◌, ◌∙◌, sym, ap, take, replicate, get_or}
-use Rattle.capnp_pack.proofs.unpacking.ShownByteLemmas.{zeros_after, short_zeros_after}
+use Rattle.capnp_pack.proofs.unpacking.ShownGroupsUnpackToBufferLemmas.{zeros_after, short_zeros_after}
 use Rattle.capnp_pack.proofs.unpack.unpack_zeros.Goals as goal
 
 pub returns-then-filled-eq8 : goal.returns-then-filled-eq8

@@ -1,6 +1,6 @@
 -- What is read next is read after what was read before, and a failure leaves what was looked at.
 use Rattle.std.proofs.Common.{rules, ◌≡◌}
-use Rattle.capnp_show.proofs.InputFrontLemmas.{takes_more}
+use Rattle.capnp_show.proofs.ReadsExtendInputFrontLemmas.{takes_more}
 use Rattle.capnp_show.proofs.detected.detect.Goals as goal
 
 pub returns-in-Is-clause-taken : goal.returns-in-Is-clause-taken

@@ -3,7 +3,7 @@ use Rattle.std.proofs.Common.{rules, ◌≡◌, ℕ, List, [], ◌∷◌, ◌++�
 use Rattle.std.specs.Str.{chars}
 use Rattle.std.proofs.lemmas.Result.{on_ok_weaker}
 use Rattle.capnp_show.specs.Output.{AreJsonEscaped, none_shown, json_escaped}
-use Rattle.capnp_show.proofs.AddedCharacterLemmas.{added_after, ended, pushed}
+use Rattle.capnp_show.proofs.JoinedAddedStringsLemmas.{added_after, ended, pushed}
 use Rattle.capnp_show.proofs.UnescapedRunLemmas.{escaped_more, escaped_last, characters_more}
 use Rattle.capnp_show.proofs.escapes.push_escaped.Goals as goal
 

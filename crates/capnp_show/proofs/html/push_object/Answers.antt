@@ -1,7 +1,7 @@
 -- The line is between its front and its end.
 use Rattle.std.proofs.Common.{string_bytes, codes}
 use Rattle.std.proofs.lemmas.Result.{on_ok_weaker}
-use Rattle.capnp_show.proofs.AddedCharacterLemmas.{marked_between, pushed}
+use Rattle.capnp_show.proofs.JoinedAddedStringsLemmas.{marked_between, pushed}
 use Rattle.capnp_show.proofs.html.push_object.Goals as goal
 
 pub returns : goal.returns

@@ -1,7 +1,7 @@
 -- Three strings are added one after the other.
 use Rattle.std.proofs.Common.{string_bytes, codes}
 use Rattle.std.proofs.lemmas.Result.{on_ok_weaker}
-use Rattle.capnp_show.proofs.AddedCharacterLemmas.{three_added, pushed}
+use Rattle.capnp_show.proofs.JoinedAddedStringsLemmas.{three_added, pushed}
 use Rattle.capnp_show.proofs.html.push_object_front.Goals as goal
 
 pub returns : goal.returns

@@ -3,7 +3,7 @@ use Rattle.std.proofs.Common.{rules, ◌≡◌, ℕ, List, [], ◌∷◌, ◌++�
 use Rattle.std.specs.Str.{chars}
 use Rattle.std.proofs.lemmas.Result.{on_ok_weaker}
 use Rattle.capnp_show.specs.Output.{AreMarked, none_marked}
-use Rattle.capnp_show.proofs.AddedCharacterLemmas.{added_after, ended, pushed}
+use Rattle.capnp_show.proofs.JoinedAddedStringsLemmas.{added_after, ended, pushed}
 use Rattle.capnp_show.proofs.UnescapedRunLemmas.{marked_more, marked_last, characters_more}
 use Rattle.capnp_show.proofs.markup.push_markup.Goals as goal
 

@@ -3,7 +3,7 @@
 use Rattle.std.proofs.Common.{◌≡◌, ◌<◌, ◌≤◌, ◌-◌, ◌^◌, ℕ, List, None, Some, inl, inr, length, slice_get, take, min, sym, ap, subst, ◌∙◌, arith, take_all}
 use Rattle.std.proofs.lemmas.Option.{slice_get_within, slice_get_cases, none-some}
 use Rattle.capnp_frame.specs.Prelude.{size_in_words}
-use Rattle.capnp_layout.proofs.objects.StructFieldLemmas.{size_next}
+use Rattle.capnp_layout.proofs.objects.SectionWordByIndexLemmas.{size_next}
 use Rattle.capnp_show.proofs.messages.segments_and_words.Goals as goal
 
 none_follows : (segments : List (List ℕ)) (i : ℕ) → None ≡ slice_get segments i → length segments ≤ i

@@ -4,7 +4,7 @@ use Rattle.std.specs.Prelude.{if◌then◌else◌}
 use Rattle.std.specs.Char.{encode_utf8}
 use Rattle.std.specs.Result.{is_ok}
 use Rattle.std.proofs.lemmas.Fmt.{decimal_digit}
-use Rattle.capnp_show.proofs.AddedCharacterLemmas.{pushed}
+use Rattle.capnp_show.proofs.JoinedAddedStringsLemmas.{pushed}
 use Rattle.capnp_show.proofs.numbers.push_decimal.Goals as goal
 
 pub returns-then-number-lt10 : goal.returns-then-number-lt10

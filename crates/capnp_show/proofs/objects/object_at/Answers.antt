@@ -1,9 +1,9 @@
 -- What a pointer leads to, and each error on the way.
 use Rattle.std.proofs.Common.{sym, subst}
-use Rattle.capnp_frame.proofs.sources.SourceCallLemmas.{passed_on}
+use Rattle.capnp_frame.proofs.sources.JoinedCallsAdvanceSourceLemmas.{passed_on}
 use Rattle.capnp_layout.specs.Prelude.{words_of, message_of, IsStart, IsLanding, PointerError, no_word, no_segment, no_start, misfits}
-use Rattle.capnp_layout.proofs.words.MessageWordLemmas.{segment_is_there, no_segment_is_there}
-use Rattle.capnp_show.proofs.ObjectLandingPadLemmas.{landing_pad_is}
+use Rattle.capnp_layout.proofs.words.WordAtPlaceLemmas.{segment_is_there, no_segment_is_there}
+use Rattle.capnp_show.proofs.FarPointerLandingPadSizeLemmas.{landing_pad_is}
 use Rattle.capnp_show.proofs.objects.object_at.Goals as goal
 
 pub returns-in_err-pointers-clause-errors : goal.returns-in_err-pointers-clause-errors

@@ -1,7 +1,7 @@
 -- A word is a pointer just after the data of an element.
 use Rattle.std.proofs.Common.{◌≡◌, arith}
 use Rattle.capnp_show.specs.Objects.{words_of_struct}
-use Rattle.capnp_show.proofs.ElementOfWordLemmas.{element_is_past, element_is}
+use Rattle.capnp_show.proofs.ElementContainingPointerWordLemmas.{element_is_past, element_is}
 use Rattle.capnp_show.proofs.owners.role_in_element.Goals as goal
 use Rattle.capnp_show.proofs.owners.role_in_element.Goals.{else-words-ne0-via-then-words-ne0+then-after_tag-words+else-after_tag-words-2, else-words-ne0-via-then-words-ne0+else-after_tag-words, else-words-ne0-via-else-words-ne0}
 

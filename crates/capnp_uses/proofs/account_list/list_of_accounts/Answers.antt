@@ -1,7 +1,7 @@
 -- One account more, and then the list of all.
-use Rattle.capnp_frame.proofs.sources.SourceCallLemmas.{passed_on}
+use Rattle.capnp_frame.proofs.sources.JoinedCallsAdvanceSourceLemmas.{passed_on}
 use Rattle.capnp_orphans.specs.Holds.{word_of}
-use Rattle.capnp_uses.proofs.AccountListLemmas.{drafted_next, list_drafted, list_len, name_error, all_drafted, list_kind}
+use Rattle.capnp_uses.proofs.AccountsWrittenUntilErrorLemmas.{drafted_next, list_drafted, list_len, name_error, all_drafted, list_kind}
 use Rattle.capnp_uses.proofs.account_list.list_of_accounts.Goals as goal
 
 pub returns-in_err-name-clause-errors : goal.returns-in_err-name-clause-errors

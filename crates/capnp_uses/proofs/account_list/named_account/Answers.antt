@@ -1,6 +1,6 @@
 -- The number fills the data word.
 use Rattle.std.proofs.Common.{◌∙◌}
-use Rattle.capnp_uses.proofs.AccountListLemmas.{whole_word}
+use Rattle.capnp_uses.proofs.AccountsWrittenUntilErrorLemmas.{whole_word}
 use Rattle.capnp_uses.proofs.account_list.named_account.Goals as goal
 
 pub returns-clause-words : goal.returns-clause-words

@@ -4,7 +4,7 @@ use Rattle.std.proofs.lemmas.List.{length-map}
 use Rattle.std.proofs.lemmas.Result.{err_from_is_err_and}
 use Rattle.capnp_frame.specs.declared.serialize.segment_table.Padding.TheVariants.{Zero}
 use Rattle.capnp.specs.Prelude.{IsEncodingOf, AppendsEach}
-use Rattle.capnp_uses.proofs.AppendedLemmas.{appended_alone, appending_memory, read_encodings, read_same, no_message_left, memory_only}
+use Rattle.capnp_uses.proofs.AppendedMessagesReadBackLemmas.{appended_alone, appending_memory, read_encodings, read_same, no_message_left, memory_only}
 use Rattle.capnp_uses.proofs.appended.write_and_read_back.Goals as goal
 
 pub returns-in_err-write_messages : goal.returns-in_err-write_messages

@@ -4,7 +4,7 @@ use Rattle.std.proofs.lemmas.Result.{err_from_is_err_and}
 use Rattle.capnp_frame.specs.declared.error.ErrorKind.TheVariants.{OutOfMemory}
 use Rattle.capnp_wire.specs.Block.{word_numbers}
 use Rattle.capnp_message.specs.Canonical.{HasForm}
-use Rattle.capnp_uses.proofs.SliceReaderLemmas.{root_is_default, form_of_root, form_is_found, no_form_error, no_message_no_form}
+use Rattle.capnp_uses.proofs.SliceReadAndCanonicalizeOutcomeLemmas.{root_is_default, form_of_root, form_is_found, no_form_error, no_message_no_form}
 use Rattle.capnp_uses.proofs.canonical.canonical_words.Goals as goal
 
 pub returns-in_err-message : goal.returns-in_err-message

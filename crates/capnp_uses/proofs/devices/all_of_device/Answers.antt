@@ -1,6 +1,6 @@
 -- The source's unread bytes are the device's, and all its messages are read.
 use Rattle.std.proofs.Common.{map}
-use Rattle.capnp_uses.proofs.KnownDeviceLemmas.{all_of_bytes, failed_since}
+use Rattle.capnp_uses.proofs.KnownBytesReadOutcomeLemmas.{all_of_bytes, failed_since}
 use Rattle.capnp_uses.proofs.devices.all_of_device.Goals as goal
 
 pub returns-clause-all : goal.returns-clause-all

@@ -4,9 +4,9 @@ use Rattle.std.proofs.lemmas.List.{length-map}
 use Rattle.std.proofs.lemmas.Result.{err_from_is_err_and}
 use Rattle.capnp_frame.specs.declared.error.ErrorKind.TheVariants.{DeviceFailed, OutOfMemory}
 use Rattle.capnp_frame.specs.declared.serialize.segment_table.Padding.TheVariants.{Zero}
-use Rattle.capnp_frame.proofs.sources.RequestSequenceLemmas.{Fails-join}
-use Rattle.capnp.proofs.MessageSequenceLemmas.{encodings_next, AllByRecursion-append-one}
-use Rattle.capnp_uses.proofs.KnownDeviceLemmas.{reads_all, device_fails_after, fails_to_list, fails_past_full}
+use Rattle.capnp_frame.proofs.sources.JoinedRequestPartsLemmas.{Fails-join}
+use Rattle.capnp.proofs.MessageSequenceReadBackLemmas.{encodings_next, AllByRecursion-append-one}
+use Rattle.capnp_uses.proofs.KnownBytesReadOutcomeLemmas.{reads_all, device_fails_after, fails_to_list, fails_past_full}
 use Rattle.capnp_uses.proofs.devices.all_of_source.Goals as goal
 
 pub loop-count-preserved : goal.loop-count-preserved

@@ -1,5 +1,5 @@
 -- The source's unread bytes are the device's, and the reader of the next message reads them.
-use Rattle.capnp_uses.proofs.KnownDeviceLemmas.{reads_first, leaves_rest, failed_since, failed_next}
+use Rattle.capnp_uses.proofs.KnownBytesReadOutcomeLemmas.{reads_first, leaves_rest, failed_since, failed_next}
 use Rattle.capnp_uses.proofs.devices.first_of_device.Goals as goal
 
 pub returns-clause-first : goal.returns-clause-first

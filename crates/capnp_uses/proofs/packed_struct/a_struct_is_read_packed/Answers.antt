@@ -1,5 +1,5 @@
 -- What is read was written.
-use Rattle.capnp_uses.proofs.SetTreeLemmas.{root_has_segment}
+use Rattle.capnp_uses.proofs.RootSetFromPointerTreeLemmas.{root_has_segment}
 use Rattle.capnp_uses.proofs.PackedReadBackLemmas.{shown_encoding, packed_struct_error}
 use Rattle.capnp_uses.proofs.packed_struct.a_struct_is_read_packed.Goals as goal
 

@@ -4,7 +4,7 @@ use Rattle.std.proofs.lemmas.Result.{err_from_is_err_and}
 use Rattle.capnp_frame.specs.declared.error.ErrorKind.TheVariants.{OutOfMemory}
 use Rattle.capnp_frame.specs.Prelude.{IsWritable, IsWithinSegmentLimit, SegmentCountError}
 use Rattle.capnp.specs.Prelude.{IsPackedEncodingOf}
-use Rattle.capnp.proofs.MessageChunkLemmas.{packed_memory}
+use Rattle.capnp.proofs.MemoryWriteErrorLemmas.{packed_memory}
 use Rattle.capnp_uses.proofs.PackedReadBackLemmas.{added_encoding}
 use Rattle.capnp_uses.proofs.packed_struct.packed_encoding.Goals as goal
 

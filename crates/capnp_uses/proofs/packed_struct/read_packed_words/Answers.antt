@@ -9,8 +9,8 @@ use Rattle.capnp_wire.specs.Prelude.{struct, StructFormError}
 use Rattle.capnp_message.specs.Seen.{root_of}
 use Rattle.capnp.specs.Prelude.{packed}
 use Rattle.capnp.proofs.SourceEncodingLemmas.{or_fails_accepted}
-use Rattle.capnp_uses.proofs.AppendedLemmas.{memory_only}
-use Rattle.capnp_uses.proofs.SliceReaderLemmas.{default_depth, root_is_default}
+use Rattle.capnp_uses.proofs.AppendedMessagesReadBackLemmas.{memory_only}
+use Rattle.capnp_uses.proofs.SliceReadAndCanonicalizeOutcomeLemmas.{default_depth, root_is_default}
 use Rattle.capnp_uses.proofs.BuiltRootViewLemmas.{read_at_root, root_meets_limit, struct_is_taken}
 use Rattle.capnp_uses.proofs.PackedReadBackLemmas.{packed_root, begins_packed, packed_fails, no_struct_error, shows_packed}
 use Rattle.capnp_uses.proofs.packed_struct.read_packed_words.Goals as goal

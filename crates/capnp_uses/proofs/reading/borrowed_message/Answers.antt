@@ -1,7 +1,7 @@
 -- The message that is found is the one that is there.
 use Rattle.capnp.specs.declared.streams.Format.TheVariants.{Framed}
 use Rattle.capnp_frame.specs.Prelude.{default_limit}
-use Rattle.capnp_uses.proofs.SliceReaderLemmas.{exactly_provided}
+use Rattle.capnp_uses.proofs.SliceReadAndCanonicalizeOutcomeLemmas.{exactly_provided}
 use Rattle.capnp_uses.proofs.reading.borrowed_message.Goals as goal
 
 pub returns-clause-exact : goal.returns-clause-exact

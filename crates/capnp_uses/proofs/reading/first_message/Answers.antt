@@ -1,7 +1,7 @@
 -- The message that is found is the one that is there.
 use Rattle.capnp.specs.declared.streams.Format.TheVariants.{Framed}
 use Rattle.capnp_frame.specs.Prelude.{default_limit}
-use Rattle.capnp_uses.proofs.SliceReaderLemmas.{slices_are_plain, nothing_or_memory, succeeds_at_none, next_error}
+use Rattle.capnp_uses.proofs.SliceReadAndCanonicalizeOutcomeLemmas.{slices_are_plain, nothing_or_memory, succeeds_at_none, next_error}
 use Rattle.capnp_uses.proofs.reading.first_message.Goals as goal
 
 pub returns-clause-exact : goal.returns-clause-exact

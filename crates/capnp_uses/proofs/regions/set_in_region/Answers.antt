@@ -4,7 +4,7 @@ use Rattle.std.proofs.lemmas.Bool.{cases_lt}
 use Rattle.std.proofs.lemmas.Result.{err_from_is_err_and}
 use Rattle.capnp_message.specs.Region.{GrantsRegion, RegionError, IsOutAlone}
 use Rattle.capnp_message.specs.declared.single_segment.SingleSegmentAllocator.{SingleSegmentAllocator}
-use Rattle.capnp_uses.proofs.AvailableRegionLemmas.{available_alone, root_word_error, further_error}
+use Rattle.capnp_uses.proofs.AllocationTooLargeRegionErrorLemmas.{available_alone, root_word_error, further_error}
 use Rattle.capnp_uses.proofs.regions.set_in_region.Goals as goal
 
 pub returns-in_err-set_root-clause-fits : goal.returns-in_err-set_root-clause-fits

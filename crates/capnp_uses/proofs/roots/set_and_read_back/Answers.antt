@@ -1,6 +1,6 @@
 -- The tree that was set is where the message is read.
 use Rattle.std.proofs.Common.{inl}
-use Rattle.capnp_frame.proofs.sources.SourceCallLemmas.{passed_on}
+use Rattle.capnp_frame.proofs.sources.JoinedCallsAdvanceSourceLemmas.{passed_on}
 use Rattle.capnp_uses.proofs.WriteAndReadLemmas.{has_segment, tree_again, unread, holds_at_ok}
 use Rattle.capnp_uses.proofs.roots.set_and_read_back.Goals as goal
 

@@ -1,6 +1,6 @@
 -- The text that is read is the one that was set.
 use Rattle.std.proofs.Common.{refl, sym, ◌∙◌}
-use Rattle.capnp_uses.proofs.SetTextLemmas.{set_text_accepted, text_read, bytes_same}
+use Rattle.capnp_uses.proofs.SetTextReadBackLemmas.{set_text_accepted, text_read, bytes_same}
 use Rattle.capnp_uses.proofs.roots.set_text_is_read_back.Goals as goal
 
 pub returns-in_err-view-clause-cleared : goal.returns-in_err-view-clause-cleared

@@ -2,7 +2,7 @@
 use Rattle.std.proofs.Common.{inl, inr, refl, Ok, Err}
 use Rattle.std.proofs.lemmas.Result.{err_from_is_err_and}
 use Rattle.capnp_frame.specs.declared.serialize.segment_table.Padding.TheVariants.{Zero}
-use Rattle.capnp.proofs.MessageChunkLemmas.{format_memory}
+use Rattle.capnp.proofs.MemoryWriteErrorLemmas.{format_memory}
 use Rattle.capnp_uses.proofs.WriteAndReadLemmas.{added_alone, written_and_read}
 use Rattle.capnp_uses.proofs.roots.write_and_read_back.Goals as goal
 

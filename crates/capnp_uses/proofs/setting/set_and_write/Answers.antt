@@ -2,7 +2,7 @@
 use Rattle.std.proofs.Common.{inl, inr}
 use Rattle.std.proofs.lemmas.Result.{err_from_is_err_and}
 use Rattle.capnp.specs.Prelude.{output_of}
-use Rattle.capnp_uses.proofs.SetTreeLemmas.{added_frame, not_written}
+use Rattle.capnp_uses.proofs.RootSetFromPointerTreeLemmas.{added_frame, not_written}
 use Rattle.capnp_uses.proofs.setting.set_and_write.Goals as goal
 
 pub returns-clause-written : goal.returns-clause-written

@@ -1,8 +1,8 @@
 -- The value's tree is the one that the pointer points to.
 use Rattle.capnp_wire.specs.Prelude.{pointer_of}
-use Rattle.capnp_uses.proofs.SetTreeLemmas.{set_as}
+use Rattle.capnp_uses.proofs.RootSetFromPointerTreeLemmas.{set_as}
 use Rattle.capnp_uses.proofs.setting.set_tree.Goals as goal
-use Rattle.capnp_build.proofs.layouts.BlockPlaceLemmas.{on_ok}
+use Rattle.capnp_build.proofs.outcomes.BlockPrefersFirstSegmentLemmas.{on_ok}
 
 pub returns : goal.returns
 returns g c =

@@ -3,7 +3,7 @@ use Rattle.std.proofs.Common.{rules, inl, inr, refl, sym, subst, arith}
 use Rattle.std.proofs.lemmas.Result.{err_from_is_err_and}
 use Rattle.capnp_wire.specs.Prelude.{struct, Root, pointer_of}
 use Rattle.capnp_build.specs.Prelude.{Built, message}
-use Rattle.capnp_uses.proofs.SetTreeLemmas.{root_has_segment, set_form, word_set, set_word_kept, form_error_tree}
+use Rattle.capnp_uses.proofs.RootSetFromPointerTreeLemmas.{root_has_segment, set_form, word_set, set_word_kept, form_error_tree}
 use Rattle.capnp_uses.proofs.setting.set_tree_and_word.Goals as goal
 
 pub returns-then-data_words-gt0 : goal.returns-then-data_words-gt0

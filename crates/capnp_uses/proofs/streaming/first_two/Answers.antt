@@ -3,10 +3,10 @@ use Rattle.std.proofs.Common.{Some}
 use Rattle.capnp_frame.specs.declared.serialize.segment_table.Padding.TheVariants.{Zero}
 use Rattle.capnp_frame.specs.declared.message.options.TheConstants.{DEFAULT_READER_OPTIONS}
 use Rattle.capnp_frame.specs.Prelude.{default_limit}
-use Rattle.capnp_uses.proofs.AppendedLemmas.{memory_only}
-use Rattle.capnp.proofs.FormatReaderLemmas.{found_next}
-use Rattle.capnp.proofs.SliceStreamLemmas.{slice_reader_error}
-use Rattle.capnp_uses.proofs.FirstTwoMessagesLemmas.{reads_new, reads_second, none_at_all, fails_at_once, none_after, second_fails_after, both}
+use Rattle.capnp_uses.proofs.AppendedMessagesReadBackLemmas.{memory_only}
+use Rattle.capnp.proofs.ReaderOutcomeByFormatRulesLemmas.{found_next}
+use Rattle.capnp.proofs.SliceStreamReadToItsEndLemmas.{slice_reader_error}
+use Rattle.capnp_uses.proofs.FirstTwoMessagesReadOutcomeLemmas.{reads_new, reads_second, none_at_all, fails_at_once, none_after, second_fails_after, both}
 use Rattle.capnp_uses.proofs.streaming.first_two.Goals as goal
 
 pub returns-in-None-clause-two : goal.returns-in-None-clause-two

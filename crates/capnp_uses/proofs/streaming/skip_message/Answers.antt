@@ -1,6 +1,6 @@
 -- What is returned is whether a message was read.
 use Rattle.std.proofs.lemmas.Result.{err_from_is_err_and}
-use Rattle.capnp_uses.proofs.PastMessageLemmas.{skips, skip_fails}
+use Rattle.capnp_uses.proofs.SkippingAgreesWithReadingLemmas.{skips, skip_fails}
 use Rattle.capnp_uses.proofs.streaming.skip_message.Goals as goal
 
 pub returns-in_err-message : goal.returns-in_err-message

@@ -1,6 +1,6 @@
 -- The tree that is read is the contact's, and a contact fails as is said of its tree.
-use Rattle.capnp_uses.proofs.ContactLemmas.{contact_is, one_root}
-use Rattle.capnp_uses.proofs.TooLargeValueLemmas.{back_as, contact_fails}
+use Rattle.capnp_uses.proofs.UniqueContactTreeLemmas.{contact_is, one_root}
+use Rattle.capnp_uses.proofs.ContactErrorIsTooLargeLemmas.{back_as, contact_fails}
 use Rattle.capnp_uses.proofs.values.contact_is_read_back.Goals as goal
 
 pub returns : goal.returns

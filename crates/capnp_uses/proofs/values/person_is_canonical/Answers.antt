@@ -1,6 +1,6 @@
 -- A person fails as is said of its tree.
-use Rattle.capnp_uses.proofs.ContactLemmas.{person_is}
-use Rattle.capnp_uses.proofs.TooLargeValueLemmas.{alone_as, person_fails}
+use Rattle.capnp_uses.proofs.UniqueContactTreeLemmas.{person_is}
+use Rattle.capnp_uses.proofs.ContactErrorIsTooLargeLemmas.{alone_as, person_fails}
 use Rattle.capnp_uses.proofs.values.person_is_canonical.Goals as goal
 
 pub returns-clause-errors : goal.returns-clause-errors

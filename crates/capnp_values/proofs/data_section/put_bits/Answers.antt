@@ -1,6 +1,6 @@
 -- The old bits are taken out, and the new ones put in.
 use Rattle.std.proofs.Common.{arith}
-use Rattle.capnp_values.proofs.numbers.DataSectionLemmas.{put_in_word, set_whole_word, with_bits_below}
+use Rattle.capnp_values.proofs.numbers.DataFieldSetLemmas.{put_in_word, set_whole_word, with_bits_below}
 use Rattle.capnp_values.proofs.data_section.put_bits.Goals as goal
 
 pub returns-then-width-eq64 : goal.returns-then-width-eq64

@@ -1,7 +1,7 @@
 -- A field lies within one word.
 use Rattle.std.proofs.Common.{◌≡◌, ◌*◌, ◌/◌, ◌%◌, ◌^◌, ◌<◌, ℕ, slice_set, subst, ap, sym, ◌∙◌, arith}
 use Rattle.capnp_values.specs.DataSections.{with_field}
-use Rattle.capnp_values.proofs.numbers.DataSectionLemmas.{set_in_word, set_nothing}
+use Rattle.capnp_values.proofs.numbers.DataFieldSetLemmas.{set_in_word, set_nothing}
 use Rattle.capnp_values.proofs.data_section.put_field.Goals as goal
 
 pub returns-then-width-gt0 : goal.returns-then-width-gt0

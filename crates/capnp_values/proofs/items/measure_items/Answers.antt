@@ -1,10 +1,10 @@
 -- Each value is measured after those before it.
 use Rattle.std.proofs.Common.{rules, ◌≡◌, ◌+◌, Err, Result, false, subst, sym, arith}
 use Rattle.capnp_frame.specs.declared.error.Error.{Error}
-use Rattle.capnp_wire.proofs.views.MeasuredPartLemmas.{output_words}
+use Rattle.capnp_wire.proofs.views.ValueAsPartTwoMeasuresLemmas.{output_words}
 use Rattle.capnp_wire.specs.declared.traits.TreeWords.{TreeWords}
 use Rattle.capnp_values.proofs.lists.ItemMeasureLemmas.{MeasuresItems, ItemsMeasured, measuring_begins, measuring_goes_on, measuring_fails, measuring_ends}
-use Rattle.capnp_values.proofs.values.LazyValueLemmas.{part_declared, part_made, words_error_declared, words_error_made}
+use Rattle.capnp_values.proofs.values.LazyValueAsDeclaredLemmas.{part_declared, part_made, words_error_declared, words_error_made}
 use Rattle.capnp_values.proofs.items.measure_items.Goals as goal
 
 pub loop-index-init : goal.loop-index-init

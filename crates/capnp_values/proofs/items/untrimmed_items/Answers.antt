@@ -3,8 +3,8 @@ use Rattle.std.proofs.Common.{rules, ◌≡◌, Err, Result, false, subst, sym, 
 use Rattle.capnp_frame.specs.declared.error.Error.{Error}
 use Rattle.capnp_wire.specs.declared.traits.TreeWords.{TreeWords}
 use Rattle.capnp_values.proofs.lists.ItemMeasureLemmas.{MeasuresItems, measuring_begins, measuring_goes_on, measuring_fails, measuring_ends}
-use Rattle.capnp_values.proofs.values.UntrimmedValueLemmas.{as_part, as_parts, untrimmed_part, as_parts_found, as_parts_error}
-use Rattle.capnp_values.proofs.values.LazyValueLemmas.{part_declared, part_made, words_error_declared, words_error_made}
+use Rattle.capnp_values.proofs.values.EqualWordsIfUntrimmedLemmas.{as_part, as_parts, untrimmed_part, as_parts_found, as_parts_error}
+use Rattle.capnp_values.proofs.values.LazyValueAsDeclaredLemmas.{part_declared, part_made, words_error_declared, words_error_made}
 use Rattle.capnp_values.proofs.items.untrimmed_items.Goals as goal
 
 pub loop-index-init : goal.loop-index-init

@@ -1,8 +1,8 @@
 -- Each value is written after those before it.
 use Rattle.std.proofs.Common.{◌+◌, ℕ, sym, subst, arith}
-use Rattle.capnp_layout.proofs.words.WordByteLemmas.{length-words_of}
+use Rattle.capnp_layout.proofs.words.WordsOfBytesLemmas.{length-words_of}
 use Rattle.capnp_values.proofs.lists.ItemWriteLemmas.{ItemsWritten, writing_begins, item_room, writing_goes_on, writing_ends}
-use Rattle.capnp_values.proofs.values.LazyValueLemmas.{room_made}
+use Rattle.capnp_values.proofs.values.LazyValueAsDeclaredLemmas.{room_made}
 use Rattle.capnp_values.proofs.items.write_items.Goals as goal
 
 pub loop-index-init : goal.loop-index-init

@@ -1,5 +1,5 @@
--- The law, as DataSectionLemmas proves it.
-use Rattle.capnp_values.proofs.numbers.DataSectionLemmas.{length-with_field, with_field_below}
+-- The law, as DataFieldSetLemmas proves it.
+use Rattle.capnp_values.proofs.numbers.DataFieldSetLemmas.{length-with_field, with_field_below}
 use Rattle.capnp_values.proofs.laws.words_stay_words.Goals as goal
 
 pub returns : goal.returns

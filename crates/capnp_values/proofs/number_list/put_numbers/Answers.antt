@@ -1,8 +1,8 @@
 -- Each word is put after those before it.
 use Rattle.std.proofs.Common.{◌≡◌, ◌+◌, ◌/◌, ◌<◌, ◌^◌, ◌∙◌, ℕ, length, map, refl, ap, arith}
 use Rattle.capnp_layout.specs.Prelude.{number_of, words_of, width, words_for}
-use Rattle.capnp_layout.proofs.words.WordByteLemmas.{length-words_of}
-use Rattle.capnp_values.proofs.numbers.FullWordLemmas.{parted, full_put, last_put, numbers_end}
+use Rattle.capnp_layout.proofs.words.WordsOfBytesLemmas.{length-words_of}
+use Rattle.capnp_values.proofs.numbers.NumberWordWriteLemmas.{parted, full_put, last_put, numbers_end}
 use Rattle.capnp_values.proofs.number_list.put_numbers.Goals as goal
 
 pub put_word-requires : goal.put_word-requires

@@ -1,7 +1,7 @@
 -- The bits of some numbers in one word.
 use Rattle.std.proofs.Common.{◌≡◌, ◌+◌, ◌*◌, ◌^◌, ◌-◌, ◌<◌, ℕ, ap, ◌∙◌, arith, drop, map}
 use Rattle.capnp_layout.specs.Prelude.{width, number_of}
-use Rattle.capnp_values.proofs.numbers.NumberListLemmas.{front_small}
+use Rattle.capnp_values.proofs.numbers.NumberListAsWordsLemmas.{front_small}
 use Rattle.capnp_values.proofs.number_list.word_of_numbers.Goals as goal
 
 pub prepend_bits-word-requires-clause-room : goal.prepend_bits-word-requires-clause-room

@@ -6,7 +6,7 @@ use Rattle.capnp_values.specs.Measured.{MeasuresValue}
 use Rattle.capnp_values.specs.Lists.{AreItems, IsPointerListTree, PointerListError}
 use Rattle.capnp_wire.specs.declared.traits.TreeWords.{TreeWords}
 use Rattle.capnp_values.proofs.lists.ItemMeasureLemmas.{items_settled, measured_few}
-use Rattle.capnp_values.proofs.lists.PointerListLemmas.{pointer_list_measured, list_too_long, pointer_list_error}
+use Rattle.capnp_values.proofs.lists.PointerListMeasureLemmas.{pointer_list_measured, list_too_long, pointer_list_error}
 use Rattle.capnp_values.proofs.pointer_list.measure_list.Goals as goal
 
 pub returns-then-count : goal.returns-then-count

@@ -1,8 +1,8 @@
 -- Each word is put after those before it.
 use Rattle.std.proofs.Common.{◌+◌, ◌-◌, ◌*◌, slice_index_or, refl, arith}
 use Rattle.capnp_layout.specs.Prelude.{words_of}
-use Rattle.capnp_layout.proofs.words.WordByteLemmas.{length-words_of}
-use Rattle.capnp_values.proofs.structs.StructSectionLemmas.{word_put, there_is, all_put}
+use Rattle.capnp_layout.proofs.words.WordsOfBytesLemmas.{length-words_of}
+use Rattle.capnp_values.proofs.structs.DataWordWriteLemmas.{word_put, there_is, all_put}
 use Rattle.capnp_values.proofs.sections.put_words.Goals as goal
 
 pub loop-index-preserved : goal.loop-index-preserved

@@ -1,6 +1,6 @@
 -- Words are left out from the end on while they are zero.
 use Rattle.std.proofs.Common.{◌-◌, ◌∙◌, slice_index_or, refl, arith}
-use Rattle.capnp_values.proofs.structs.StructSectionLemmas.{here_used, here_unused}
+use Rattle.capnp_values.proofs.structs.DataWordWriteLemmas.{here_used, here_unused}
 use Rattle.capnp_values.proofs.sections.used.Goals as goal
 
 pub returns-then-words-left-ne0 : goal.returns-then-words-left-ne0

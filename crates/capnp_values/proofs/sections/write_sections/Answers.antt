@@ -1,9 +1,9 @@
 -- The data words that are kept, and then the pointers.
 use Rattle.std.proofs.Common.{◌≡◌, ◌+◌, ◌-◌, ◌*◌, ◌≤◌, ◌∙◌, ℕ, List, length, take, drop, subst, ap, arith, length-take, length-drop}
 use Rattle.capnp_layout.specs.Prelude.{words_of, put}
-use Rattle.capnp_layout.proofs.words.WordByteLemmas.{length-words_of}
+use Rattle.capnp_layout.proofs.words.WordsOfBytesLemmas.{length-words_of}
 use Rattle.capnp_values.specs.Fields.{CanWriteFields, AreFieldsWritten}
-use Rattle.capnp_values.proofs.structs.StructSectionLemmas.{data_is_put}
+use Rattle.capnp_values.proofs.structs.DataWordWriteLemmas.{data_is_put}
 use Rattle.capnp_values.proofs.sections.write_sections.Goals as goal
 
 -- as many as are kept

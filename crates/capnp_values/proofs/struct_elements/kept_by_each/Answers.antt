@@ -2,7 +2,7 @@
 use Rattle.std.proofs.Common.{◌∙◌, Bool, List, ℕ, length, map, ap, sym, arith}
 use Rattle.capnp_layout.specs.Prelude.{cut_zeros}
 use Rattle.capnp_values.specs.StructLists.{element_data, element_pointers}
-use Rattle.capnp_values.proofs.struct_lists.ElementKeptLemmas.{needing_begins, needing_goes_on, needing_ends}
+use Rattle.capnp_values.proofs.struct_lists.CanonicalElementSizeLemmas.{needing_begins, needing_goes_on, needing_ends}
 use Rattle.capnp_values.proofs.struct_elements.kept_by_each.Goals as goal
 
 pub loop-index-init : goal.loop-index-init

@@ -1,5 +1,5 @@
 -- What the structs so far need.
-use Rattle.capnp_values.proofs.struct_lists.ElementKeptLemmas.{NeededSoFar}
+use Rattle.capnp_values.proofs.struct_lists.CanonicalElementSizeLemmas.{NeededSoFar}
 use Rattle.capnp_values.proofs.struct_elements.kept_by_each.Given as goal
 
 abbrev pub invariant-loop-index : goal.invariant-loop-index

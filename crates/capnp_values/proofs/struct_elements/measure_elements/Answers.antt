@@ -6,7 +6,7 @@ use Rattle.capnp_wire.specs.declared.traits.TreeWords.{TreeWords}
 use Rattle.capnp_values.specs.Measured.{MeasuresValue}
 use Rattle.capnp_values.specs.StructLists.{MeasuresElements}
 use Rattle.capnp_values.proofs.struct_lists.ElementMeasureLemmas.{ElementsMeasured, structs_measuring_begins, sum_few, structs_measuring_goes_on, structs_measuring_fails, structs_measuring_ends}
-use Rattle.capnp_values.proofs.values.LazyValueLemmas.{declared_fields_measured}
+use Rattle.capnp_values.proofs.values.LazyValueAsDeclaredLemmas.{declared_fields_measured}
 use Rattle.capnp_values.proofs.struct_elements.measure_elements.Goals as goal
 
 pub loop-index-init : goal.loop-index-init

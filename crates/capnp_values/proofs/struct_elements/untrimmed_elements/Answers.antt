@@ -6,8 +6,8 @@ use Rattle.capnp_wire.specs.declared.traits.TreeWords.{TreeWords}
 use Rattle.capnp_values.specs.Measured.{MeasuresValue}
 use Rattle.capnp_values.specs.StructLists.{MeasuresElements}
 use Rattle.capnp_values.proofs.struct_lists.ElementMeasureLemmas.{structs_measuring_begins, sum_few, structs_measuring_goes_on, structs_measuring_fails, structs_measuring_ends}
-use Rattle.capnp_values.proofs.values.UntrimmedValueLemmas.{as_part, as_parts, untrimmed_fields_measured as untrimmed_measured}
-use Rattle.capnp_values.proofs.values.LazyValueLemmas.{declared_fields_measured}
+use Rattle.capnp_values.proofs.values.EqualWordsIfUntrimmedLemmas.{as_part, as_parts, untrimmed_fields_measured as untrimmed_measured}
+use Rattle.capnp_values.proofs.values.LazyValueAsDeclaredLemmas.{declared_fields_measured}
 use Rattle.capnp_values.proofs.struct_elements.untrimmed_elements.Goals as goal
 
 pub loop-index-init : goal.loop-index-init

@@ -2,9 +2,9 @@
 use Rattle.std.proofs.Common.{◌+◌, ◌*◌, ℕ, List, length, take, refl, sym, ap, arith, subst}
 use Rattle.capnp_layout.specs.Prelude.{words_of, put}
 use Rattle.capnp_values.specs.Fields.{AreFieldsWritten}
-use Rattle.capnp_layout.proofs.words.WordByteLemmas.{length-words_of}
+use Rattle.capnp_layout.proofs.words.WordsOfBytesLemmas.{length-words_of}
 use Rattle.capnp_values.proofs.struct_lists.ElementWriteLemmas.{ElementsWritten, structs_writing_begins, next_struct_room, structs_writing_goes_on, structs_writing_ends}
-use Rattle.capnp_values.proofs.values.LazyValueLemmas.{fields_made, fields_declared}
+use Rattle.capnp_values.proofs.values.LazyValueAsDeclaredLemmas.{fields_made, fields_declared}
 use Rattle.capnp_values.proofs.struct_elements.write_elements.Goals as goal
 
 pub overflow_add-width : goal.overflow_add-width

@@ -5,7 +5,7 @@ use Rattle.capnp_values.specs.Measured.{MeasuresValue}
 use Rattle.capnp_values.specs.Structs.{IsStructTree, StructError}
 use Rattle.capnp_wire.specs.declared.traits.TreeWords.{TreeWords}
 use Rattle.capnp_values.proofs.lists.ItemMeasureLemmas.{measured_few}
-use Rattle.capnp_values.proofs.structs.StructTreeLemmas.{not_fitting, struct_too_large, struct_error, struct_value_measured}
+use Rattle.capnp_values.proofs.structs.StructMeasureLemmas.{not_fitting, struct_too_large, struct_error, struct_value_measured}
 use Rattle.capnp_values.proofs.struct_value.measure_struct.Goals as goal
 
 pub returns-then-not-fits : goal.returns-then-not-fits

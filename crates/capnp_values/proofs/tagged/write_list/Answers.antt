@@ -3,7 +3,7 @@ use Rattle.std.proofs.Common.{ℕ, List, length, map, sym, arith}
 use Rattle.std.proofs.lemmas.List.{length-map}
 use Rattle.capnp_layout.specs.Prelude.{words_of}
 use Rattle.capnp_layout.proofs.layouts.LayoutSizeLemmas.{length-body}
-use Rattle.capnp_wire.proofs.layouts.CopyPlanLemmas.{room_output}
+use Rattle.capnp_wire.proofs.layouts.CopyPlanFillsLayoutLemmas.{room_output}
 use Rattle.capnp_values.proofs.struct_lists.StructListWriteLemmas.{list_place, list_even, structs_rooms, structs_many, struct_list_copied}
 use Rattle.capnp_values.proofs.tagged.write_list.Goals as goal
 

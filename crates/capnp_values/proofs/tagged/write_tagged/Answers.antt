@@ -1,8 +1,8 @@
 -- The tag, the elements, and then what these point to.
 use Rattle.std.proofs.Common.{◌≡◌, ◌+◌, ◌-◌, ◌*◌, ◌∷◌, [], ◌∙◌, ℕ, List, length, subst, ap, arith}
 use Rattle.capnp_layout.specs.Prelude.{words_of, put, list_pointer, struct_pointer}
-use Rattle.capnp_layout.proofs.words.WordByteLemmas.{length-words_of}
-use Rattle.capnp_wire.proofs.layouts.FreeBlockLemmas.{free_after}
+use Rattle.capnp_layout.proofs.words.WordsOfBytesLemmas.{length-words_of}
+use Rattle.capnp_wire.proofs.layouts.ZeroFreePartLemmas.{free_after}
 use Rattle.capnp_values.specs.StructLists.{HasRoomForElements, AreElementsWritten}
 use Rattle.capnp_values.proofs.tagged.write_tagged.Goals as goal
 

@@ -1,7 +1,7 @@
 -- A tree is written as a copy is; null has no words.
 use Rattle.capnp_wire.specs.Prelude.{pointer_of}
-use Rattle.capnp_wire.proofs.layouts.FreeBlockLemmas.{null_copied}
-use Rattle.capnp_wire.proofs.views.MeasuredPartLemmas.{null_there_tree}
+use Rattle.capnp_wire.proofs.layouts.NullAndNumbersWrittenLemmas.{null_copied}
+use Rattle.capnp_wire.proofs.views.ValueAsPartTwoMeasuresLemmas.{null_there_tree}
 use Rattle.capnp_wire.proofs.any_pointer.write_into.Goals as goal
 
 pub returns-in-None-clause-written : goal.returns-in-None-clause-written

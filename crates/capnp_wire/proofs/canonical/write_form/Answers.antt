@@ -1,9 +1,10 @@
 -- The pointer and the body after it are the canonical form.
 use Rattle.std.proofs.Common.{◌≡◌, ◌-◌, ◌*◌, ◌∙◌, ◌+◌, ℕ, List, true, length, take, drop, arith, length-take, length-drop}
 use Rattle.capnp_wire.specs.Prelude.{pointer_of, PointsToTree}
-use Rattle.capnp_layout.proofs.words.WordByteLemmas.{length-words_of}
-use Rattle.capnp_wire.proofs.layouts.FreeBlockLemmas.{free_part, zero_part, has_room}
-use Rattle.capnp_wire.proofs.views.TargetValueLemmas.{whole_form}
+use Rattle.capnp_layout.proofs.words.WordsOfBytesLemmas.{length-words_of}
+use Rattle.capnp_wire.proofs.layouts.ZeroFreePartLemmas.{free_part, zero_part}
+use Rattle.capnp_wire.proofs.layouts.NullAndNumbersWrittenLemmas.{has_room}
+use Rattle.capnp_wire.proofs.forms.TargetWrittenInCanonicalFormLemmas.{whole_form}
 use Rattle.capnp_wire.proofs.canonical.write_form.Goals as goal
 
 -- the block after the pointer

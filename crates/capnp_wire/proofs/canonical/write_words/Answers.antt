@@ -1,9 +1,9 @@
 -- The pointer and the body after it are the canonical form.
 use Rattle.std.proofs.Common.{◌-◌, true, length, take, drop, arith, length-take, length-drop}
 use Rattle.capnp_wire.specs.Prelude.{pointer_of, PointsToTree}
-use Rattle.capnp_layout.proofs.words.PutBytesLemmas.{length-word_numbers}
-use Rattle.capnp_wire.proofs.layouts.FreeBlockLemmas.{has_room}
-use Rattle.capnp_wire.proofs.views.TargetValueLemmas.{words_form}
+use Rattle.capnp_layout.proofs.words.PutBytesAsWordsLemmas.{length-word_numbers}
+use Rattle.capnp_wire.proofs.layouts.NullAndNumbersWrittenLemmas.{has_room}
+use Rattle.capnp_wire.proofs.forms.TargetWrittenInCanonicalFormLemmas.{words_form}
 use Rattle.capnp_wire.proofs.canonical.write_words.Goals as goal
 
 pub write_into-copied-requires-clause-value : goal.write_into-copied-requires-clause-value

@@ -1,5 +1,5 @@
--- The law, as WalkErrorLemmas proves it.
-use Rattle.capnp_wire.proofs.walks.WalkErrorLemmas as law
+-- The law, as WalkErrorExcludesTreesLemmas proves it.
+use Rattle.capnp_wire.proofs.walks.WalkErrorExcludesTreesLemmas as law
 use Rattle.capnp_wire.proofs.laws.failed_walk_has_no_trees.Goals as goal
 
 pub returns : goal.returns

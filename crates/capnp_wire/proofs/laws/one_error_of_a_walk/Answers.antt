@@ -1,5 +1,5 @@
--- The law, as WalkErrorLemmas proves it.
-use Rattle.capnp_wire.proofs.walks.WalkErrorLemmas as law
+-- The law, as WalkErrorExcludesTreesLemmas proves it.
+use Rattle.capnp_wire.proofs.walks.WalkErrorExcludesTreesLemmas as law
 use Rattle.capnp_wire.proofs.laws.one_error_of_a_walk.Goals as goal
 
 pub returns : goal.returns

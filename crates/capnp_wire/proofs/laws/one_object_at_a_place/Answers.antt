@@ -1,5 +1,5 @@
--- The law, as ObjectLemmas proves it.
-use Rattle.capnp_layout.proofs.objects.OneObjectLemmas.{one_object}
+-- The law, as UniqueObjectLemmas proves it.
+use Rattle.capnp_layout.proofs.objects.UniqueObjectLemmas.{one_object}
 use Rattle.capnp_wire.proofs.laws.one_object_at_a_place.Goals as goal
 
 pub returns : goal.returns

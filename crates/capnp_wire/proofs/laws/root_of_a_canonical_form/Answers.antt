@@ -1,5 +1,5 @@
--- The law, as DistinctLayoutLemmas proves it.
-use Rattle.capnp_wire.proofs.forms.DistinctLayoutLemmas.{root_of_canon}
+-- The law, as LayoutDeterminesTreeLemmas proves it.
+use Rattle.capnp_wire.proofs.forms.LayoutDeterminesTreeLemmas.{root_of_canon}
 use Rattle.capnp_wire.proofs.laws.root_of_a_canonical_form.Goals as goal
 
 pub returns : goal.returns

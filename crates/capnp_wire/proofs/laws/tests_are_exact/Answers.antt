@@ -1,5 +1,5 @@
--- The law, as CanonicalTestLemmas proves it.
-use Rattle.capnp_wire.proofs.forms.CanonicalTestLemmas as law
+-- The law, as ExactCanonicalTestLemmas proves it.
+use Rattle.capnp_wire.proofs.forms.ExactCanonicalTestLemmas as law
 use Rattle.capnp_wire.proofs.laws.tests_are_exact.Goals as goal
 
 pub returns : goal.returns

@@ -1,4 +1,4 @@
--- The law, as PlacedLemmas proves it.
+-- The law, as TreeReadBackLemmas proves it.
 use Rattle.capnp_layout.proofs.trees.TreeReadBackLemmas.{local_tree}
 use Rattle.capnp_wire.proofs.laws.tree_after_its_pointer.Goals as goal
 

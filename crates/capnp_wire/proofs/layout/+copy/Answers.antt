@@ -1,8 +1,8 @@
 -- An object is copied, and then what its pointers point to, one after the other.
 use Rattle.std.proofs.Common.{arith}
-use Rattle.capnp_wire.proofs.layouts.TreesCopyLemmas.{copying_first, copying_next, copying_ends}
-use Rattle.capnp_wire.proofs.layouts.CopiedTargetLemmas.{copyable}
-use Rattle.capnp_wire.proofs.walks.EmptyStructWalkLemmas.{null_or_empty_copied}
+use Rattle.capnp_wire.proofs.layouts.TreeCopySequenceLemmas.{copying_first, copying_next, copying_ends}
+use Rattle.capnp_wire.proofs.layouts.CopyBeginsWithOwnWordsLemmas.{copyable}
+use Rattle.capnp_wire.proofs.walks.EmptyStructWalkAndCopyLemmas.{null_or_empty_copied}
 use Rattle.capnp_wire.proofs.layout.+copy.Goals.{copy::copy_target-in-Some-local_struct+in-Pending, copy::copy_target-in_default-local_struct+in_default-local_list+in-Some-local_pointers}
 use Rattle.capnp_wire.proofs.layout.+copy.Goals as goal
 

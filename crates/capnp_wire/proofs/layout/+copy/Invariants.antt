@@ -1,7 +1,7 @@
 -- How far the copying of what an object's pointers point to has come.
 use Rattle.std.proofs.Common.{◌+◌, ◌*◌, length}
 use Rattle.capnp_layout.specs.Prelude.{words_of, message_of, places_in}
-use Rattle.capnp_wire.proofs.layouts.TreesCopyLemmas.{Copying}
+use Rattle.capnp_wire.proofs.layouts.TreeCopySequenceLemmas.{Copying}
 use Rattle.capnp_wire.proofs.layout.+copy.Given as goal
 
 abbrev pub decreases-copy::copy_object : goal.decreases-copy::copy_object

@@ -1,6 +1,6 @@
 -- The bytes of a list are in its words.
 use Rattle.std.proofs.Common.{◌≡◌, ◌+◌, ◌-◌, ◌*◌, ℕ, take, drop, ap, ◌∙◌, arith}
-use Rattle.capnp_layout.proofs.objects.ListWordLemmas.{elements_are_bytes}
+use Rattle.capnp_layout.proofs.objects.ByteListElementLemmas.{elements_are_bytes}
 use Rattle.capnp_wire.proofs.object_content.bytes_at.Goals as goal
 
 pub returns : goal.returns

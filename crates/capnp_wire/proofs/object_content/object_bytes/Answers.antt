@@ -1,6 +1,6 @@
 -- The bytes of an object are the elements of a list of bytes.
 use Rattle.capnp_layout.specs.declared.element_size.ElementSize.TheVariants.{Byte}
-use Rattle.capnp_wire.proofs.views.ShownFormLemmas.{numbers_form, other_than_numbers}
+use Rattle.capnp_wire.proofs.views.EnteredObjectShownLemmas.{numbers_form, other_than_numbers}
 use Rattle.capnp_wire.proofs.object_content.object_bytes.Goals as goal
 
 pub returns-in-Some : goal.returns-in-Some

@@ -1,5 +1,5 @@
 -- The elements of a list of numbers that an object is.
-use Rattle.capnp_wire.proofs.views.ShownFormLemmas.{numbers_form, other_than_numbers}
+use Rattle.capnp_wire.proofs.views.EnteredObjectShownLemmas.{numbers_form, other_than_numbers}
 use Rattle.capnp_wire.proofs.object_content.object_numbers.Goals as goal
 
 pub returns-in-Some : goal.returns-in-Some

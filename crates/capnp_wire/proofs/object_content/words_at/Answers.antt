@@ -1,7 +1,7 @@
 -- The elements of a list are in its own words.
 use Rattle.std.proofs.Common.{◌≡◌, ◌+◌, ◌-◌, ◌*◌, ℕ, take, drop, ap, ◌∙◌, arith, length-take, length-drop}
 use Rattle.capnp_layout.specs.Prelude.{words_of, code_of, width, words_for, elements}
-use Rattle.capnp_layout.proofs.objects.NumberElementLemmas.{elements_within}
+use Rattle.capnp_layout.proofs.objects.NumberElementsInListWordsLemmas.{elements_within}
 use Rattle.capnp_wire.proofs.object_content.words_at.Goals as goal
 
 pub returns-clause-elements : goal.returns-clause-elements

@@ -2,9 +2,10 @@
 -- layout.
 use Rattle.std.proofs.Common.{◌≡◌, ◌∙◌, false, ap, arith}
 use Rattle.capnp_wire.specs.Prelude.{words_of, pointer_of, Trees, total_words, Pointer, PointsToTree}
-use Rattle.capnp_layout.proofs.words.WordByteLemmas.{length-words_of}
-use Rattle.capnp_wire.proofs.layouts.FreeBlockLemmas.{free_block, has_room, whole_written}
-use Rattle.capnp_wire.proofs.views.UniqueValueLemmas.{one_there}
+use Rattle.capnp_layout.proofs.words.WordsOfBytesLemmas.{length-words_of}
+use Rattle.capnp_wire.proofs.layouts.ZeroFreePartLemmas.{free_block}
+use Rattle.capnp_wire.proofs.layouts.NullAndNumbersWrittenLemmas.{has_room, whole_written}
+use Rattle.capnp_wire.proofs.views.UniqueValueTreeAndMeasureLemmas.{one_there}
 use Rattle.capnpc_rattle.proofs.types.write_object.Goals as goal
 
 pub write-requires-clause-value : goal.write-requires-clause-value

@@ -4,8 +4,8 @@ use Rattle.std.proofs.lemmas.Result.{err_from_is_err_and}
 use Rattle.capnp_frame.specs.Prelude.{IsWritable}
 use Rattle.capnp_message.specs.Seen.{root_of}
 use Rattle.capnp.specs.Prelude.{IsFrameEncoding, IsForm}
-use Rattle.capnp.proofs.PlainSinkLemmas.{frame_bytes_added, Adds-weaker}
-use Rattle.capnp.proofs.CanonicalFormLemmas.{one_writable, without_form, form_written, form_untouched}
+use Rattle.capnp.proofs.MessageWriteLemmas.{frame_bytes_added, Adds-weaker}
+use Rattle.capnp.proofs.CanonicalFormWriteLemmas.{one_writable, without_form, form_written, form_untouched}
 use Rattle.capnp.proofs.serialize.canonical.write_canonical_message.Given as given
 use Rattle.capnp.proofs.serialize.canonical.write_canonical_message.Goals as goal
 

@@ -1,7 +1,7 @@
 -- The segments are those that are found.
 use Rattle.std.proofs.Common.{ap}
 use Rattle.std.proofs.lemmas.Result.{err_from_is_err_and}
-use Rattle.capnp_frame.proofs.slices.FlatReaderLemmas.{reads_shown, reads_passed}
+use Rattle.capnp_frame.proofs.slices.FlatReaderOutcomeLemmas.{reads_shown, reads_passed}
 use Rattle.capnp.proofs.serialize.flat.take_message_no_alloc.Goals as goal
 
 pub returns-in_err-segments : goal.returns-in_err-segments

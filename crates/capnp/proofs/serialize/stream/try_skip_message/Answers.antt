@@ -1,7 +1,7 @@
 -- What a reader returns over a source of plain bytes.
 use Rattle.std.proofs.Common.{length}
 use Rattle.capnp.specs.Prelude.{IsPlainSource}
-use Rattle.capnp.proofs.FormatReaderLemmas.{plain_skips}
+use Rattle.capnp.proofs.ReaderOutcomeByFormatRulesLemmas.{plain_skips}
 use Rattle.capnp.proofs.serialize.stream.try_skip_message.Goals as goal
 
 pub returns : goal.returns

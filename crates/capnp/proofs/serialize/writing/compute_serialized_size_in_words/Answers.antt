@@ -1,5 +1,5 @@
 -- The bytes are eight times the words.
-use Rattle.capnp.proofs.PlainSinkLemmas.{encoding_size}
+use Rattle.capnp.proofs.MessageWriteLemmas.{encoding_size}
 use Rattle.capnp.proofs.serialize.writing.compute_serialized_size_in_words.Goals as goal
 
 pub returns-clause-bytes : goal.returns-clause-bytes

@@ -1,5 +1,5 @@
 -- The engine's chunks, joined.
-use Rattle.capnp.proofs.PlainSinkLemmas.{frame_written}
+use Rattle.capnp.proofs.MessageWriteLemmas.{frame_written}
 use Rattle.capnp.proofs.serialize.writing.write_message_segments.Goals as goal
 
 pub returns : goal.returns

@@ -1,6 +1,6 @@
 -- The engine's chunks, packed.
 use Rattle.std.proofs.Common.{rules, ◌≡◌}
-use Rattle.capnp.proofs.PlainSinkLemmas.{packed_written}
+use Rattle.capnp.proofs.MessageWriteLemmas.{packed_written}
 use Rattle.capnp.proofs.serialize_packed.writing.write_message_segments.Goals as goal
 
 pub returns : goal.returns

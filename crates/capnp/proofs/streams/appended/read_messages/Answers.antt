@@ -2,10 +2,10 @@
 use Rattle.std.proofs.Common.{◌≡◌, ◌+◌, ◌<◌, ◌++◌, ◌∷◌, [], inl, length, map, arith, ap, refl, sym, ◌∙◌}
 use Rattle.std.proofs.lemmas.List.{length-map, length_push}
 use Rattle.std.proofs.lemmas.Result.{err_from_is_err_and}
-use Rattle.capnp_frame.proofs.sources.RequestSequenceLemmas.{Advances-join}
+use Rattle.capnp_frame.proofs.sources.JoinedRequestPartsLemmas.{Advances-join}
 use Rattle.capnp_frame.specs.declared.serialize.segment_table.Padding.TheVariants.{Zero}
 use Rattle.capnp_frame.specs.declared.error.ErrorKind.TheVariants.{DeviceFailed, OutOfMemory}
-use Rattle.capnp.proofs.MessageSequenceLemmas.{encodings_next, fails_reading, accepted_at_memory, AllByRecursion-append-one}
+use Rattle.capnp.proofs.MessageSequenceReadBackLemmas.{encodings_next, fails_reading, accepted_at_memory, AllByRecursion-append-one}
 use Rattle.capnp.proofs.streams.appended.read_messages.Goals as goal
 
 pub returns-in_err-reader : goal.returns-in_err-reader

@@ -2,10 +2,10 @@
 use Rattle.std.proofs.Common.{arith}
 use Rattle.std.proofs.lemmas.List.{take_all}
 use Rattle.std.proofs.lemmas.Result.{err_from_is_err_and}
-use Rattle.capnp_frame.proofs.sources.RequestSequenceLemmas.{Grows-join}
+use Rattle.capnp_frame.proofs.sources.JoinedRequestPartsLemmas.{Grows-join}
 use Rattle.capnp.specs.Prelude.{IsEncodingOf, AppendsMessage, FailsAtMessage, ErrorsAs}
-use Rattle.capnp.proofs.MessageSequenceLemmas.{appended_next, writable_at, few_next}
-use Rattle.capnp.proofs.UnwrittenMessageLemmas.{message_error_at, fails_at_message, fails_among}
+use Rattle.capnp.proofs.MessageSequenceReadBackLemmas.{appended_next, writable_at, few_next}
+use Rattle.capnp.proofs.FailedWriteAmongMessagesLemmas.{message_error_at, fails_at_message, fails_among}
 use Rattle.capnp.proofs.streams.appended.write_messages.Goals as goal
 
 pub write_message-requires : goal.write_message-requires

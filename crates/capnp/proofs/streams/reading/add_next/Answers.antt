@@ -2,8 +2,8 @@
 use Rattle.std.proofs.Common.{inl, inr, Some, map, ap, ◌∙◌}
 use Rattle.std.proofs.lemmas.List.{map_push}
 use Rattle.std.proofs.lemmas.Result.{err_from_is_err_and}
-use Rattle.capnp.proofs.FormatReaderLemmas.{found_next}
-use Rattle.capnp.proofs.SliceStreamLemmas.{slice_reader_error, memory_at_bytes, found_in_bytes}
+use Rattle.capnp.proofs.ReaderOutcomeByFormatRulesLemmas.{found_next}
+use Rattle.capnp.proofs.SliceStreamReadToItsEndLemmas.{slice_reader_error, memory_at_bytes, found_in_bytes}
 use Rattle.capnp.proofs.streams.reading.add_next.Goals as goal
 
 pub returns-in_err-message-clause-errors : goal.returns-in_err-message-clause-errors

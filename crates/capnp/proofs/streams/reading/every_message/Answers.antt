@@ -1,7 +1,7 @@
 -- Each turn reads one more message; where the reading stops, the stream ends, or an allocation failed.
 use Rattle.std.proofs.Common.{◌<◌, length, refl, ap, map, inl, inr, None, Some, arith}
 use Rattle.capnp.specs.Prelude.{grammar_of, IsMemoryError}
-use Rattle.capnp.proofs.SliceStreamLemmas.{encodings_within, next_encodings, stream_error_ends, reading_ended, moves_on, memory_kind}
+use Rattle.capnp.proofs.SliceStreamReadToItsEndLemmas.{encodings_within, next_encodings, stream_error_ends, reading_ended, moves_on, memory_kind}
 use Rattle.capnp.proofs.streams.reading.every_message.Goals as goal
 
 pub overflow_sub-end : goal.overflow_sub-end

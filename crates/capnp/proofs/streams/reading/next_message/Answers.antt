@@ -1,7 +1,7 @@
 -- Either format's message.
 use Rattle.capnp.specs.Prelude.{by_format}
 use Rattle.capnp.proofs.SourceEncodingLemmas.{reads_message}
-use Rattle.capnp.proofs.RunLemmas.{format_read}
+use Rattle.capnp.proofs.RunOutputMessageByMessageLemmas.{format_read}
 use Rattle.capnp.proofs.streams.reading.next_message.Goals as goal
 
 pub returns : goal.returns

@@ -5,7 +5,7 @@ use Rattle.std.proofs.lemmas.Iterator.{YieldsList-from_chars}
 use Rattle.std.proofs.lemmas.Iterator.Consumers.{YieldsList-end}
 use Rattle.std.proofs.lemmas.Result.{on_ok_weaker}
 use Rattle.capnp.specs.Prelude.{none_shown, one_shown, escaped}
-use Rattle.capnp.proofs.QuotationLemmas.{added_after_quotation, all_shown, closed, quotation_opened}
+use Rattle.capnp.proofs.PrintedQuotationLemmas.{added_after_quotation, all_shown, closed, quotation_opened}
 use Rattle.capnp.proofs.stringify.literals.push_characters.Goals as goal
 
 pub loop-character-init : goal.loop-character-init

@@ -2,7 +2,7 @@
 use Rattle.std.proofs.Common.{arith, [], ◌++◌}
 use Rattle.std.proofs.lemmas.List.{take_more}
 use Rattle.capnp.specs.Prelude.{none_shown, one_shown, escaped}
-use Rattle.capnp.proofs.QuotationLemmas.{added_after_quotation, quotation_opened}
+use Rattle.capnp.proofs.PrintedQuotationLemmas.{added_after_quotation, quotation_opened}
 use Rattle.capnp.proofs.stringify.literals.push_data.Goals as goal
 
 pub loop-byte-init : goal.loop-byte-init

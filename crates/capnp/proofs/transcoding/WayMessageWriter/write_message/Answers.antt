@@ -1,6 +1,6 @@
 -- A message that was read has not too many segments for a writer.
 use Rattle.std.proofs.Common.{None}
-use Rattle.capnp.proofs.PlainSinkLemmas.{writer_error}
+use Rattle.capnp.proofs.MessageWriteLemmas.{writer_error}
 use Rattle.capnp.proofs.transcoding.WayMessageWriter.write_message.Goals as goal
 
 pub returns-in-Pack-clause-errors : goal.returns-in-Pack-clause-errors

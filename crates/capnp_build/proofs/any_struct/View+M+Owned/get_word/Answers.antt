@@ -1,7 +1,7 @@
 -- A data word is one of the first words of the root's bytes.
 use Rattle.std.proofs.Common.{◌≡◌, ◌<◌, length, ◌∙◌, arith}
-use Rattle.capnp_build.proofs.roots.RootTypeLemmas.{no_field}
-use Rattle.capnp_build.proofs.roots.RootReadBackLemmas.{field_read}
+use Rattle.capnp_build.proofs.roots.NoSegmentRootLemmas.{no_field}
+use Rattle.capnp_build.proofs.roots.RootObjectFromBodyBytesLemmas.{field_read}
 use Rattle.capnp_build.proofs.any_struct.«View+M+Owned».get_word.Goals as goal
 
 pub returns-clause-root : goal.returns-clause-root

@@ -1,7 +1,7 @@
 -- A block after the used bytes.
 use Rattle.std.proofs.Common.{◌≡◌, ℕ, ◌+◌, ◌*◌, ◌≤◌, List, ◌++◌, length, take, drop, All, arith, ◌∙◌, ap, sym, subst}
 use Rattle.capnp_build.specs.Prelude.{Space, written, with_more}
-use Rattle.capnp_build.proofs.words.UsedByteLemmas.{block_after, still_zero, same_space, written_length, written_zero, grown_within}
+use Rattle.capnp_build.proofs.words.UsedBytesThenZerosLemmas.{block_after, still_zero, same_space, written_length, written_zero, grown_within}
 use Rattle.capnp_build.proofs.builder_segment.BuilderSegment.append.Goals as goal
 
 pub invariant_of-self : goal.invariant_of-self

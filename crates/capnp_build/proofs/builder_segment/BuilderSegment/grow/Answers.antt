@@ -1,7 +1,7 @@
 -- More bytes are used, which are zero.
 use Rattle.std.proofs.Common.{◌≡◌, ℕ, ◌+◌, ◌*◌, List, ◌++◌, take, replicate, arith, ◌∙◌, ap, refl, sym}
 use Rattle.capnp_build.specs.Prelude.{Space, with_block}
-use Rattle.capnp_build.proofs.words.UsedByteLemmas.{grows, still_zero, same_space, grown_within}
+use Rattle.capnp_build.proofs.words.UsedBytesThenZerosLemmas.{grows, still_zero, same_space, grown_within}
 use Rattle.capnp_build.proofs.builder_segment.BuilderSegment.grow.Goals as goal
 
 pub invariant_of-self : goal.invariant_of-self

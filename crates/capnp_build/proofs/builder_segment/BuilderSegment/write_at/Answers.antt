@@ -1,7 +1,7 @@
 -- A write inside of the used bytes.
 use Rattle.std.proofs.Common.{◌≡◌, ℕ, ◌+◌, ◌*◌, ◌≤◌, List, length, take, All, arith, ◌∙◌, ap, sym, subst}
 use Rattle.capnp_build.specs.Prelude.{Space, with_bytes}
-use Rattle.capnp_build.proofs.words.UsedByteLemmas.{written_used, written_zero, written_length, same_space, written_within}
+use Rattle.capnp_build.proofs.words.UsedBytesThenZerosLemmas.{written_used, written_zero, written_length, same_space, written_within}
 use Rattle.capnp_build.proofs.builder_segment.BuilderSegment.write_at.Goals as goal
 
 pub invariant_of-self : goal.invariant_of-self

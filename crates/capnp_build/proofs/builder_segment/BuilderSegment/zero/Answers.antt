@@ -2,7 +2,7 @@
 use Rattle.std.proofs.Common.{◌≡◌, ℕ, ◌+◌, ◌-◌, ◌*◌, ◌≤◌, List, length, take, replicate, All, arith, ◌∙◌, ap, sym, subst}
 use Rattle.std.proofs.lemmas.List.{length-replicate}
 use Rattle.capnp_build.specs.Prelude.{Space, with_bytes}
-use Rattle.capnp_build.proofs.words.UsedByteLemmas.{written_used, written_zero, written_length, same_space, written_within}
+use Rattle.capnp_build.proofs.words.UsedBytesThenZerosLemmas.{written_used, written_zero, written_length, same_space, written_within}
 use Rattle.capnp_build.proofs.builder_segment.BuilderSegment.zero.Goals as goal
 
 pub invariant_of-self : goal.invariant_of-self

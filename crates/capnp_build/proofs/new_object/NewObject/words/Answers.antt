@@ -1,7 +1,7 @@
 -- The words of a new object.
 use Rattle.std.proofs.Common.{false, ap, ◌∙◌}
 use Rattle.capnp_build.specs.Prelude.{words_of_body}
-use Rattle.capnp_build.proofs.layouts.NewObjectLemmas.{new_object_words}
+use Rattle.capnp_build.proofs.layouts.ZeroBlockIsNewObjectLemmas.{new_object_words}
 use Rattle.capnp_build.proofs.new_object.NewObject.words.Goals as goal
 
 pub returns : goal.returns

@@ -1,10 +1,10 @@
 -- A new object is one tree, which is measured.
 use Rattle.std.proofs.Common.{◌≡◌, ap, ◌∙◌, sym, Ok}
 use Rattle.capnp_layout.specs.Prelude.{none, tree}
-use Rattle.capnp_wire.proofs.views.UniqueValueLemmas.{IsOne, measured_found, measured_exactly}
+use Rattle.capnp_wire.proofs.views.UniqueValueTreeAndMeasureLemmas.{IsOne, measured_found, measured_exactly}
 use Rattle.capnp_build.specs.Prelude.{zero_form, words_of_body}
 use Rattle.capnp_build.specs.declared.object.NewBody.{NewBody}
-use Rattle.capnp_build.proofs.layouts.NewObjectLemmas.{new_object_words}
+use Rattle.capnp_build.proofs.layouts.ZeroBlockIsNewObjectLemmas.{new_object_words}
 use Rattle.capnp_build.proofs.new_object.NewObjectSetterInputOwned.measure.Goals as goal
 
 one_new : (body : NewBody) → IsOne (λ trees. trees ≡ tree (zero_form body) none none) (λ kind. ⊥)

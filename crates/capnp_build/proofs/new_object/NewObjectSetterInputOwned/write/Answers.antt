@@ -1,7 +1,7 @@
 -- A block of zeros is a new object.
 use Rattle.std.proofs.Common.{◌-◌, ◌∙◌, ap, arith}
 use Rattle.capnp_build.specs.Prelude.{body_pointer_word, words_of_body}
-use Rattle.capnp_build.proofs.layouts.NewObjectLemmas.{new_object_written, new_object_long}
+use Rattle.capnp_build.proofs.layouts.ZeroBlockIsNewObjectLemmas.{new_object_written, new_object_long}
 use Rattle.capnp_build.proofs.new_object.NewObjectSetterInputOwned.write.Goals as goal
 
 pub returns-clause-written : goal.returns-clause-written

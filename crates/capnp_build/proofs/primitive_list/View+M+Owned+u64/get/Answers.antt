@@ -1,7 +1,7 @@
 -- A number is one of the words of the root's bytes.
 use Rattle.std.proofs.Common.{◌≡◌, ◌<◌, length, ◌∙◌, arith}
-use Rattle.capnp_build.proofs.roots.RootTypeLemmas.{no_number}
-use Rattle.capnp_build.proofs.roots.RootReadBackLemmas.{number_read}
+use Rattle.capnp_build.proofs.roots.NoSegmentRootLemmas.{no_number}
+use Rattle.capnp_build.proofs.roots.RootObjectFromBodyBytesLemmas.{number_read}
 use Rattle.capnp_build.proofs.primitive_list.«View+M+Owned+u64».get.Goals as goal
 
 pub returns-clause-root : goal.returns-clause-root

@@ -2,7 +2,7 @@
 use Rattle.std.proofs.Common.{rules, ◌+◌, ◌^◌, ◌<◌, List, ◌∷◌, [], ◌++◌, length, MatchOption, ap, subst, sym, ◌∙◌}
 use Rattle.std.specs.Prelude.{⊤}
 use Rattle.capnp_build.specs.Prelude.{Space, BuilderState, pairs}
-use Rattle.capnp_build.proofs.states.SegmentOrderLemmas.{other_added, other_keeps, same_pair}
+use Rattle.capnp_build.proofs.states.OutSegmentListChangesLemmas.{other_added, other_keeps, same_pair}
 use Rattle.capnp_build.proofs.states.WholeWordSegmentLemmas.{added_words, no_used_words}
 use Rattle.capnp_build.proofs.segments.Segments.add.Goals as goal
 

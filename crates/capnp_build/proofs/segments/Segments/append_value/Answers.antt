@@ -4,9 +4,9 @@ use Rattle.std.specs.Int.{from_le_bytes}
 use Rattle.capnp_frame.specs.Prelude.{bytes_of}
 use Rattle.capnp_layout.specs.Prelude.{count, pointer}
 use Rattle.capnp_build.specs.Prelude.{BuilderState}
-use Rattle.capnp_layout.proofs.words.WordByteLemmas.{number_of_eight}
-use Rattle.capnp_build.proofs.layouts.BodyPointerLemmas.{block_there, longer_by}
-use Rattle.capnp_build.proofs.layouts.ValueAfterPointerLemmas.{ready}
+use Rattle.capnp_layout.proofs.words.WordsOfBytesLemmas.{number_of_eight}
+use Rattle.capnp_build.proofs.layouts.RootPointerToBodyLemmas.{block_there, longer_by}
+use Rattle.capnp_build.proofs.layouts.RootIsValueLemmas.{ready}
 use Rattle.capnp_build.proofs.segments.Segments.append_value.Goals as goal
 
 pub returns-clause-body : goal.returns-clause-body

@@ -1,7 +1,7 @@
 -- The segments that are out stay as long.
 use Rattle.std.proofs.Common.{◌≡◌, suc, ◌∙◌, ◌<◌, ◌≤◌, ◌*◌, List, length, ap, sym, subst}
 use Rattle.capnp_build.specs.Prelude.{Space, with_block, BuilderState, index_of, pair, spaces_of, space_at, free_words_of}
-use Rattle.capnp_build.proofs.states.SegmentOrderLemmas.{other_edit}
+use Rattle.capnp_build.proofs.states.OutSegmentListChangesLemmas.{other_edit}
 use Rattle.capnp_build.proofs.states.WholeWordSegmentLemmas.{edited_words, zero_block_uses_words}
 use Rattle.capnp_build.proofs.segments.Segments.grow.Goals as goal
 

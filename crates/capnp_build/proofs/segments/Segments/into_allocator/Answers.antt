@@ -1,7 +1,7 @@
 -- Each segment goes back, the last one first.
 use Rattle.std.proofs.Common.{◌≡◌, List, [], refl}
 use Rattle.capnp_build.specs.Prelude.{Out, pair}
-use Rattle.capnp_build.proofs.states.SegmentOrderLemmas.{last_pair, last_alone, out_first, taken_first, no_segment_left, only_first, returned_last, returned_first}
+use Rattle.capnp_build.proofs.states.OutSegmentListChangesLemmas.{last_pair, last_alone, out_first, taken_first, no_segment_left, only_first, returned_last, returned_first}
 use Rattle.capnp_build.proofs.segments.Segments.into_allocator.Goals as goal
 
 pub return_segment-requires : goal.return_segment-requires

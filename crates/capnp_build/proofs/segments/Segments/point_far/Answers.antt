@@ -2,7 +2,7 @@
 use Rattle.std.proofs.Common.{◌-◌, ◌*◌, ◌∙◌, length, ap, sym, arith}
 use Rattle.capnp_build.specs.Prelude.{BuilderState}
 use Rattle.capnp_build.proofs.states.StayingBytesLemmas.{kept_past, kept_before}
-use Rattle.capnp_build.proofs.layouts.BodyPointerLemmas.{far_points, rewritten_by, rewritten_twice}
+use Rattle.capnp_build.proofs.layouts.RootPointerToBodyLemmas.{far_points, rewritten_by, rewritten_twice}
 use Rattle.capnp_build.proofs.segments.Segments.point_far.Goals as goal
 
 pub returns : goal.returns

@@ -4,7 +4,7 @@ use Rattle.std.specs.Int.{to_le_bytes}
 use Rattle.capnp_layout.specs.Prelude.{count}
 use Rattle.capnp_build.specs.Prelude.{BuilderState}
 use Rattle.capnp_build.proofs.states.StayingBytesLemmas.{kept_past}
-use Rattle.capnp_build.proofs.layouts.BodyPointerLemmas.{local_points, first_segment_room, rewritten_by}
+use Rattle.capnp_build.proofs.layouts.RootPointerToBodyLemmas.{local_points, first_segment_room, rewritten_by}
 use Rattle.capnp_build.proofs.segments.Segments.point_local.Goals as goal
 
 pub returns : goal.returns

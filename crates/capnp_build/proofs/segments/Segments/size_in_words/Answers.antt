@@ -1,7 +1,7 @@
 -- The words of one segment more.
 use Rattle.std.proofs.Common.{◌≡◌, ℕ, suc, ◌+◌, ◌/◌, ◌<◌, List, length, take, ap, ◌∙◌, arith}
 use Rattle.capnp_build.specs.Prelude.{Space, space_at, size_in_words}
-use Rattle.capnp_build.proofs.states.ChangedSegmentLemmas.{used_size_more}
+use Rattle.capnp_build.proofs.states.SegmentSizesAfterChangeLemmas.{used_size_more}
 use Rattle.capnp_build.proofs.segments.Segments.size_in_words.Goals as goal
 
 pub loop-index-preserved : goal.loop-index-preserved

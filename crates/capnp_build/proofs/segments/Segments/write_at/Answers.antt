@@ -1,7 +1,7 @@
 -- The segments that are out stay as long.
 use Rattle.std.proofs.Common.{◌≡◌, suc, ◌∙◌, ◌<◌, ◌≤◌, ◌+◌, List, length, ap, sym, subst}
 use Rattle.capnp_build.specs.Prelude.{Space, with_bytes, BuilderState, index_of, pair, spaces_of, space_at}
-use Rattle.capnp_build.proofs.states.SegmentOrderLemmas.{other_edit}
+use Rattle.capnp_build.proofs.states.OutSegmentListChangesLemmas.{other_edit}
 use Rattle.capnp_build.proofs.states.WholeWordSegmentLemmas.{edited_words, other_bytes}
 use Rattle.capnp_build.proofs.segments.Segments.write_at.Goals as goal
 

@@ -2,7 +2,7 @@
 use Rattle.std.proofs.Common.{Option, Some, sym, subst, arith}
 use Rattle.capnp_build.specs.Prelude.{HasNullRoot, IsBuilt, ZeroesRoot}
 use Rattle.capnp_build.specs.declared.arena.location.RootLocation.{RootLocation}
-use Rattle.capnp_build.proofs.roots.ZeroRootLemmas.{word_wiped, body_wiped}
+use Rattle.capnp_build.proofs.roots.RootZeroingLemmas.{word_wiped, body_wiped}
 use Rattle.capnp_build.proofs.segments.Segments.zero_root.Goals as goal
 
 pub returns-in-Some : goal.returns-in-Some

@@ -1,5 +1,5 @@
 -- Where there is a list of bytes, there is a segment.
-use Rattle.capnp_build.proofs.roots.RootTypeLemmas.{bytes_have_segment}
+use Rattle.capnp_build.proofs.roots.NoSegmentRootLemmas.{bytes_have_segment}
 use Rattle.capnp_build.proofs.text.«View+M+Owned».as_bytes.Goals as goal
 
 pub returns-in-Bytes-clause-none : goal.returns-in-Bytes-clause-none

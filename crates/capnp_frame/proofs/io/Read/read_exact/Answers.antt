@@ -1,7 +1,7 @@
 -- Each read returns a part of what the ones before it left of the request.
 use Rattle.std.proofs.Common.{rules}
 use Rattle.std.proofs.lemmas.Result.{err_from_is_err_and}
-use Rattle.capnp_frame.proofs.sources.RequestSequenceLemmas.{Advances-join, error_fill, ReturnsPart-fill, ReturnsPart-filled}
+use Rattle.capnp_frame.proofs.sources.JoinedRequestPartsLemmas.{Advances-join, error_fill, ReturnsPart-fill, ReturnsPart-filled}
 use Rattle.capnp_frame.proofs.io.Read.read_exact.Goals as goal
 
 pub returns-in_err-count-clause-advances : goal.returns-in_err-count-clause-advances

@@ -1,7 +1,7 @@
 -- The table is read as from a stream.
 use Rattle.std.proofs.Common.{inr}
 use Rattle.std.proofs.lemmas.Result.{err_from_is_err_and}
-use Rattle.capnp_frame.proofs.slices.FrontFrameLemmas.{slice_error, slice_cut, slice_holds}
+use Rattle.capnp_frame.proofs.slices.SliceOutcomeAfterTableReadLemmas.{slice_error, slice_cut, slice_holds}
 use Rattle.capnp_frame.proofs.serialize.buffer_segments.find_message.Goals as goal
 
 pub returns-in_err-indices-clause-errors : goal.returns-in_err-indices-clause-errors

@@ -1,8 +1,8 @@
 -- The message at the front is the one that is found.
 use Rattle.std.proofs.Common.{rules, ◌*◌, ◌∙◌, length, refl, sym, ap}
 use Rattle.std.specs.Prelude.{sum}
-use Rattle.capnp_frame.proofs.slices.FrontFrameLemmas.{moved_past_table, parts_are, keeps_declared}
-use Rattle.capnp_frame.proofs.slices.FlatReaderLemmas.{reads_none, reads_found}
+use Rattle.capnp_frame.proofs.slices.SliceOutcomeAfterTableReadLemmas.{moved_past_table, parts_are, keeps_declared}
+use Rattle.capnp_frame.proofs.slices.FlatReaderOutcomeLemmas.{reads_none, reads_found}
 use Rattle.capnp_frame.proofs.serialize.buffer_segments.take_segments_with_rules.Goals as goal
 
 pub returns-in_err-segment_indices : goal.returns-in_err-segment_indices

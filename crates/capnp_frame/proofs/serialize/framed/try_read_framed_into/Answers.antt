@@ -2,8 +2,8 @@
 use Rattle.std.proofs.Common.{length, rules, arith, refl, sym, subst}
 use Rattle.std.proofs.lemmas.Result.{err_from_is_err_and}
 use Rattle.capnp_frame.specs.Prelude.{KeepsLimit, IfKnown, MessageFound}
-use Rattle.capnp_frame.proofs.slices.ProvidedBufferLemmas.{reads_into, fails_into}
-use Rattle.capnp_frame.proofs.slices.FramedIntoBufferLemmas.{padding_zeroed, zeroed_begins}
+use Rattle.capnp_frame.proofs.sources.ProvidedBufferReaderOutcomeLemmas.{reads_into, fails_into}
+use Rattle.capnp_frame.proofs.slices.ZeroingPaddingKeepsMessageLemmas.{padding_zeroed, zeroed_begins}
 use Rattle.capnp_frame.proofs.serialize.framed.try_read_framed_into.Goals as goal
 
 pub returns-in_err-info : goal.returns-in_err-info

@@ -1,9 +1,9 @@
 -- Which test of a complete table fails.
 use Rattle.std.proofs.Common.{◌≡◌, length, rules}
 use Rattle.capnp_frame.specs.Prelude.{table_size}
-use Rattle.capnp_frame.proofs.sources.SourceCallLemmas.{passed_on}
-use Rattle.capnp_frame.proofs.errors.MetErrorLemmas.{limit_error, padding_error}
-use Rattle.capnp_frame.proofs.tables.TableFirstWordLemmas.{tells_complete}
+use Rattle.capnp_frame.proofs.sources.JoinedCallsAdvanceSourceLemmas.{passed_on}
+use Rattle.capnp_frame.proofs.errors.ReaderErrorLineLemmas.{limit_error, padding_error}
+use Rattle.capnp_frame.proofs.tables.TableFromTwoRequestsLemmas.{tells_complete}
 use Rattle.capnp_frame.proofs.serialize.provided_stream.accepted_total.Goals as goal
 
 pub returns-in_err-check_limit-clause-errors : goal.returns-in_err-check_limit-clause-errors

@@ -1,9 +1,9 @@
 -- The segments are after the table in the buffer.
 use Rattle.std.proofs.Common.{◌≡◌, ◌+◌, ◌-◌, ◌*◌, Some, length, inr, arith, rules}
-use Rattle.capnp_frame.proofs.sources.ReaderStepLemmas.{asks_found_into, asks_failed_into, asks_passed_into}
-use Rattle.capnp_frame.proofs.encodings.MessageRequestLemmas.{table_not_empty}
-use Rattle.capnp_frame.proofs.errors.MetErrorLemmas.{table_met, source_kind, provided_reader_kind}
-use Rattle.capnp_frame.proofs.slices.ProvidedBufferLemmas.{segments_too_short, segments_error, body_read}
+use Rattle.capnp_frame.proofs.sources.JoinedReaderStepOutcomesLemmas.{asks_found_into, asks_failed_into, asks_passed_into}
+use Rattle.capnp_frame.proofs.encodings.MessageFoundByRequestsLemmas.{table_not_empty}
+use Rattle.capnp_frame.proofs.errors.ReaderErrorLineLemmas.{table_met, source_kind, provided_reader_kind}
+use Rattle.capnp_frame.proofs.sources.ProvidedBufferReaderOutcomeLemmas.{segments_too_short, segments_error, body_read}
 use Rattle.capnp_frame.proofs.serialize.provided_stream.read_into.Goals as goal
 
 pub returns-in_err-segments_count-clause-asks : goal.returns-in_err-segments_count-clause-asks

@@ -1,10 +1,10 @@
 -- The table that is read is at the front of the buffer.
 use Rattle.std.proofs.Common.{Some, length, arith, rules}
-use Rattle.capnp_frame.proofs.sources.SourceCallLemmas.{passed_on, Asked-err}
-use Rattle.capnp_frame.proofs.sources.ReaderStepLemmas.{asks_found_into}
-use Rattle.capnp_frame.proofs.errors.MetErrorLemmas.{rest_met, provided_reader_kind}
-use Rattle.capnp_frame.proofs.tables.TableFirstWordLemmas.{table_found}
-use Rattle.capnp_frame.proofs.slices.ProvidedBufferLemmas.{table_put}
+use Rattle.capnp_frame.proofs.sources.JoinedCallsAdvanceSourceLemmas.{passed_on, Asked-err}
+use Rattle.capnp_frame.proofs.sources.JoinedReaderStepOutcomesLemmas.{asks_found_into}
+use Rattle.capnp_frame.proofs.errors.ReaderErrorLineLemmas.{rest_met, provided_reader_kind}
+use Rattle.capnp_frame.proofs.tables.TableFromTwoRequestsLemmas.{table_found}
+use Rattle.capnp_frame.proofs.sources.ProvidedBufferReaderOutcomeLemmas.{table_put}
 use Rattle.capnp_frame.proofs.serialize.provided_stream.read_table_into.Goals as goal
 
 pub returns-in_err-total-clause-asks : goal.returns-in_err-total-clause-asks

@@ -1,7 +1,7 @@
 -- The message in the buffer is the one that is there.
 use Rattle.std.proofs.Common.{◌≡◌, length, rules, ap}
 use Rattle.std.proofs.lemmas.Result.{err_from_is_err_and}
-use Rattle.capnp_frame.proofs.slices.ProvidedBufferLemmas.{reads_into, fails_into}
+use Rattle.capnp_frame.proofs.sources.ProvidedBufferReaderOutcomeLemmas.{reads_into, fails_into}
 use Rattle.capnp_frame.proofs.serialize.provided_stream.try_read_segments_into_with_rules.Goals as goal
 
 pub returns-in_err-info : goal.returns-in_err-info

@@ -5,7 +5,7 @@ use Rattle.std.proofs.lemmas.Option.{slice_get-map, slice_get_past, slice_get_re
 use Rattle.std.specs.Option.{option_map}
 use Rattle.std.specs.Prelude.{sum}
 use Rattle.capnp_frame.specs.Prelude.{range_len, cut}
-use Rattle.capnp_frame.proofs.tables.RunningSumLemmas.{ShowsPart, shows}
+use Rattle.capnp_frame.proofs.tables.PartsCutAtRunningSumsLemmas.{ShowsPart, shows}
 use Rattle.capnp_frame.proofs.serialize.segment_lengths.length_at.Goals as goal
 use Rattle.capnp_frame.proofs.serialize.segment_lengths.length_at.Goals.{In_ok-start}
 

@@ -1,7 +1,7 @@
 -- The range of this number is the range of its part.
 use Rattle.std.proofs.Common.{rules, arith, refl, sym, map}
 use Rattle.capnp_frame.specs.Prelude.{range_len, cut}
-use Rattle.capnp_frame.proofs.tables.RunningSumLemmas.{ShowsPart, shows, shows_none}
+use Rattle.capnp_frame.proofs.tables.PartsCutAtRunningSumsLemmas.{ShowsPart, shows, shows_none}
 use Rattle.capnp_frame.proofs.serialize.segment_lengths.part.Goals as goal
 use Rattle.capnp_frame.proofs.serialize.segment_lengths.part.Goals.{In_ok-start}
 

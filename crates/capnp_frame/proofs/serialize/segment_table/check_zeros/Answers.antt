@@ -1,6 +1,6 @@
 -- The padding is none, or a field.
 use Rattle.std.proofs.Common.{◌≡◌, ◌%◌, arith}
-use Rattle.capnp_frame.proofs.tables.TablePaddingLemmas.{odd_padding, zero_field_kept, field_rejected}
+use Rattle.capnp_frame.proofs.tables.AcceptedTablePaddingLemmas.{odd_padding, zero_field_kept, field_rejected}
 use Rattle.capnp_frame.proofs.serialize.segment_table.check_zeros.Goals as goal
 
 pub returns-then-count-eq1-clause-kept : goal.returns-then-count-eq1-clause-kept

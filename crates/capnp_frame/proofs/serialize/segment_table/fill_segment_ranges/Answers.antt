@@ -3,8 +3,8 @@ use Rattle.std.proofs.Common.{◌≡◌, ◌+◌, ◌++◌, [], ◌∷◌, map, 
 use Rattle.std.proofs.Math.ListN.{set}
 use Rattle.std.proofs.lemmas.List.{take_more_set, map-append}
 use Rattle.capnp_frame.specs.Prelude.{range_len}
-use Rattle.capnp_frame.proofs.tables.RunningSumLemmas.{AreRanges-pushed}
-use Rattle.capnp_frame.proofs.tables.DeclaredTables.{tells_more}
+use Rattle.capnp_frame.proofs.tables.PartsCutAtRunningSumsLemmas.{AreRanges-pushed}
+use Rattle.capnp_frame.proofs.tables.TableDeclaredByFieldsLemmas.{tells_more}
 use Rattle.capnp_frame.proofs.serialize.segment_table.fill_segment_ranges.Goals as goal
 
 pub loop-index-init : goal.loop-index-init

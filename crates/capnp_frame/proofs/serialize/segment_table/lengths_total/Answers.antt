@@ -1,6 +1,6 @@
 -- Each turn adds the length in the next field.
 use Rattle.std.proofs.Common.{arith, refl, sym, ap, ◌+◌, ◌∙◌}
-use Rattle.capnp_frame.proofs.tables.DeclaredTables.{tells_more}
+use Rattle.capnp_frame.proofs.tables.TableDeclaredByFieldsLemmas.{tells_more}
 use Rattle.capnp_frame.proofs.serialize.segment_table.lengths_total.Goals as goal
 
 pub loop-index-init : goal.loop-index-init

@@ -1,5 +1,5 @@
 -- One table is found, and described.
-use Rattle.capnp_frame.proofs.slices.FrontFrameLemmas.{describes_found, describes_none}
+use Rattle.capnp_frame.proofs.slices.UniqueTableInfoOfMessageLemmas.{describes_found, describes_none}
 use Rattle.capnp_frame.proofs.serialize.segment_table_info.describes.Goals as goal
 
 pub returns-in-Ok : goal.returns-in-Ok

@@ -2,9 +2,9 @@
 use Rattle.std.proofs.Common.{rules, ◌≡◌, ◌-◌, length, arith}
 use Rattle.std.proofs.lemmas.Result.{on_ok_weaker}
 use Rattle.capnp_frame.specs.Prelude.{Drops, IfKnown}
-use Rattle.capnp_frame.proofs.sources.SourceCallLemmas.{passed_on, Asked-err, Asked-after}
-use Rattle.capnp_frame.proofs.sources.RequestSequenceLemmas.{Advances-join}
-use Rattle.capnp_frame.proofs.sources.SkippedByteLemmas.{Drops-join, read_dropped, short_after, skip_fails_after}
+use Rattle.capnp_frame.proofs.sources.JoinedCallsAdvanceSourceLemmas.{passed_on, Asked-err, Asked-after}
+use Rattle.capnp_frame.proofs.sources.JoinedRequestPartsLemmas.{Advances-join}
+use Rattle.capnp_frame.proofs.sources.SkippingReaderOutcomeLemmas.{Drops-join, read_dropped, short_after, skip_fails_after}
 use Rattle.capnp_frame.proofs.serialize.skipping.skip_parts.Goals as goal
 
 pub returns-in_err-read_exact : goal.returns-in_err-read_exact

@@ -1,8 +1,8 @@
 -- Each turn drops some more, and nothing is left to drop only at the end.
 use Rattle.std.proofs.Common.{rules, ◌-◌, inr, arith}
-use Rattle.capnp_frame.proofs.sources.SourceCallLemmas.{Asked-err}
-use Rattle.capnp_frame.proofs.sources.RequestSequenceLemmas.{Advances-join}
-use Rattle.capnp_frame.proofs.sources.SkippedByteLemmas.{Drops-as, Drops-join, short_at_end}
+use Rattle.capnp_frame.proofs.sources.JoinedCallsAdvanceSourceLemmas.{Asked-err}
+use Rattle.capnp_frame.proofs.sources.JoinedRequestPartsLemmas.{Advances-join}
+use Rattle.capnp_frame.proofs.sources.SkippingReaderOutcomeLemmas.{Drops-as, Drops-join, short_at_end}
 use Rattle.capnp_frame.proofs.serialize.skipping.skip_shown.Goals as goal
 
 pub returns-in_err-taken : goal.returns-in_err-taken

@@ -1,6 +1,6 @@
 -- Some message of these lengths is there.
 use Rattle.std.proofs.Common.{rules, ◌*◌}
-use Rattle.capnp_frame.proofs.sources.SkippedByteLemmas.{LengthsFound-skipped, skips_unread, skips_cut, skips_found}
+use Rattle.capnp_frame.proofs.sources.SkippingReaderOutcomeLemmas.{LengthsFound-skipped, skips_unread, skips_cut, skips_found}
 use Rattle.capnp_frame.proofs.serialize.skipping.try_skip_segments.Goals as goal
 
 pub returns-in_err-found : goal.returns-in_err-found

@@ -3,10 +3,10 @@ use Rattle.std.proofs.Common.{rules, ◌≡◌, ◌*◌, arith, ap, length, None
 use Rattle.std.proofs.lemmas.Grind.{common_steps}
 use Rattle.std.specs.Prelude.{sum}
 use Rattle.capnp_frame.specs.Prelude.{cut}
-use Rattle.capnp_frame.proofs.sources.ReaderStepLemmas.{asks_found, asks_failed, asks_passed}
-use Rattle.capnp_frame.proofs.encodings.MessageRequestLemmas.{lengths-cut, MessageFound-cut, IsWithin-cut, table_not_empty}
-use Rattle.capnp_frame.proofs.errors.MetErrorLemmas.{reader_kind, source_kind}
-use Rattle.capnp_frame.proofs.errors.MetErrorLemmas.{or_memory, table_met_growing, segments_met}
+use Rattle.capnp_frame.proofs.sources.JoinedReaderStepOutcomesLemmas.{asks_found, asks_failed, asks_passed}
+use Rattle.capnp_frame.proofs.encodings.MessageFoundByRequestsLemmas.{lengths-cut, MessageFound-cut, IsWithin-cut, table_not_empty}
+use Rattle.capnp_frame.proofs.errors.ReaderErrorLineLemmas.{reader_kind, source_kind}
+use Rattle.capnp_frame.proofs.errors.ReaderErrorLineLemmas.{or_memory, table_met_growing, segments_met}
 use Rattle.capnp_frame.proofs.serialize.stream.read_segments.Given as given
 use Rattle.capnp_frame.proofs.serialize.stream.read_segments.Goals as goal
 

@@ -2,8 +2,8 @@
 use Rattle.std.proofs.Common.{◌≡◌, ◌∙◌, ap, sym, length}
 use Rattle.std.specs.List.{concat}
 use Rattle.capnp_frame.specs.Prelude.{Outgrows}
-use Rattle.capnp_frame.proofs.tables.RunningSumLemmas.{length-cut, concat-cut}
-use Rattle.capnp_frame.proofs.sources.AllocatingReaderLemmas.{reads_taking}
+use Rattle.capnp_frame.proofs.tables.PartsCutAtRunningSumsLemmas.{length-cut, concat-cut}
+use Rattle.capnp_frame.proofs.sources.AllocatingReaderOutcomeLemmas.{reads_taking}
 use Rattle.capnp_frame.proofs.serialize.stream.try_read_segments_reusing.Goals as goal
 
 pub returns : goal.returns

@@ -3,7 +3,7 @@ use Rattle.std.proofs.Common.{◌≡◌, ◌-◌, ◌++◌, rules, take, drop, l
 use Rattle.std.proofs.lemmas.List.{take_at}
 use Rattle.std.proofs.lemmas.Result.{on_ok_weaker}
 use borrow.Rule.Slice.PartMut.{put_mid}
-use Rattle.capnp_frame.proofs.tables.TableFirstWordLemmas.{completed, completed_given}
+use Rattle.capnp_frame.proofs.tables.TableFromTwoRequestsLemmas.{completed, completed_given}
 use Rattle.capnp_frame.proofs.serialize.stream_table.complete_table.Goals as goal
 
 pub returns-clause-front : goal.returns-clause-front

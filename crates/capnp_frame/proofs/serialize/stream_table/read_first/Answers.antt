@@ -2,8 +2,8 @@
 use Rattle.std.proofs.Common.{rules, ◌≡◌}
 use Rattle.capnp_frame.specs.declared.error.Error.{Error}
 use Rattle.capnp_frame.specs.declared.error.ErrorKind.TheVariants.{DeviceFailed}
-use Rattle.capnp_frame.proofs.sources.SourceCallLemmas.{Asked-ok, Asked-err}
-use Rattle.capnp_frame.proofs.sources.RequestSequenceLemmas.{not_at_end, IfErr-vacuous}
+use Rattle.capnp_frame.proofs.sources.JoinedCallsAdvanceSourceLemmas.{Asked-ok, Asked-err}
+use Rattle.capnp_frame.proofs.sources.JoinedRequestPartsLemmas.{not_at_end, IfErr-vacuous}
 use Rattle.capnp_frame.proofs.serialize.stream_table.read_first.Goals as goal
 
 pub returns-in_err-read_chunk-clause-end : goal.returns-in_err-read_chunk-clause-end

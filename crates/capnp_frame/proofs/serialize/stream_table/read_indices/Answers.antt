@@ -2,8 +2,8 @@
 use Rattle.std.proofs.Common.{rules, ◌≡◌, ◌∙◌, ◌<◌, max, length, map, sym, ap, arith}
 use Rattle.std.proofs.lemmas.Grind.{common_steps}
 use Rattle.capnp_frame.specs.Prelude.{range_len}
-use Rattle.capnp_frame.proofs.tables.RunningSumLemmas.{width_alone}
-use Rattle.capnp_frame.proofs.sources.ReaderStepLemmas.{first_failed, memory_failed, lengths_failed, lengths_found}
+use Rattle.capnp_frame.proofs.tables.PartsCutAtRunningSumsLemmas.{width_alone}
+use Rattle.capnp_frame.proofs.sources.JoinedReaderStepOutcomesLemmas.{first_failed, memory_failed, lengths_failed, lengths_found}
 use Rattle.capnp_frame.proofs.serialize.stream_table.read_indices.Goals as goal
 
 pub returns-in_err-first : goal.returns-in_err-first

@@ -3,9 +3,9 @@ use Rattle.std.proofs.Common.{rules, ◌≡◌, ◌-◌, ℕ, List, [], Option, 
 use Rattle.std.proofs.lemmas.List.{take_all, length-drop, nil_from_length}
 use Rattle.std.proofs.lemmas.Result.{on_ok_weaker, IfErr-weaker}
 use Rattle.capnp_frame.specs.Prelude.{table_size, Giving, Refusing, IsSource, IsTail, IfKnown}
-use Rattle.capnp_frame.proofs.sources.RequestSequenceLemmas.{IfKnown-refl}
-use Rattle.capnp_frame.proofs.errors.MetErrorLemmas.{complete_error, complete_kind}
-use Rattle.capnp_frame.proofs.tables.TableFirstWordLemmas.{rest_found}
+use Rattle.capnp_frame.proofs.sources.JoinedRequestPartsLemmas.{IfKnown-refl}
+use Rattle.capnp_frame.proofs.errors.ReaderErrorLineLemmas.{complete_error, complete_kind}
+use Rattle.capnp_frame.proofs.tables.TableFromTwoRequestsLemmas.{rest_found}
 use Rattle.capnp_frame.proofs.serialize.stream_table.read_lengths.Goals as goal
 
 no_more : {gives : Giving} {refuses : Refusing} → IsSource gives refuses → (word : List ℕ) → length word ≡ 8

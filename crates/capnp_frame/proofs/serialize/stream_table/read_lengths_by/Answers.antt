@@ -2,9 +2,9 @@
 use Rattle.std.proofs.Common.{◌≡◌, ◌*◌, ◌/◌, ◌-◌, length, inr, rules, arith}
 use Rattle.std.proofs.lemmas.Result.{on_ok_weaker, IfErr-weaker}
 use Rattle.capnp_frame.specs.Prelude.{table_size}
-use Rattle.capnp_frame.proofs.sources.SourceCallLemmas.{passed_on}
-use Rattle.capnp_frame.proofs.errors.MetErrorLemmas.{others_error, complete_error, complete_kind, source_kind}
-use Rattle.capnp_frame.proofs.tables.TableFirstWordLemmas.{rest_found}
+use Rattle.capnp_frame.proofs.sources.JoinedCallsAdvanceSourceLemmas.{passed_on}
+use Rattle.capnp_frame.proofs.errors.ReaderErrorLineLemmas.{others_error, complete_error, complete_kind, source_kind}
+use Rattle.capnp_frame.proofs.tables.TableFromTwoRequestsLemmas.{rest_found}
 use Rattle.capnp_frame.proofs.serialize.stream_table.read_lengths_by.Goals as goal
 
 pub returns-in_err-complete_table : goal.returns-in_err-complete_table

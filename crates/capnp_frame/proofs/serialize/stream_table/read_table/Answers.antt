@@ -2,8 +2,8 @@
 use Rattle.std.proofs.Common.{rules, ◌≡◌, ◌∙◌, ◌<◌, length, map, ap, arith}
 use Rattle.std.proofs.lemmas.Grind.{common_steps}
 use Rattle.capnp_frame.specs.Prelude.{range_len}
-use Rattle.capnp_frame.proofs.tables.RunningSumLemmas.{length-ranges}
-use Rattle.capnp_frame.proofs.sources.ReaderStepLemmas.{first_failed, memory_failed, lengths_failed, lengths_found}
+use Rattle.capnp_frame.proofs.tables.PartsCutAtRunningSumsLemmas.{length-ranges}
+use Rattle.capnp_frame.proofs.sources.JoinedReaderStepOutcomesLemmas.{first_failed, memory_failed, lengths_failed, lengths_found}
 use Rattle.capnp_frame.proofs.serialize.stream_table.read_table.Goals as goal
 
 pub returns-in_err-first : goal.returns-in_err-first

@@ -4,7 +4,7 @@ use Rattle.std.specs.List.{AllByRecursion}
 use Rattle.std.specs.Prelude.{option_copied, slice_get}
 use Rattle.std.proofs.lemmas.Bool.{false≢true}
 use Rattle.std.proofs.lemmas.Option.{slice_get_within}
-use Rattle.capnp_frame.proofs.sinks.WritableSegmentLemmas.{IsWholeSegment, AllByRecursion-take-next, IsWholeSegment-at, IsWritable-ended, some_segments, writable_at_end}
+use Rattle.capnp_frame.proofs.sinks.WritableSegmentBySegmentLemmas.{IsWholeSegment, AllByRecursion-take-next, IsWholeSegment-at, IsWritable-ended, some_segments, writable_at_end}
 use Rattle.capnp_frame.proofs.serialize.writable.is_writable.Goals as goal
 use Rattle.capnp_frame.proofs.serialize.writable.is_writable.Goals.{then-segment-ne0-via-then-segment-ne0, then-segment-ne0-via-else-segment-ne0+then-segment}
 

@@ -2,7 +2,8 @@
 use Rattle.std.proofs.Common.{◌+◌, ◌*◌, length, take, arith, sym}
 use Rattle.std.proofs.lemmas.List.{take_all}
 use Rattle.capnp_frame.specs.Prelude.{lengths, word_count}
-use Rattle.capnp_frame.proofs.sinks.TableChunkLemmas.{filled_first, filled_next, filled_all, length-filled, lengths-next, fits_at, length-lengths, length-lengths_take}
+use Rattle.capnp_frame.proofs.sinks.JoinedChunkListLemmas.{lengths-next, fits_at, length-lengths, length-lengths_take}
+use Rattle.capnp_frame.proofs.sinks.TableFilledFieldByFieldLemmas.{filled_first, filled_next, filled_all, length-filled}
 use Rattle.capnp_frame.proofs.serialize.writing.fill_table.Goals as goal
 
 pub overflow_cast-segment : goal.overflow_cast-segment

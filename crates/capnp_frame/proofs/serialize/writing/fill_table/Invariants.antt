@@ -1,7 +1,7 @@
 -- The lengths of the segments before the index are filled in.
 use Rattle.std.proofs.Common.{length, ◌-◌, ◌≤◌, take}
 use Rattle.capnp_frame.specs.Prelude.{lengths}
-use Rattle.capnp_frame.proofs.sinks.TableChunkLemmas.{IsTableFilled}
+use Rattle.capnp_frame.proofs.sinks.TableFilledFieldByFieldLemmas.{IsTableFilled}
 use Rattle.capnp_frame.proofs.serialize.writing.fill_table.Given as goal
 
 abbrev pub invariant-loop-segment : goal.invariant-loop-segment

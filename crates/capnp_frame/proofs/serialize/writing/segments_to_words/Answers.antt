@@ -1,8 +1,8 @@
 -- The chunks, joined, are the frame, and with few segments it always fits.
 use Rattle.std.proofs.Common.{inl, inr, arith}
 use Rattle.std.proofs.lemmas.Result.{err_from_is_err_and}
-use Rattle.capnp_frame.proofs.encodings.FramedSizeLemmas.{written_frame, vector_memory_alone, few_fit}
-use Rattle.capnp_frame.proofs.sinks.SinkCallLemmas.{count_kept}
+use Rattle.capnp_frame.proofs.encodings.WrittenFrameSizeAndChunksLemmas.{written_frame, vector_memory_alone, few_fit}
+use Rattle.capnp_frame.proofs.sinks.ChunkWritesUntilFailureLemmas.{count_kept}
 use Rattle.capnp_frame.proofs.serialize.writing.segments_to_words.Goals as goal
 
 pub returns-in_err-check_count : goal.returns-in_err-check_count

@@ -2,7 +2,7 @@
 use Rattle.std.proofs.Common.{◌≡◌, ◌+◌, ◌/◌, length, ap, ◌∙◌, arith}
 use Rattle.capnp_frame.specs.Prelude.{size_in_words}
 use Rattle.std.proofs.lemmas.List.{take_all}
-use Rattle.capnp_frame.proofs.sinks.TableChunkLemmas.{size-next, size_take_le, le_of_not_lt}
+use Rattle.capnp_frame.proofs.sinks.JoinedChunkListLemmas.{size-next, size_take_le, le_of_not_lt}
 use Rattle.capnp_frame.proofs.serialize.writing.serialized_size_in_words.Goals as goal
 
 pub returns-in_default-checked_add : goal.returns-in_default-checked_add

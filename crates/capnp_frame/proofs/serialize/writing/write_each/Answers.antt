@@ -2,10 +2,10 @@
 use Rattle.std.proofs.Common.{rules, arith}
 use Rattle.std.proofs.lemmas.List.{take_all}
 use Rattle.std.proofs.lemmas.Result.{err_from_is_err_and}
-use Rattle.capnp_frame.proofs.sources.RequestSequenceLemmas.{Grows-join}
-use Rattle.capnp_frame.proofs.sinks.TableChunkLemmas.{next_chunk_written}
-use Rattle.capnp_frame.proofs.sinks.SinkCallLemmas.{failed_at}
-use Rattle.capnp_frame.proofs.sinks.SinkGrantLemmas.{stays_granted, granted_next, never_at}
+use Rattle.capnp_frame.proofs.sources.JoinedRequestPartsLemmas.{Grows-join}
+use Rattle.capnp_frame.proofs.sinks.JoinedChunkListLemmas.{next_chunk_written}
+use Rattle.capnp_frame.proofs.sinks.ChunkWritesUntilFailureLemmas.{failed_at}
+use Rattle.capnp_frame.proofs.sinks.GrantedChunkLemmas.{stays_granted, granted_next, never_at}
 use Rattle.capnp_frame.proofs.serialize.writing.write_each.Goals as goal
 
 pub returns-in_err-write_all-clause-writes : goal.returns-in_err-write_all-clause-writes

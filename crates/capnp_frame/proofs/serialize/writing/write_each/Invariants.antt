@@ -2,7 +2,7 @@
 use Rattle.std.proofs.Common.{length, ◌-◌, ◌≤◌, take}
 use Rattle.capnp_frame.specs.Prelude.{IfKnown, Adds, AppendsAll, Grows}
 use Rattle.std.specs.List.{concat}
-use Rattle.capnp_frame.proofs.sinks.SinkGrantLemmas.{StaysGranted}
+use Rattle.capnp_frame.proofs.sinks.GrantedChunkLemmas.{StaysGranted}
 use Rattle.capnp_frame.proofs.serialize.writing.write_each.Given as goal
 
 abbrev pub invariant-loop-segment : goal.invariant-loop-segment

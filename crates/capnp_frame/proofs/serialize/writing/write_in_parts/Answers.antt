@@ -2,9 +2,10 @@
 use Rattle.std.proofs.Common.{◌≡◌, ◌+◌, ◌-◌, ◌≤◌, [], ◌∷◌, length, take, drop, arith, Err}
 use Rattle.std.proofs.lemmas.List.{take_all, length-drop, length-take-le}
 use Rattle.std.proofs.lemmas.Result.{err_from_is_err_and}
-use Rattle.capnp_frame.proofs.sinks.TableChunkLemmas.{written_one, parts_first, parts_one, parts_two}
-use Rattle.capnp_frame.proofs.sinks.SinkGrantLemmas.{granted_join, stays_as, never_one, never_part, never_after}
-use Rattle.capnp_frame.proofs.sinks.SinkCallLemmas.{writes_one, writes_after, failed_first}
+use Rattle.capnp_frame.proofs.sinks.JoinedChunkListLemmas.{written_one}
+use Rattle.capnp_frame.proofs.sinks.TableFilledFieldByFieldLemmas.{parts_first, parts_one, parts_two}
+use Rattle.capnp_frame.proofs.sinks.GrantedChunkLemmas.{granted_join, stays_as, never_one, never_part, never_after}
+use Rattle.capnp_frame.proofs.sinks.ChunkWritesUntilFailureLemmas.{writes_one, writes_after, failed_first}
 use Rattle.capnp_frame.proofs.serialize.writing.write_in_parts.Goals as goal
 
 pub returns-in_ok-write_all-2-clause-writes : goal.returns-in_ok-write_all-2-clause-writes

@@ -3,8 +3,8 @@ use Rattle.std.proofs.Common.{inr, ◌*◌, ◌≤◌, length, arith}
 use Rattle.std.proofs.lemmas.Result.{err_from_is_err_and}
 use Rattle.capnp_frame.specs.Prelude.{lengths, table_size, table_chunks, serialized_words, TableMemoryError, UnwrittenError}
 use Rattle.std.specs.List.{concat}
-use Rattle.capnp_frame.proofs.sinks.SinkGrantLemmas.{granted_first, granted_after, granted_words}
-use Rattle.capnp_frame.proofs.sinks.SinkCallLemmas.{front_fails, writes_after, writes_chunks, few_written, many_segments_error}
+use Rattle.capnp_frame.proofs.sinks.GrantedChunkLemmas.{granted_first, granted_after, granted_words}
+use Rattle.capnp_frame.proofs.sinks.ChunkWritesUntilFailureLemmas.{front_fails, writes_after, writes_chunks, few_written, many_segments_error}
 use Rattle.capnp_frame.proofs.serialize.writing.write_segments.Goals as goal
 
 pub returns-in_err-check_count : goal.returns-in_err-check_count

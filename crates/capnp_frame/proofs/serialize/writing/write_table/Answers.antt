@@ -2,8 +2,8 @@
 use Rattle.std.proofs.Common.{rules, ◌≡◌, ◌∙◌, length}
 use Rattle.std.proofs.lemmas.List.{take_at}
 use Rattle.capnp_frame.specs.Prelude.{table_size, TableMemoryError}
-use Rattle.capnp_frame.proofs.sinks.SinkGrantLemmas.{granted_as}
-use Rattle.capnp_frame.proofs.sinks.SinkCallLemmas.{writes_chunks}
+use Rattle.capnp_frame.proofs.sinks.GrantedChunkLemmas.{granted_as}
+use Rattle.capnp_frame.proofs.sinks.ChunkWritesUntilFailureLemmas.{writes_chunks}
 use Rattle.capnp_frame.proofs.serialize.writing.write_table.Goals as goal
 
 pub returns-then-count-lt4-clause-writes : goal.returns-then-count-lt4-clause-writes

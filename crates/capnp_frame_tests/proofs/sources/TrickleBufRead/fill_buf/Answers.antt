@@ -1,6 +1,6 @@
 -- What is shown is a front of what is unread.
 use Rattle.std.proofs.Common.{refl, le_refl}
-use Rattle.capnp_pack.proofs.unpacking.ShownSliceLemmas.{front_taken, none_shown}
+use Rattle.capnp_pack.proofs.unpacking.ShownBytesAreFrontOfSliceLemmas.{front_taken, none_shown}
 use Rattle.capnp_frame_tests.proofs.sources.TrickleBufRead.fill_buf.Goals as goal
 
 pub returns : goal.returns

@@ -1,9 +1,9 @@
 -- Bytes of whole words are words.
 use Rattle.std.proofs.Common.{◌≡◌, ◌≤◌, ◌+◌, ◌*◌, ◌-◌, ◌/◌, length, ◌∙◌, ap, arith}
 use Rattle.capnp_layout.specs.Prelude.{words_of}
-use Rattle.capnp_layout.proofs.words.WordByteLemmas.{length-words_of}
-use Rattle.capnp_layout.proofs.layouts.BlockLemmas.{length-put}
-use Rattle.capnp_layout.proofs.words.PutBytesLemmas.{put_mid_words}
+use Rattle.capnp_layout.proofs.words.WordsOfBytesLemmas.{length-words_of}
+use Rattle.capnp_layout.proofs.layouts.PutWordsCombinedLemmas.{length-put}
+use Rattle.capnp_layout.proofs.words.PutBytesAsWordsLemmas.{put_mid_words}
 use Rattle.capnp_layout.proofs.block.U8BlockItem.put_bytes.Goals as goal
 
 pub overflow_mul-begin : goal.overflow_mul-begin

@@ -4,7 +4,7 @@ use Rattle.std.proofs.lemmas.List.{take_all}
 use Rattle.capnp_frame.specs.Prelude.{bytes_of}
 use Rattle.capnp_frame.specs.declared.words.Word.{Word}
 use Rattle.capnp_layout.specs.Prelude.{number_of, put, word_numbers}
-use Rattle.capnp_layout.proofs.words.PutBytesLemmas.{length-word_numbers, put_one, put_next}
+use Rattle.capnp_layout.proofs.words.PutBytesAsWordsLemmas.{length-word_numbers, put_one, put_next}
 use Rattle.capnp_layout.proofs.block.WordBlockItem.put_bytes.Goals as goal
 
 pub loop-index-preserved : goal.loop-index-preserved

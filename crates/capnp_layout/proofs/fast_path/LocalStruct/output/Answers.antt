@@ -1,6 +1,6 @@
 -- The copy of a struct is the copy of its body.
 use Rattle.capnp_layout.specs.Prelude.{words_of}
-use Rattle.capnp_layout.proofs.pointers.LocalObjectLemmas.{local_struct_output}
+use Rattle.capnp_layout.proofs.pointers.LocalObjectIsAtLemmas.{local_struct_output}
 use Rattle.capnp_layout.proofs.fast_path.LocalStruct.output.Goals as goal
 
 pub returns-clause-body : goal.returns-clause-body

@@ -1,7 +1,7 @@
 -- The pointers of an object are all the pointers of its shape.
 use Rattle.std.proofs.Common.{◌∙◌}
 use Rattle.capnp_layout.specs.Prelude.{words_of}
-use Rattle.capnp_layout.proofs.pointers.PointersInOrderLemmas.{kept_children}
+use Rattle.capnp_layout.proofs.pointers.KeptPointerPlacesBySectionLemmas.{kept_children}
 use Rattle.capnp_layout.proofs.object.Object.pointers.Goals as goal
 
 pub returns-clause-places : goal.returns-clause-places

@@ -1,7 +1,7 @@
 -- Nothing is left where no pointer is left in this section, and there is no further section.
 use Rattle.std.proofs.Common.{◌≡◌, arith}
 use Rattle.std.proofs.lemmas.Bool.Decides.{nat_tests}
-use Rattle.capnp_layout.proofs.pointers.PointersInOrderLemmas.{no_slot_left, no_places_none_left}
+use Rattle.capnp_layout.proofs.pointers.KeptPointerPlacesBySectionLemmas.{no_slot_left, no_places_none_left}
 use Rattle.capnp_layout.proofs.pointer_slots.PointerSlots.is_empty.Goals as goal
 
 pub returns-then-self-eq0 : goal.returns-then-self-eq0

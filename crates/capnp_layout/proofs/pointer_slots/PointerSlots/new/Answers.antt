@@ -1,6 +1,6 @@
 -- The pointer sections of an object, with none where they keep no pointers.
 use Rattle.std.proofs.Common.{sym, arith}
-use Rattle.capnp_layout.proofs.pointers.PointersInOrderLemmas.{kept_nothing, slots_nothing, kept_slots_first}
+use Rattle.capnp_layout.proofs.pointers.KeptPointerPlacesBySectionLemmas.{kept_nothing, slots_nothing, kept_slots_first}
 use Rattle.capnp_layout.proofs.pointer_slots.PointerSlots.new.Goals as goal
 
 pub returns-then-kept-eq0-clause-places : goal.returns-then-kept-eq0-clause-places

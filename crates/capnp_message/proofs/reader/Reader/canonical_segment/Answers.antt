@@ -2,7 +2,7 @@
 use Rattle.capnp_layout.specs.Prelude.{words_of}
 use Rattle.capnp_message.specs.Canonical.{ReturnsForm}
 use Rattle.capnp_message.specs.Seen.{root_of}
-use Rattle.capnp_message.proofs.OneCanonicalFormLemmas.{no_root_no_form, root_form}
+use Rattle.capnp_message.proofs.CanonicalFormOrErrorLemmas.{no_root_no_form, root_form}
 use Rattle.capnp_message.proofs.reader.Reader.canonical_segment.Given as given
 use Rattle.capnp_message.proofs.reader.Reader.canonical_segment.Goals as goal
 

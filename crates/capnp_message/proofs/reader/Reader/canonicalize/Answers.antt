@@ -1,5 +1,5 @@
 -- The canonical form of the root, or the reason why there is none.
-use Rattle.capnp_message.proofs.OneCanonicalFormLemmas.{no_root_no_form, root_form}
+use Rattle.capnp_message.proofs.CanonicalFormOrErrorLemmas.{no_root_no_form, root_form}
 use Rattle.capnp_message.proofs.reader.Reader.canonicalize.Goals as goal
 
 pub returns-in_err-root : goal.returns-in_err-root

@@ -1,5 +1,5 @@
 -- The root's word fails with only one error.
-use Rattle.capnp_message.proofs.RootWordLemmas.{root_nowhere, root_read}
+use Rattle.capnp_message.proofs.MissingRootWordErrorLemmas.{root_nowhere, root_read}
 use Rattle.capnp_message.proofs.reader.Reader.get_root.Goals as goal
 
 pub returns-in_err-get_root : goal.returns-in_err-get_root

@@ -1,5 +1,5 @@
 -- Where there is a tree, the walk does not stop.
-use Rattle.capnp_message.proofs.OneCanonicalFormLemmas.{tree_found}
+use Rattle.capnp_message.proofs.CanonicalFormOrErrorLemmas.{tree_found}
 use Rattle.capnp_message.proofs.reader.Reader.is_canonical.Goals as goal
 
 pub returns-clause-found : goal.returns-clause-found

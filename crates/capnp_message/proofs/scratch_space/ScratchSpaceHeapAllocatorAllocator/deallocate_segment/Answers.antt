@@ -1,7 +1,7 @@
 -- What comes back as caller-provided is the region, which is made zero; all else goes to the heap.
 use Rattle.std.proofs.Common.{◌≡◌, ℕ, ◌*◌, ◌≤◌, List, ◌++◌, length, drop, refl, subst, ◌∙◌}
 use Rattle.capnp_build.specs.Prelude.{ZeroFrom}
-use Rattle.capnp_message.proofs.RegionLemmas.{front_is_zero, children, filled_length, comes_home_as, stays_out}
+use Rattle.capnp_message.proofs.ReturnedRegionLemmas.{front_is_zero, children, filled_length, comes_home_as, stays_out}
 use Rattle.capnp_message.proofs.scratch_space.ScratchSpaceHeapAllocatorAllocator.deallocate_segment.Goals as goal
 
 pub invariant_of-self : goal.invariant_of-self

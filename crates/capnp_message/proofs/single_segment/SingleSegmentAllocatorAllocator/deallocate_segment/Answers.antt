@@ -1,7 +1,7 @@
 -- What comes back is the region, which is made zero.
 use Rattle.std.proofs.Common.{◌≡◌, ℕ, ◌*◌, List, ◌++◌, length, drop, refl, ap, subst, ◌∙◌}
 use Rattle.capnp_build.specs.Prelude.{Out, ZeroFrom}
-use Rattle.capnp_message.proofs.RegionLemmas.{comes_back, front_is_zero, children, filled_length}
+use Rattle.capnp_message.proofs.ReturnedRegionLemmas.{comes_back, front_is_zero, children, filled_length}
 use Rattle.capnp_message.proofs.single_segment.SingleSegmentAllocatorAllocator.deallocate_segment.Goals as goal
 
 pub invariant_of-self : goal.invariant_of-self

@@ -1,7 +1,7 @@
 -- The pointers are the pointers of the draft.
 use Rattle.std.proofs.Common.{ℕ}
 use Rattle.std.proofs.lemmas.List.{length-replicate}
-use Rattle.capnp_orphans.proofs.PointersCopyLemmas.{copies_of, copies_not, as_many_pointers, same_failure}
+use Rattle.capnp_orphans.proofs.PointersCopiedUntilErrorLemmas.{copies_of, copies_not, as_many_pointers, same_failure}
 use Rattle.capnp_orphans.proofs.draft.StructDraft.from_reader.Goals as goal
 
 pub returns-in_err-copy_pointers-clause-copies : goal.returns-in_err-copy_pointers-clause-copies

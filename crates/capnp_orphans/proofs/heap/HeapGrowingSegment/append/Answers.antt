@@ -1,7 +1,7 @@
 -- The object comes after the used bytes, to which zeros were added where there were too few.
 use Rattle.std.proofs.Common.{◌≡◌, ◌∙◌, ◌≤◌, ℕ, List, length, take, replicate, refl, ap, arith, length-append}
 use Rattle.std.proofs.lemmas.List.{take-append-le}
-use Rattle.capnp_orphans.proofs.AddedObjectLemmas.{heap_appended}
+use Rattle.capnp_orphans.proofs.ObjectAppendLemmas.{heap_appended}
 use Rattle.capnp_orphans.proofs.heap.HeapGrowingSegment.append.Goals.{else-end-len-via-then-end-len+else-not-grown, else-end-len-via-else-end-len}
 use Rattle.capnp_orphans.proofs.heap.HeapGrowingSegment.append.Goals as goal
 

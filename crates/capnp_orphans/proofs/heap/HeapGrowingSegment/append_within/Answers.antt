@@ -1,7 +1,7 @@
 -- The object comes after the used bytes.
 use Rattle.std.proofs.Common.{◌≡◌, ◌+◌, ◌*◌, ◌≤◌, ◌<◌, ℕ, length, take, refl, ap, arith, length-take}
 use Rattle.capnp_orphans.specs.Segments.{Segment}
-use Rattle.capnp_orphans.proofs.AddedObjectLemmas.{heap_appended}
+use Rattle.capnp_orphans.proofs.ObjectAppendLemmas.{heap_appended}
 use Rattle.capnp_orphans.proofs.heap.HeapGrowingSegment.append_within.Goals as goal
 
 pub returns : goal.returns

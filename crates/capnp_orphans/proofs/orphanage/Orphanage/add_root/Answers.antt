@@ -1,7 +1,7 @@
 -- The struct that is added becomes the root.
 use Rattle.capnp_orphans.specs.Segments.{body_of}
 use Rattle.capnp_orphans.specs.Holds.{HoldsStruct, TakesStructWords}
-use Rattle.capnp_orphans.proofs.AddedObjectLemmas.{adds_root}
+use Rattle.capnp_orphans.proofs.ObjectAppendLemmas.{adds_root}
 use Rattle.capnp_orphans.proofs.orphanage.Orphanage.add_root.Goals as goal
 
 pub returns-clause-adds : goal.returns-clause-adds

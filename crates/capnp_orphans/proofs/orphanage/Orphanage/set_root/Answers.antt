@@ -2,7 +2,7 @@
 use Rattle.std.proofs.Common.{ℕ, subst}
 use Rattle.capnp_orphans.specs.Orphans.{link}
 use Rattle.capnp_orphans.specs.Segments.{Segment, PutsRoot}
-use Rattle.capnp_orphans.proofs.AddedObjectLemmas.{sets_root_orphan}
+use Rattle.capnp_orphans.proofs.ObjectAppendLemmas.{sets_root_orphan}
 use Rattle.capnp_orphans.proofs.orphanage.Orphanage.set_root.Goals as goal
 
 pub returns : goal.returns

@@ -2,7 +2,7 @@
 use Rattle.std.proofs.Common.{Ok, subst}
 use Rattle.capnp_orphans.specs.Segments.{Segment, IsSegment, AppendsObject}
 use Rattle.capnp_orphans.specs.Holds.{word_of}
-use Rattle.capnp_orphans.proofs.AddedObjectLemmas.{adds_one}
+use Rattle.capnp_orphans.proofs.ObjectAppendLemmas.{adds_one}
 use Rattle.capnp_orphans.proofs.orphanage.Orphanage.write_anew.Goals as goal
 
 pub returns-clause-adds : goal.returns-clause-adds

@@ -2,7 +2,7 @@
 use Rattle.std.proofs.Common.{length, map, arith}
 use Rattle.std.proofs.lemmas.List.{length-map}
 use Rattle.capnp_orphans.specs.Holds.{word_of}
-use Rattle.capnp_orphans.proofs.WrittenOrphanLemmas.{pointers_children}
+use Rattle.capnp_orphans.proofs.WrittenBlockIsOrphanLemmas.{pointers_children}
 use Rattle.capnp_orphans.proofs.pointer_list.PointerListObject.write.Goals as goal
 
 pub returns : goal.returns

@@ -1,5 +1,5 @@
 -- The object comes after the used bytes.
-use Rattle.capnp_orphans.proofs.AddedObjectLemmas.{region_appended}
+use Rattle.capnp_orphans.proofs.ObjectAppendLemmas.{region_appended}
 use Rattle.capnp_orphans.proofs.region.RegionGrowingSegment.append.Goals as goal
 
 pub returns : goal.returns

@@ -1,7 +1,7 @@
 -- The object comes after the used bytes.
 use Rattle.std.proofs.Common.{◌≡◌, ◌+◌, ◌*◌, ◌≤◌, ◌<◌, ℕ, length, ap, arith, length-take}
 use Rattle.capnp_orphans.specs.Segments.{Segment}
-use Rattle.capnp_orphans.proofs.AddedObjectLemmas.{region_appended}
+use Rattle.capnp_orphans.proofs.ObjectAppendLemmas.{region_appended}
 use Rattle.capnp_orphans.proofs.region.RegionGrowingSegment.append_within.Goals as goal
 
 pub returns : goal.returns

@@ -2,7 +2,7 @@
 use Rattle.std.proofs.Common.{◌≡◌, ◌∙◌, ◌+◌, ◌*◌, ℕ, [], ◌∷◌, length, drop, ap, arith, length-take}
 use Rattle.capnp_layout.specs.Prelude.{words_of, struct_pointer, list_pointer}
 use Rattle.capnp_orphans.specs.Holds.{element_words}
-use Rattle.capnp_orphans.proofs.WrittenOrphanLemmas.{two_parts, structs_children}
+use Rattle.capnp_orphans.proofs.WrittenBlockIsOrphanLemmas.{two_parts, structs_children}
 use Rattle.capnp_orphans.proofs.struct_list.StructListObject.write.Goals as goal
 
 pub returns : goal.returns

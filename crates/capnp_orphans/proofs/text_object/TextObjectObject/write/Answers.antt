@@ -1,8 +1,8 @@
 -- A text is written at its start.
 use Rattle.std.proofs.Common.{◌/◌, ◌-◌, ◌++◌, ◌∷◌, [], length, false, arith}
-use Rattle.capnp_layout.proofs.words.ByteListLemmas.{long_end}
-use Rattle.capnp_wire.proofs.layouts.FreeBlockLemmas.{numbers_total}
-use Rattle.capnp_orphans.proofs.TextBlockLemmas.{text_written}
+use Rattle.capnp_layout.proofs.words.WordsOfPaddedByteListLemmas.{long_end}
+use Rattle.capnp_wire.proofs.layouts.NullAndNumbersWrittenLemmas.{numbers_total}
+use Rattle.capnp_orphans.proofs.WrittenTextIsOrphanLemmas.{text_written}
 use Rattle.capnp_orphans.proofs.text_object.TextObjectObject.write.Goals as goal
 
 pub returns : goal.returns

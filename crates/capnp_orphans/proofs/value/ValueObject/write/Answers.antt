@@ -1,9 +1,10 @@
 -- A value is written at its start.
 use Rattle.std.proofs.Common.{◌/◌, length, refl, arith}
 use Rattle.capnp_layout.specs.Prelude.{count}
-use Rattle.capnp_layout.proofs.words.WordByteLemmas.{length-words_of}
-use Rattle.capnp_wire.proofs.layouts.FreeBlockLemmas.{free_block, has_room}
-use Rattle.capnp_orphans.proofs.WrittenOrphanLemmas.{value_written, value_children}
+use Rattle.capnp_layout.proofs.words.WordsOfBytesLemmas.{length-words_of}
+use Rattle.capnp_wire.proofs.layouts.ZeroFreePartLemmas.{free_block}
+use Rattle.capnp_wire.proofs.layouts.NullAndNumbersWrittenLemmas.{has_room}
+use Rattle.capnp_orphans.proofs.WrittenBlockIsOrphanLemmas.{value_written, value_children}
 use Rattle.capnp_orphans.proofs.value.ValueObject.write.Goals as goal
 
 pub write-copied-requires-clause-value : goal.write-copied-requires-clause-value

@@ -1,8 +1,8 @@
 -- A request that isn't whole words fails before anything is read.
 use Rattle.std.proofs.Common.{inr, ◌≡◌}
 use Rattle.capnp_pack.specs.Prelude.{not_plain}
-use Rattle.capnp_frame.proofs.sources.RequestSequenceLemmas.{IfErr-vacuous}
-use Rattle.capnp_pack.proofs.errors.ChunkErrorLemmas.{part_word_error}
+use Rattle.capnp_frame.proofs.sources.JoinedRequestPartsLemmas.{IfErr-vacuous}
+use Rattle.capnp_pack.proofs.errors.ChunkRequestErrorLemmas.{part_word_error}
 use Rattle.capnp_frame.specs.declared.error.Error.{Error}
 use Rattle.capnp_frame.specs.declared.error.ErrorKind.TheVariants.{DeviceFailed}
 use Rattle.capnp_pack.proofs.packed_read.PackedReadRead.read.Goals as goal

@@ -1,5 +1,5 @@
 -- A read that returns all of a chunk gives it.
-use Rattle.capnp_frame.proofs.sources.RequestSequenceLemmas.{ReturnsPart-filled}
+use Rattle.capnp_frame.proofs.sources.JoinedRequestPartsLemmas.{ReturnsPart-filled}
 use Rattle.capnp_pack.specs.Prelude.{Unpacks, ChunkError, takes_no_group}
 use Rattle.capnp_pack.proofs.packed_read.PackedReadRead.read_exact.Goals as goal
 

@@ -1,8 +1,8 @@
 -- Whole words fail only where the sink fails.
 use Rattle.std.proofs.Common.{◌≡◌}
 use Rattle.capnp_frame.specs.declared.error.ErrorKind.TheVariants.{DeviceFailed}
-use Rattle.capnp_pack.proofs.packing.OneEncodingLemmas.{Packs-whole}
-use Rattle.capnp_pack.proofs.packing.HandedOnLemmas.{whole_chunk_error}
+use Rattle.capnp_pack.proofs.packing.WordsPackUniquelyAndUnpackLemmas.{Packs-whole}
+use Rattle.capnp_pack.proofs.packing.HandedAndBufferedBytesJoinLemmas.{whole_chunk_error}
 use Rattle.capnp_pack.proofs.packed_write.PackedWriteWrite.write_all.Goals as goal
 
 pub returns-clause-errors : goal.returns-clause-errors

@@ -1,6 +1,6 @@
 -- The requests of the table are packed chunks.
 use Rattle.std.proofs.Common.{rules, ◌≡◌}
-use Rattle.capnp_pack.proofs.encodings.PackedStreamLemmas.{packed_table}
+use Rattle.capnp_pack.proofs.encodings.PackedReaderLemmas.{packed_table}
 use Rattle.capnp_pack.proofs.stream.skipping.read_packed_table.Goals as goal
 
 pub returns : goal.returns

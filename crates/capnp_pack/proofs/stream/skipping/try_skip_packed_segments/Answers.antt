@@ -1,8 +1,8 @@
 -- Some packed message of these lengths is there.
 use Rattle.std.proofs.Common.{rules, ◌*◌, Ok, Some, length}
-use Rattle.capnp_frame.proofs.sources.SkippedByteLemmas.{skips_unread, skips_cut, skips_found}
+use Rattle.capnp_frame.proofs.sources.SkippingReaderOutcomeLemmas.{skips_unread, skips_cut, skips_found}
 use Rattle.capnp_pack.specs.Prelude.{packed_source, unpacking}
-use Rattle.capnp_pack.proofs.encodings.PackedStreamLemmas.{lengths_skipped, packed_skips}
+use Rattle.capnp_pack.proofs.encodings.PackedReaderLemmas.{lengths_skipped, packed_skips}
 use Rattle.capnp_pack.proofs.stream.skipping.try_skip_packed_segments.Goals as goal
 
 pub returns-in_err-found : goal.returns-in_err-found

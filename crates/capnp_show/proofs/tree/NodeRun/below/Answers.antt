@@ -1,6 +1,6 @@
 -- A list of structs without pointers has none.
 use Rattle.std.proofs.Common.{sym}
-use Rattle.capnp_show.proofs.ElementOfWordLemmas.{no_pointers}
+use Rattle.capnp_show.proofs.ElementContainingPointerWordLemmas.{no_pointers}
 use Rattle.capnp_show.proofs.tree.NodeRun.below.Goals as goal
 
 pub returns-in-Structs : goal.returns-in-Structs

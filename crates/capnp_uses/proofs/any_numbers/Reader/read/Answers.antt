@@ -3,7 +3,7 @@ use Rattle.std.proofs.Common.{inl, inr}
 use Rattle.std.proofs.lemmas.Result.{err_from_is_err_and}
 use Rattle.capnp_wire.specs.Prelude.{pointer_of, IsObjectView}
 use Rattle.capnp_wire.specs.declared.any_object.reader.Reader.TheVariants.{Null, Numbers}
-use Rattle.capnp_uses.proofs.AnyNumberLemmas.{no_numbers_read, any_numbers_read, others_form_error}
+use Rattle.capnp_uses.proofs.AnyNumbersShownOrRejectedLemmas.{no_numbers_read, any_numbers_read, others_form_error}
 use Rattle.capnp_uses.proofs.any_numbers.Reader.read.Goals as goal
 
 pub returns-in_err-object : goal.returns-in_err-object

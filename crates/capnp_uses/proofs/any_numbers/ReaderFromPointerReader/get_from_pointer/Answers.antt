@@ -1,8 +1,8 @@
 -- A list of numbers of any width is a view that decides which objects it takes.
 use Rattle.capnp_wire.specs.Prelude.{pointer_of}
-use Rattle.capnp_wire.proofs.views.ViewErrorLemmas.{is_view_of}
+use Rattle.capnp_wire.proofs.views.RejectedExcludesAcceptedLemmas.{is_view_of}
 use Rattle.capnp_uses.specs.AnyNumbers.{any_numbers_of, TakesAnyNumbers, AnyNumbersFormError}
-use Rattle.capnp_uses.proofs.AnyNumberLemmas.{any_numbers_decide, any_numbers_accepted}
+use Rattle.capnp_uses.proofs.AnyNumbersShownOrRejectedLemmas.{any_numbers_decide, any_numbers_accepted}
 use Rattle.capnp_uses.proofs.any_numbers.ReaderFromPointerReader.get_from_pointer.Goals as goal
 
 pub returns : goal.returns

@@ -1,7 +1,7 @@
 -- A value is left out in canonical form, where it is null, and nothing after it is kept.
 use Rattle.std.proofs.Common.{arith}
 use Rattle.capnp_layout.specs.Prelude.{none, tree}
-use Rattle.capnp_values.proofs.structs.PointersKeptLemmas.{not_left_out, some_after, null_last}
+use Rattle.capnp_values.proofs.structs.KeptPointerCountLemmas.{not_left_out, some_after, null_last}
 use Rattle.capnp_values.proofs.fields.field.is_left_out.Goals as goal
 
 pub returns-then-not-canonical : goal.returns-then-not-canonical

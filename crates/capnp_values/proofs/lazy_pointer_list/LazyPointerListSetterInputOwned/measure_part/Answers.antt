@@ -1,6 +1,6 @@
 -- The words of a list are the words of its tree.
 use Rattle.capnp_values.specs.Lists.{IsPointerListTree, PointerListError}
-use Rattle.capnp_values.proofs.values.ValueWordLemmas.{part_returned, part_found, part_exact}
+use Rattle.capnp_values.proofs.values.MeasureWithinBoundElseErrorLemmas.{part_returned, part_found, part_exact}
 use Rattle.capnp_values.proofs.lazy_pointer_list.LazyPointerListSetterInputOwned.measure_part.Goals as goal
 
 pub returns-clause-returned : goal.returns-clause-returned

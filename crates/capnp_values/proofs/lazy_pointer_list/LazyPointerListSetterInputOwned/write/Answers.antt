@@ -1,11 +1,11 @@
 -- The pointers, and then what they point to.
 use Rattle.std.proofs.Common.{◌+◌, ◌-◌, ◌∙◌, ℕ, length, sym, ap, arith}
 use Rattle.capnp_layout.specs.Prelude.{words_of, list_pointer}
-use Rattle.capnp_wire.proofs.layouts.FreeBlockLemmas.{free_later}
+use Rattle.capnp_wire.proofs.layouts.ZeroFreePartLemmas.{free_later}
 use Rattle.capnp_layout.proofs.layouts.LayoutSizeLemmas.{length-body}
-use Rattle.capnp_wire.proofs.layouts.CopyPlanLemmas.{room_output}
+use Rattle.capnp_wire.proofs.layouts.CopyPlanFillsLayoutLemmas.{room_output}
 use Rattle.capnp_values.proofs.lists.ItemMeasureLemmas.{items_settled}
-use Rattle.capnp_values.proofs.lists.PointerListLemmas.{values_total, values_rooms, values_begin, pointer_list_copied}
+use Rattle.capnp_values.proofs.lists.PointerListMeasureLemmas.{values_total, values_rooms, values_begin, pointer_list_copied}
 use Rattle.capnp_values.proofs.lazy_pointer_list.LazyPointerListSetterInputOwned.write.Goals as goal
 
 pub write_items-requires-clause-room : goal.write_items-requires-clause-room

@@ -1,6 +1,6 @@
 -- The words of a list are the words of its tree.
 use Rattle.capnp_values.specs.StructLists.{IsStructListTree, StructListError}
-use Rattle.capnp_values.proofs.values.ValueWordLemmas.{part_returned, part_found, part_exact}
+use Rattle.capnp_values.proofs.values.MeasureWithinBoundElseErrorLemmas.{part_returned, part_found, part_exact}
 use Rattle.capnp_values.proofs.lazy_struct_list.LazyStructListSetterInputOwned.measure_part.Goals as goal
 
 pub returns-clause-returned : goal.returns-clause-returned

@@ -1,6 +1,6 @@
 -- A null pointer points to no words.
 use Rattle.std.proofs.Common.{Ok}
-use Rattle.capnp_wire.proofs.views.UniqueValueLemmas.{measured_found, measured_exactly}
+use Rattle.capnp_wire.proofs.views.UniqueValueTreeAndMeasureLemmas.{measured_found, measured_exactly}
 use Rattle.capnp_values.proofs.values.NullValueLemmas.{IsNull, null_has, one_null}
 use Rattle.capnp_values.proofs.null.NullSetterInput.measure.Goals as goal
 

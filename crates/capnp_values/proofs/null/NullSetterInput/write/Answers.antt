@@ -1,6 +1,6 @@
 -- A null pointer points to no words.
 use Rattle.std.proofs.Common.{◌-◌, ◌∙◌, sym}
-use Rattle.capnp_wire.proofs.layouts.FreeBlockLemmas.{null_copied, tree_body_long}
+use Rattle.capnp_wire.proofs.layouts.NullAndNumbersWrittenLemmas.{null_copied, tree_body_long}
 use Rattle.capnp_values.proofs.values.NullValueLemmas.{IsNull}
 use Rattle.capnp_values.proofs.null.NullSetterInput.write.Goals as goal
 

@@ -2,10 +2,10 @@
 use Rattle.std.proofs.Common.{◌≡◌, ◌+◌, ◌-◌, ◌*◌, ◌∙◌, ℕ, List, map, length, ap, sym, arith}
 use Rattle.std.proofs.lemmas.List.{length-map}
 use Rattle.capnp_layout.specs.Prelude.{width, words_for, list_pointer}
-use Rattle.capnp_layout.proofs.words.WordByteLemmas.{length-words_of}
-use Rattle.capnp_wire.proofs.layouts.FreeBlockLemmas.{numbers_copied, as_output, tree_body_long}
+use Rattle.capnp_layout.proofs.words.WordsOfBytesLemmas.{length-words_of}
+use Rattle.capnp_wire.proofs.layouts.NullAndNumbersWrittenLemmas.{numbers_copied, as_output, tree_body_long}
 use Rattle.capnp_values.specs.NumberLists.{IsNumberList}
-use Rattle.capnp_values.proofs.numbers.NumberListLemmas.{list_fits, list_room, numbers_put, block_part_long}
+use Rattle.capnp_values.proofs.numbers.NumberListAsWordsLemmas.{list_fits, list_room, numbers_put, block_part_long}
 use Rattle.capnp_values.proofs.number_list.NumberListSetterInputOwned.write.Goals as goal
 
 pub overflow_cast-count : goal.overflow_cast-count

@@ -1,6 +1,6 @@
 -- The words of a list are the words of its tree.
 use Rattle.capnp_values.specs.Lists.{IsPointerListTree, PointerListError}
-use Rattle.capnp_values.proofs.values.ValueWordLemmas.{whole_returned, whole_found, whole_exact}
+use Rattle.capnp_values.proofs.values.MeasureWithinBoundElseErrorLemmas.{whole_returned, whole_found, whole_exact}
 use Rattle.capnp_values.proofs.pointer_list.PointerListSetterInputOwned.measure.Goals as goal
 
 pub returns-clause-returned : goal.returns-clause-returned

@@ -1,11 +1,11 @@
 -- The pointers, and then what they point to.
 use Rattle.std.proofs.Common.{◌+◌, ◌-◌, length, sym, arith}
 use Rattle.capnp_layout.specs.Prelude.{words_of}
-use Rattle.capnp_wire.proofs.layouts.FreeBlockLemmas.{free_later}
+use Rattle.capnp_wire.proofs.layouts.ZeroFreePartLemmas.{free_later}
 use Rattle.capnp_layout.proofs.layouts.LayoutSizeLemmas.{length-body}
-use Rattle.capnp_wire.proofs.layouts.CopyPlanLemmas.{room_output}
+use Rattle.capnp_wire.proofs.layouts.CopyPlanFillsLayoutLemmas.{room_output}
 use Rattle.capnp_values.proofs.lists.ItemMeasureLemmas.{items_settled}
-use Rattle.capnp_values.proofs.lists.PointerListLemmas.{values_total, values_rooms, values_begin, pointer_list_copied}
+use Rattle.capnp_values.proofs.lists.PointerListMeasureLemmas.{values_total, values_rooms, values_begin, pointer_list_copied}
 use Rattle.capnp_values.proofs.pointer_list.PointerListSetterInputOwned.write.Goals as goal
 
 pub write_items-requires-clause-room : goal.write_items-requires-clause-room

@@ -1,6 +1,6 @@
 -- The struct at this index.
 use Rattle.std.proofs.Common.{refl}
-use Rattle.capnp_values.proofs.values.LazyValueLemmas.{itself, value_is_at}
+use Rattle.capnp_values.proofs.values.LazyValueAsDeclaredLemmas.{itself, value_is_at}
 use Rattle.capnp_values.proofs.sources.RefSliceStructSource.get.Goals as goal
 
 pub returns : goal.returns

@@ -1,5 +1,5 @@
 -- The value at this index.
-use Rattle.capnp_values.proofs.values.LazyValueLemmas.{itself, value_is_at}
+use Rattle.capnp_values.proofs.values.LazyValueAsDeclaredLemmas.{itself, value_is_at}
 use Rattle.capnp_values.proofs.sources.RefSliceValueSource.get.Goals as goal
 
 pub returns : goal.returns

@@ -6,7 +6,7 @@ use Rattle.capnp_frame.specs.declared.error.ErrorKind.{ErrorKind}
 use Rattle.capnp_layout.specs.Prelude.{Trees}
 use Rattle.capnp_wire.specs.Prelude.{HasWords, WordsError}
 use Rattle.capnp_values.specs.StructLists.{IsStructListTree, StructListError}
-use Rattle.capnp_values.proofs.values.ValueWordLemmas.{whole_returned, whole_found, whole_exact}
+use Rattle.capnp_values.proofs.values.MeasureWithinBoundElseErrorLemmas.{whole_returned, whole_found, whole_exact}
 use Rattle.capnp_values.proofs.struct_list.StructListSetterInputOwned.measure.Goals as goal
 
 pub returns-clause-returned : goal.returns-clause-returned

@@ -7,7 +7,7 @@ use Rattle.capnp_layout.specs.Prelude.{Trees}
 use Rattle.capnp_wire.specs.Prelude.{HasPart, WordsError}
 use Rattle.capnp_wire.specs.declared.traits.TreeWords.{TreeWords}
 use Rattle.capnp_values.specs.StructLists.{IsStructListTree, StructListError}
-use Rattle.capnp_values.proofs.values.ValueWordLemmas.{part_returned, part_found, part_exact}
+use Rattle.capnp_values.proofs.values.MeasureWithinBoundElseErrorLemmas.{part_returned, part_found, part_exact}
 use Rattle.capnp_values.proofs.struct_list.StructListSetterInputOwned.measure_part.Goals as goal
 
 pub returns-clause-returned : goal.returns-clause-returned

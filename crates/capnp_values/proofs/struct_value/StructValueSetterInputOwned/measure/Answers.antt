@@ -1,7 +1,7 @@
 -- The words of a struct are the words of its tree.
 use Rattle.std.proofs.Common.{length}
 use Rattle.capnp_values.specs.Structs.{IsStructTree, StructError}
-use Rattle.capnp_values.proofs.values.ValueWordLemmas.{whole_returned, whole_found, whole_exact}
+use Rattle.capnp_values.proofs.values.MeasureWithinBoundElseErrorLemmas.{whole_returned, whole_found, whole_exact}
 use Rattle.capnp_values.proofs.struct_value.StructValueSetterInputOwned.measure.Goals as goal
 
 pub returns-clause-returned : goal.returns-clause-returned

@@ -1,7 +1,7 @@
 -- The words of a struct are the words of its tree.
 use Rattle.std.proofs.Common.{length}
 use Rattle.capnp_values.specs.Structs.{IsStructTree, StructError}
-use Rattle.capnp_values.proofs.values.ValueWordLemmas.{part_returned, part_found, part_exact}
+use Rattle.capnp_values.proofs.values.MeasureWithinBoundElseErrorLemmas.{part_returned, part_found, part_exact}
 use Rattle.capnp_values.proofs.struct_value.StructValueSetterInputOwned.measure_part.Goals as goal
 
 pub returns-clause-returned : goal.returns-clause-returned

@@ -1,10 +1,10 @@
 -- A struct is its own words, and what its pointers point to.
 use Rattle.std.proofs.Common.{◌+◌, ◌-◌, arith}
 use Rattle.capnp_layout.specs.Prelude.{words_of}
-use Rattle.capnp_wire.proofs.layouts.FreeBlockLemmas.{free_later}
+use Rattle.capnp_wire.proofs.layouts.ZeroFreePartLemmas.{free_later}
 use Rattle.capnp_layout.proofs.layouts.LayoutSizeLemmas.{length-body}
-use Rattle.capnp_wire.proofs.layouts.CopyPlanLemmas.{room_output}
-use Rattle.capnp_values.proofs.structs.StructTreeLemmas.{struct_small, struct_rooms, struct_place, struct_copied}
+use Rattle.capnp_wire.proofs.layouts.CopyPlanFillsLayoutLemmas.{room_output}
+use Rattle.capnp_values.proofs.structs.StructMeasureLemmas.{struct_small, struct_rooms, struct_place, struct_copied}
 use Rattle.capnp_values.proofs.struct_value.StructValueSetterInputOwned.write.Goals as goal
 
 pub kept-pointers-requires : goal.kept-pointers-requires

@@ -1,6 +1,6 @@
 -- A pointer is null where its tree is.
 use Rattle.capnp_wire.specs.Prelude.{pointer_of}
-use Rattle.capnp_wire.proofs.views.MeasuredPartLemmas.{null_reported}
+use Rattle.capnp_wire.proofs.views.ValueAsPartTwoMeasuresLemmas.{null_reported}
 use Rattle.capnp_wire.proofs.any_pointer.ReaderSetterInputOwned.is_null.Goals as goal
 
 pub returns : goal.returns

@@ -2,8 +2,8 @@
 use Rattle.std.proofs.Common.{ℕ, Result, Ok}
 use Rattle.capnp_frame.specs.declared.error.Error.{Error}
 use Rattle.capnp_wire.specs.Prelude.{pointer_of, PointsToTree, WalkErrorFrom}
-use Rattle.capnp_wire.proofs.views.TargetValueLemmas.{none_has_words, measured_value}
-use Rattle.capnp_wire.proofs.views.UniqueValueLemmas.{one_of_pointer, measured_found, measured_exactly}
+use Rattle.capnp_wire.proofs.forms.TargetWrittenInCanonicalFormLemmas.{none_has_words, measured_value}
+use Rattle.capnp_wire.proofs.views.UniqueValueTreeAndMeasureLemmas.{one_of_pointer, measured_found, measured_exactly}
 use Rattle.capnp_wire.proofs.any_pointer.ReaderSetterInputOwned.measure.Goals as goal
 
 pub returns-in-None : goal.returns-in-None

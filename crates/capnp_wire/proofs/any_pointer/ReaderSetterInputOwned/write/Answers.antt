@@ -1,7 +1,7 @@
 -- A pointer points to one tree.
 use Rattle.capnp_wire.specs.Prelude.{pointer_of, PointsToTree}
-use Rattle.capnp_wire.proofs.layouts.FreeBlockLemmas.{tree_body_long}
-use Rattle.capnp_wire.proofs.views.UniqueValueLemmas.{one_of_pointer}
+use Rattle.capnp_wire.proofs.layouts.NullAndNumbersWrittenLemmas.{tree_body_long}
+use Rattle.capnp_wire.proofs.views.UniqueValueTreeAndMeasureLemmas.{one_of_pointer}
 use Rattle.capnp_wire.proofs.any_pointer.ReaderSetterInputOwned.write.Goals as goal
 
 pub returns-clause-long : goal.returns-clause-long

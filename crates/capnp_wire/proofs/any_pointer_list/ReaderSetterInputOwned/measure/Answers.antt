@@ -1,8 +1,8 @@
 -- A list of pointers that is read has, with all below it, the words of its tree.
 use Rattle.capnp_layout.specs.Prelude.{pointers}
 use Rattle.capnp_wire.specs.Prelude.{pointer_list_of, IsListTree, WalkErrorInList}
-use Rattle.capnp_wire.proofs.views.UniqueValueLemmas.{measured_found, measured_exactly}
-use Rattle.capnp_wire.proofs.views.ListValueLemmas.{one_of_list}
+use Rattle.capnp_wire.proofs.views.UniqueValueTreeAndMeasureLemmas.{measured_found, measured_exactly}
+use Rattle.capnp_wire.proofs.views.ListValueMeasureLemmas.{one_of_list}
 use Rattle.capnp_wire.proofs.any_pointer_list.ReaderSetterInputOwned.measure.Goals as goal
 
 pub returns : goal.returns

@@ -1,8 +1,8 @@
 -- What is written of a list of pointers is the body of its tree.
 use Rattle.capnp_layout.specs.Prelude.{pointers}
 use Rattle.capnp_wire.specs.Prelude.{limit_of, pointer_list_of, IsListTree}
-use Rattle.capnp_wire.proofs.layouts.FreeBlockLemmas.{tree_body_long}
-use Rattle.capnp_wire.proofs.views.ListValueLemmas.{one_of_list}
+use Rattle.capnp_wire.proofs.layouts.NullAndNumbersWrittenLemmas.{tree_body_long}
+use Rattle.capnp_wire.proofs.views.ListValueMeasureLemmas.{one_of_list}
 use Rattle.capnp_wire.proofs.any_pointer_list.ReaderSetterInputOwned.write.Goals as goal
 
 pub returns-clause-written : goal.returns-clause-written

@@ -2,10 +2,10 @@
 use Rattle.std.proofs.Common.{◌≢◌, ◌^◌, ◌<◌, MatchResult, None, sym, ◌∙◌, subst, refl, arith}
 use Rattle.capnp_layout.specs.Prelude.{words_of, message_of}
 use Rattle.capnp_wire.specs.Prelude.{struct_of, limit_of, Struct, HasWords, WordsError, IsTreeOf, WalkErrorInside}
-use Rattle.capnp_layout.proofs.objects.StructFieldLemmas.{length-words_from}
-use Rattle.capnp_wire.proofs.objects.NumberStructLemmas.{whole, alone}
-use Rattle.capnp_layout.proofs.objects.NumberStructLemmas.{one_word}
-use Rattle.capnp_wire.proofs.views.UniqueValueLemmas.{one_of_struct, measured_found, measured_exactly}
+use Rattle.capnp_layout.proofs.objects.SectionWordByIndexLemmas.{length-words_from}
+use Rattle.capnp_wire.proofs.objects.NumberAsStructLemmas.{whole, alone}
+use Rattle.capnp_layout.proofs.objects.NumberAsOneWordStructLemmas.{one_word}
+use Rattle.capnp_wire.proofs.views.UniqueValueTreeAndMeasureLemmas.{one_of_struct, measured_found, measured_exactly}
 use Rattle.capnp_wire.proofs.any_struct.StructReaderSetterInputOwned.measure.Goals as goal
 
 pub returns-in-None : goal.returns-in-None

@@ -2,11 +2,11 @@
 use Rattle.std.proofs.Common.{◌≢◌, ◌^◌, ◌<◌, None, length, sym, ◌∙◌, subst, refl, arith}
 use Rattle.capnp_layout.specs.Prelude.{words_of, message_of}
 use Rattle.capnp_wire.specs.Prelude.{struct_of, limit_of, Struct, HasRoomAt, IsTreeOf}
-use Rattle.capnp_layout.proofs.objects.StructFieldLemmas.{length-words_from}
-use Rattle.capnp_wire.proofs.objects.NumberStructLemmas.{whole, alone}
-use Rattle.capnp_layout.proofs.objects.NumberStructLemmas.{one_word}
-use Rattle.capnp_wire.proofs.layouts.FreeBlockLemmas.{tree_body_long}
-use Rattle.capnp_wire.proofs.views.UniqueValueLemmas.{one_of_struct}
+use Rattle.capnp_layout.proofs.objects.SectionWordByIndexLemmas.{length-words_from}
+use Rattle.capnp_wire.proofs.objects.NumberAsStructLemmas.{whole, alone}
+use Rattle.capnp_layout.proofs.objects.NumberAsOneWordStructLemmas.{one_word}
+use Rattle.capnp_wire.proofs.layouts.NullAndNumbersWrittenLemmas.{tree_body_long}
+use Rattle.capnp_wire.proofs.views.UniqueValueTreeAndMeasureLemmas.{one_of_struct}
 use Rattle.capnp_wire.proofs.any_struct.StructReaderSetterInputOwned.write.Goals as goal
 
 pub write-requires-in-Some-clause-value : goal.write-requires-in-Some-clause-value

@@ -2,13 +2,13 @@
 use Rattle.std.proofs.Common.{◌≡◌, ◌≤◌, ◌/◌, [], ◌∷◌, length, refl, sym, ◌∙◌, arith, false}
 use Rattle.std.proofs.lemmas.Bool.Decides.{nat_tests}
 use Rattle.capnp_layout.specs.Prelude.{words_of, root}
-use Rattle.capnp_layout.proofs.words.WordByteLemmas.{length-words_of}
-use Rattle.capnp_layout.proofs.objects.ListWordLemmas.{all_words_below}
-use Rattle.capnp_frame.proofs.sources.SourceCallLemmas.{passed_on}
-use Rattle.capnp_layout.proofs.pointers.LandingPadLemmas.{passed_kind}
-use Rattle.capnp_wire.proofs.walks.VisitedObjectLemmas.{no_word_ends}
-use Rattle.capnp_wire.proofs.walks.OneEndLemmas.{error_passes, one_way_to_end, one_error_ends}
-use Rattle.capnp_wire.proofs.forms.TestedMessageLemmas.{ended_is_not, whole_or_not, root_some}
+use Rattle.capnp_layout.proofs.words.WordsOfBytesLemmas.{length-words_of}
+use Rattle.capnp_layout.proofs.objects.ByteListElementLemmas.{all_words_below}
+use Rattle.capnp_frame.proofs.sources.JoinedCallsAdvanceSourceLemmas.{passed_on}
+use Rattle.capnp_layout.proofs.pointers.LandingPadTargetsAndErrorsLemmas.{passed_kind}
+use Rattle.capnp_wire.proofs.walks.ObjectTestedBeforePointersLemmas.{no_word_ends}
+use Rattle.capnp_wire.proofs.walks.UniqueCanonicalTestOutcomeLemmas.{error_passes, one_way_to_end, one_error_ends}
+use Rattle.capnp_wire.proofs.forms.CanonicalTestResultFromWalkLemmas.{ended_is_not, whole_or_not, root_some}
 use Rattle.capnp_wire.proofs.layout.canonical.is_canonical.Goals as goal
 
 pub returns-in_err-pointer_at-clause-errors : goal.returns-in_err-pointer_at-clause-errors

@@ -1,8 +1,8 @@
 -- The last of some words is the one before their end.
 use Rattle.std.proofs.Common.{◌+◌, ◌-◌, arith}
 use Rattle.capnp_layout.specs.Prelude.{words_of}
-use Rattle.capnp_layout.proofs.words.WordByteLemmas.{length-words_of}
-use Rattle.capnp_wire.proofs.forms.TruncatedLemmas.{stretch_ends_full}
+use Rattle.capnp_layout.proofs.words.WordsOfBytesLemmas.{length-words_of}
+use Rattle.capnp_wire.proofs.forms.SectionTrimmedByLastWordLemmas.{stretch_ends_full}
 use Rattle.capnp_wire.proofs.layout.canonical_rules.ends_full.Goals as goal
 
 pub returns-else-count-eq0 : goal.returns-else-count-eq0

@@ -2,11 +2,11 @@
 use Rattle.std.proofs.Common.{◌≡◌, ◌<◌, ◌+◌, ◌*◌, ◌/◌, ◌%◌, ◌^◌, ℕ, length, slice_get, slice_index_or, None, refl, sym, ap, arith}
 use Rattle.std.proofs.lemmas.Bool.Decides.{nat_tests}
 use Rattle.capnp_layout.specs.Prelude.{words_of, code_of, width}
-use Rattle.capnp_layout.proofs.words.WordByteLemmas.{length-words_of}
-use Rattle.capnp_wire.proofs.forms.TruncatedLemmas.{or_there, there_or}
-use Rattle.capnp_layout.proofs.objects.ListWordLemmas.{all_words_below}
-use Rattle.capnp_wire.proofs.objects.LastWordLemmas.{whole_is_padded, part_is_padded}
-use Rattle.capnp_layout.proofs.objects.LastWordLemmas.{no_bits_after}
+use Rattle.capnp_layout.proofs.words.WordsOfBytesLemmas.{length-words_of}
+use Rattle.capnp_wire.proofs.forms.SectionTrimmedByLastWordLemmas.{or_there, there_or}
+use Rattle.capnp_layout.proofs.objects.ByteListElementLemmas.{all_words_below}
+use Rattle.capnp_wire.proofs.objects.NumbersPaddedByLastWordLemmas.{whole_is_padded, part_is_padded}
+use Rattle.capnp_layout.proofs.objects.ListPaddingTestLemmas.{no_bits_after}
 use Rattle.capnp_wire.proofs.layout.canonical_rules.has_zero_padding.Goals as goal
 
 pub returns-then-following-eq0 : goal.returns-then-following-eq0

@@ -1,6 +1,6 @@
 -- A word that is not there counts as zero.
 use Rattle.capnp_layout.specs.Prelude.{words_of}
-use Rattle.capnp_wire.proofs.forms.TruncatedLemmas.{or_zero}
+use Rattle.capnp_wire.proofs.forms.SectionTrimmedByLastWordLemmas.{or_zero}
 use Rattle.std.proofs.Common.{sym}
 use Rattle.capnp_wire.proofs.layout.canonical_rules.is_set.Goals as goal
 

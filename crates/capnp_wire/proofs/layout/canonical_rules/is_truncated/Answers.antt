@@ -2,9 +2,9 @@
 use Rattle.std.proofs.Common.{◌≡◌, ◌+◌, ℕ, List, length, sym, subst, arith}
 use Rattle.capnp_layout.specs.Prelude.{words_of, words_from, places, pointer_places, elements_from}
 use Rattle.capnp_wire.specs.Prelude.{EndsFull, links_at}
-use Rattle.capnp_layout.proofs.words.WordByteLemmas.{length-words_of}
-use Rattle.capnp_layout.proofs.trees.FieldRoomLemmas.{length-elements_from}
-use Rattle.capnp_wire.proofs.forms.TruncatedLemmas.{links_places}
+use Rattle.capnp_layout.proofs.words.WordsOfBytesLemmas.{length-words_of}
+use Rattle.capnp_layout.proofs.trees.ReadTreeSizesAndWordsBoundedLemmas.{length-elements_from}
+use Rattle.capnp_wire.proofs.forms.SectionTrimmedByLastWordLemmas.{links_places}
 use Rattle.capnp_wire.proofs.layout.canonical_rules.is_truncated.Goals as goal
 
 pub returns-then-ends_full : goal.returns-then-ends_full

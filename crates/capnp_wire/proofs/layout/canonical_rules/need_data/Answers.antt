@@ -1,8 +1,8 @@
 -- An element needs its data where the last word of it is not zero.
 use Rattle.std.proofs.Common.{◌+◌, ◌-◌, arith}
 use Rattle.capnp_layout.specs.Prelude.{words_of}
-use Rattle.capnp_layout.proofs.words.WordByteLemmas.{length-words_of}
-use Rattle.capnp_wire.proofs.forms.TruncatedLemmas.{element_room, need_data}
+use Rattle.capnp_layout.proofs.words.WordsOfBytesLemmas.{length-words_of}
+use Rattle.capnp_wire.proofs.forms.SectionTrimmedByLastWordLemmas.{element_room, need_data}
 use Rattle.capnp_wire.proofs.layout.canonical_rules.need_data.Goals as goal
 
 pub some_is_set-requires-clause-within : goal.some_is_set-requires-clause-within

@@ -1,7 +1,7 @@
 -- An element needs its pointers where the last of them is not null.
 use Rattle.std.proofs.Common.{◌+◌, ◌-◌, arith}
 use Rattle.capnp_layout.specs.Prelude.{words_of}
-use Rattle.capnp_wire.proofs.forms.TruncatedLemmas.{element_room, need_pointers}
+use Rattle.capnp_wire.proofs.forms.SectionTrimmedByLastWordLemmas.{element_room, need_pointers}
 use Rattle.capnp_wire.proofs.layout.canonical_rules.need_pointers.Goals as goal
 
 pub some_is_set-requires-clause-within : goal.some_is_set-requires-clause-within

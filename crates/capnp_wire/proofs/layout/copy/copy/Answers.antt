@@ -1,8 +1,8 @@
 -- The pointer is in a segment, since a tree is at its place.
 use Rattle.std.proofs.Common.{sym}
 use Rattle.capnp_layout.specs.Prelude.{no_word, no_segment}
-use Rattle.capnp_layout.proofs.words.MessageWordLemmas.{segment_is_there, no_segment_is_there}
-use Rattle.capnp_layout.proofs.layouts.CopiedTargetLemmas.{error_no_tree}
+use Rattle.capnp_layout.proofs.words.WordAtPlaceLemmas.{segment_is_there, no_segment_is_there}
+use Rattle.capnp_layout.proofs.pointers.ErrorExcludesTreeLemmas.{error_no_tree}
 use Rattle.capnp_wire.proofs.layout.copy.copy.Goals as goal
 
 pub copy_target-requires-clause-content : goal.copy_target-requires-clause-content

@@ -1,8 +1,8 @@
 -- Each data section is put after the one before, with room for its pointers.
 use Rattle.std.proofs.Common.{◌≡◌, ◌+◌, ◌-◌, ◌/◌, ◌<◌, length, sym, ◌∙◌, arith}
 use Rattle.capnp_layout.specs.Prelude.{words_of}
-use Rattle.capnp_layout.proofs.words.WordByteLemmas.{length-words_of}
-use Rattle.capnp_wire.proofs.layouts.ElementCopyLemmas.{put_data_sections_next, put_no_data, fewer_elements}
+use Rattle.capnp_layout.proofs.words.WordsOfBytesLemmas.{length-words_of}
+use Rattle.capnp_wire.proofs.layouts.DataSectionWriteSequenceLemmas.{put_data_sections_next, put_no_data, fewer_elements}
 use Rattle.capnp_wire.proofs.layout.data_words.put_data_sections.Goals as goal
 
 pub returns-then-data_words-eq0-clause-words : goal.returns-then-data_words-eq0-clause-words

@@ -1,6 +1,6 @@
 -- Each kind of object puts its own words.
 use Rattle.std.proofs.Common.{◌/◌, length}
-use Rattle.capnp_layout.proofs.objects.CopiedDataLemmas.{struct_there}
+use Rattle.capnp_layout.proofs.objects.CopiedDataWithinSegmentLemmas.{struct_there}
 use Rattle.capnp_wire.proofs.layout.data_words.put_data_words.Goals as goal
 
 pub put_words-requires-clause-there : goal.put_words-requires-clause-there

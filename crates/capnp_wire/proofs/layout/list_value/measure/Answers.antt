@@ -2,7 +2,7 @@
 use Rattle.std.proofs.Common.{◌+◌, refl, arith}
 use Rattle.capnp_layout.specs.Prelude.{message_of, places, pointers}
 use Rattle.capnp_wire.specs.Prelude.{counted as counted_by}
-use Rattle.capnp_wire.proofs.views.ListValueLemmas.{own_pointers, list_measured}
+use Rattle.capnp_wire.proofs.views.ListValueMeasureLemmas.{own_pointers, list_measured}
 use Rattle.capnp_wire.proofs.layout.list_value.measure.Goals as goal
 
 pub returns : goal.returns

@@ -1,9 +1,9 @@
 -- A walk over no pointers finds nothing, and a walk over some is in their segment.
 use Rattle.std.proofs.Common.{◌<◌, arith}
-use Rattle.capnp_frame.proofs.sources.SourceCallLemmas.{passed_on}
+use Rattle.capnp_frame.proofs.sources.JoinedCallsAdvanceSourceLemmas.{passed_on}
 use Rattle.capnp_layout.specs.Prelude.{message_of}
-use Rattle.capnp_layout.proofs.words.MessageWordLemmas.{segment_is_there, no_segment_is_there}
-use Rattle.capnp_wire.proofs.views.ListValueLemmas.{none_walked, no_segment_error}
+use Rattle.capnp_layout.proofs.words.WordAtPlaceLemmas.{segment_is_there, no_segment_is_there}
+use Rattle.capnp_wire.proofs.views.ListValueMeasureLemmas.{none_walked, no_segment_error}
 use Rattle.capnp_wire.proofs.layout.list_value.walk_list.Goals as goal
 
 pub returns-then-count-eq0-clause-found : goal.returns-then-count-eq0-clause-found

@@ -2,9 +2,9 @@
 use Rattle.std.proofs.Common.{◌-◌, ◌+◌, ℕ, sym, refl, ap, subst}
 use Rattle.capnp_layout.specs.Prelude.{words_of, pointers, Trees, message_of, places, run, output}
 use Rattle.capnp_wire.specs.Prelude.{IsCopied}
-use Rattle.capnp_layout.proofs.words.MessageWordLemmas.{segment_is_there, no_segment_is_there}
-use Rattle.capnp_wire.proofs.layouts.TreesCopyLemmas.{copies_none}
-use Rattle.capnp_wire.proofs.views.ListValueLemmas.{pointers_opened, pointers_copyable, pointers_written, no_pointers_there, same_list}
+use Rattle.capnp_layout.proofs.words.WordAtPlaceLemmas.{segment_is_there, no_segment_is_there}
+use Rattle.capnp_wire.proofs.layouts.TreeCopySequenceLemmas.{copies_none}
+use Rattle.capnp_wire.proofs.views.ListValueWriteLemmas.{pointers_opened, pointers_copyable, pointers_written, no_pointers_there, same_list}
 use Rattle.capnp_wire.proofs.layout.list_value.write.Goals as goal
 
 pub list_word-pointer-requires-clause-count : goal.list_word-pointer-requires-clause-count

@@ -1,6 +1,6 @@
 -- An object's own words are put into a block.
 use Rattle.std.proofs.Common.{arith}
-use Rattle.capnp_wire.proofs.layouts.CopiedTargetLemmas.{opened_here, object_begins, null_is_copied}
+use Rattle.capnp_wire.proofs.layouts.CopyBeginsWithOwnWordsLemmas.{opened_here, object_begins, null_is_copied}
 use Rattle.capnp_wire.proofs.layout.pending.begin.Goals as goal
 
 pub returns-in_default-clause-begun : goal.returns-in_default-clause-begun

@@ -1,6 +1,6 @@
 -- Only the pointer to a list of pointers is known when its copy begins.
 use Rattle.std.proofs.Common.{refl}
-use Rattle.capnp_wire.proofs.layouts.NumberCopyLemmas.{pointer_list_opened, pointer_list_begins}
+use Rattle.capnp_wire.proofs.layouts.NumbersCopiedPointerListBegunLemmas.{pointer_list_opened, pointer_list_begins}
 use Rattle.capnp_wire.proofs.layout.pending.begin_list.Goals as goal
 
 pub list_word-requires-clause-count : goal.list_word-requires-clause-count

@@ -1,7 +1,7 @@
 -- A struct's own words are put into a block, and so are its pointers where all are null.
 use Rattle.std.proofs.Common.{arith}
-use Rattle.capnp_wire.proofs.layouts.CopiedTargetLemmas.{opened_here, struct_begins}
-use Rattle.capnp_wire.proofs.pointers.NullRunLemmas.{struct_of_nulls}
+use Rattle.capnp_wire.proofs.layouts.CopyBeginsWithOwnWordsLemmas.{opened_here, struct_begins}
+use Rattle.capnp_wire.proofs.walks.NullPointersWalkAndCopyLemmas.{struct_of_nulls}
 use Rattle.capnp_wire.proofs.layout.pending.begin_struct.Goals as goal
 
 pub struct_pointer_word-pointer-requires : goal.struct_pointer_word-pointer-requires

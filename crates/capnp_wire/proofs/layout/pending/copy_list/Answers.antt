@@ -1,6 +1,6 @@
 -- The words of a list of numbers are its copy.
 use Rattle.std.proofs.Common.{arith}
-use Rattle.capnp_wire.proofs.layouts.NumberCopyLemmas.{number_list_opened, number_list_copied}
+use Rattle.capnp_wire.proofs.layouts.NumbersCopiedPointerListBegunLemmas.{number_list_opened, number_list_copied}
 use Rattle.capnp_wire.proofs.layout.pending.copy_list.Goals as goal
 
 pub put_elements-requires-clause-room : goal.put_elements-requires-clause-room

@@ -5,9 +5,9 @@ use Rattle.capnp_layout.specs.Prelude.{words_of, message_of, pointer_places}
 use Rattle.capnp_wire.specs.Prelude.{structs_along, counted as counted_by}
 use Rattle.capnp_layout.specs.declared.place.Place.{Place}
 use Rattle.capnp_layout.specs.declared.pointer.StructSize.{StructSize}
-use Rattle.capnp_layout.proofs.words.WordByteLemmas.{length-words_of}
-use Rattle.capnp_layout.proofs.pointers.PointersInOrderLemmas.{kept_all}
-use Rattle.capnp_wire.proofs.views.ListValueLemmas.{own_structs, list_measured, elements_children}
+use Rattle.capnp_layout.proofs.words.WordsOfBytesLemmas.{length-words_of}
+use Rattle.capnp_layout.proofs.pointers.KeptPointerPlacesBySectionLemmas.{kept_all}
+use Rattle.capnp_wire.proofs.views.ListValueMeasureLemmas.{own_structs, list_measured, elements_children}
 use Rattle.capnp_wire.proofs.layout.struct_list_value.measure.Goals as goal
 
 pub walk_pointers-requires : goal.walk_pointers-requires

@@ -3,8 +3,9 @@
 use Rattle.std.proofs.Common.{◌≡◌, ◌-◌, ◌+◌, ◌*◌, ◌≤◌, [], ◌∷◌, ℕ, refl, sym, ap, ◌∙◌, subst, length, arith}
 use Rattle.capnp_layout.specs.Prelude.{words_of, Trees, message_of, pointer_places, output, list_pointer, put, kept_places}
 use Rattle.capnp_wire.specs.Prelude.{CanCopy, IsCopied, structs_along}
-use Rattle.capnp_layout.proofs.words.WordByteLemmas.{length-words_of}
-use Rattle.capnp_wire.proofs.views.ListValueLemmas.{elements_opened, elements_written, elements_children, same_list}
+use Rattle.capnp_layout.proofs.words.WordsOfBytesLemmas.{length-words_of}
+use Rattle.capnp_wire.proofs.views.ListValueMeasureLemmas.{elements_children}
+use Rattle.capnp_wire.proofs.views.ListValueWriteLemmas.{elements_opened, elements_written, same_list}
 use Rattle.capnp_wire.proofs.layout.struct_list_value.write.Goals as goal
 
 pub struct_word-tag-requires : goal.struct_word-tag-requires

@@ -3,9 +3,9 @@ use Rattle.std.proofs.Common.{◌≡◌, ◌≢◌, ◌+◌, ◌≤◌, ◌∙�
 use Rattle.capnp_layout.specs.Prelude.{words_of, message_of, words_in, output_body_of}
 use Rattle.capnp_layout.specs.declared.object.Body.TheVariants.{Struct}
 use Rattle.capnp_layout.specs.declared.place.Place.{Place}
-use Rattle.capnp_layout.proofs.words.WordByteLemmas.{length-words_of}
-use Rattle.capnp_layout.proofs.pointers.PointersInOrderLemmas.{kept_children}
-use Rattle.capnp_wire.proofs.objects.ReadStructLemmas.{struct_measured, struct_children}
+use Rattle.capnp_layout.proofs.words.WordsOfBytesLemmas.{length-words_of}
+use Rattle.capnp_layout.proofs.pointers.KeptPointerPlacesBySectionLemmas.{kept_children}
+use Rattle.capnp_wire.proofs.views.StructValueMeasureAndWriteLemmas.{struct_measured, struct_children}
 use Rattle.capnp_wire.specs.Prelude.{counted as counted_by}
 use Rattle.capnp_wire.proofs.layout.struct_value.measure.Goals as goal
 

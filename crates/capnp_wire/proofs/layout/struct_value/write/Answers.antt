@@ -2,10 +2,10 @@
 use Rattle.std.proofs.Common.{◌-◌, refl, subst, length, arith}
 use Rattle.capnp_layout.specs.Prelude.{words_of, Trees, message_of, output}
 use Rattle.capnp_wire.specs.Prelude.{IsCopied}
-use Rattle.capnp_layout.proofs.words.WordByteLemmas.{length-words_of}
+use Rattle.capnp_layout.proofs.words.WordsOfBytesLemmas.{length-words_of}
 use Rattle.capnp_layout.specs.declared.object.Body.TheVariants.{Struct}
-use Rattle.capnp_wire.proofs.layouts.CopiedTargetLemmas.{fewer_pointers}
-use Rattle.capnp_wire.proofs.objects.ReadStructLemmas.{struct_opened_as, struct_written, same_struct, struct_children}
+use Rattle.capnp_wire.proofs.layouts.CopyBeginsWithOwnWordsLemmas.{fewer_pointers}
+use Rattle.capnp_wire.proofs.views.StructValueMeasureAndWriteLemmas.{struct_opened_as, struct_written, same_struct, struct_children}
 use Rattle.capnp_wire.proofs.layout.struct_value.write.Goals as goal
 
 pub put_data_words-requires-clause-fits : goal.put_data_words-requires-clause-fits

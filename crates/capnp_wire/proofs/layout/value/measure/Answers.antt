@@ -2,7 +2,7 @@
 use Rattle.std.proofs.Common.{◌+◌, refl}
 use Rattle.capnp_layout.specs.Prelude.{message_of}
 use Rattle.capnp_wire.specs.Prelude.{counted as counted_by}
-use Rattle.capnp_wire.proofs.views.MeasuredValueLemmas.{result_fits}
+use Rattle.capnp_wire.proofs.views.WalkCountIsMeasureLemmas.{result_fits}
 use Rattle.capnp_wire.proofs.layout.value.measure.Goals as goal
 
 pub returns : goal.returns

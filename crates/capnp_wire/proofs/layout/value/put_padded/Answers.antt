@@ -1,7 +1,7 @@
 -- Bytes are put into a block of zeros.
 use Rattle.std.proofs.Common.{◌≡◌, ◌+◌, ◌*◌, ◌++◌, ◌-◌, ℕ, length, take, drop, List, ap, ◌∙◌, arith}
 use Rattle.capnp_layout.specs.Prelude.{words_of}
-use Rattle.capnp_wire.proofs.layouts.FreeBlockLemmas.{padded_put}
+use Rattle.capnp_wire.proofs.layouts.NullAndNumbersWrittenLemmas.{padded_put}
 use Rattle.capnp_wire.proofs.layout.value.put_padded.Goals as goal
 
 pub returns-clause-words : goal.returns-clause-words

@@ -1,8 +1,8 @@
 -- The bytes of a list, and zeros after them, are its words.
 use Rattle.std.proofs.Common.{arith, length}
 use Rattle.capnp_layout.specs.Prelude.{words_for}
-use Rattle.capnp_layout.proofs.words.WordByteLemmas.{length-words_of}
-use Rattle.capnp_wire.proofs.layouts.FreeBlockLemmas.{numbers_copied}
+use Rattle.capnp_layout.proofs.words.WordsOfBytesLemmas.{length-words_of}
+use Rattle.capnp_wire.proofs.layouts.NullAndNumbersWrittenLemmas.{numbers_copied}
 use Rattle.capnp_wire.proofs.layout.value.write_bytes.Goals as goal
 
 pub put_padded-requires-clause-room : goal.put_padded-requires-clause-room

@@ -1,8 +1,8 @@
 -- The words of a list of numbers are its copy.
 use Rattle.std.proofs.Common.{ℕ, ◌-◌, ◌∙◌, ap, sym, arith}
 use Rattle.capnp_layout.specs.Prelude.{words_of, code_of, width, words_for, elements, list_pointer}
-use Rattle.capnp_wire.proofs.layouts.FreeBlockLemmas.{numbers_copied}
-use Rattle.capnp_wire.proofs.views.NumberListValueLemmas.{numbers_long}
+use Rattle.capnp_wire.proofs.layouts.NullAndNumbersWrittenLemmas.{numbers_copied}
+use Rattle.capnp_wire.proofs.views.NumberListMeasureLemmas.{numbers_long}
 use Rattle.capnp_wire.proofs.layout.value.write_numbers.Goals as goal
 
 pub returns-clause-written : goal.returns-clause-written

@@ -1,9 +1,9 @@
 -- The bytes of a text, and zeros after them, are its words.
 use Rattle.std.proofs.Common.{◌+◌, ◌-◌, ◌++◌, ◌∷◌, [], ◌∙◌, List, ℕ, arith, ap, sym, length}
 use Rattle.capnp_layout.specs.Prelude.{words_of, words_for, list_pointer, put}
-use Rattle.capnp_layout.proofs.words.WordByteLemmas.{length-words_of}
-use Rattle.capnp_layout.proofs.words.ByteListLemmas.{text_own, long_end}
-use Rattle.capnp_wire.proofs.layouts.FreeBlockLemmas.{numbers_copied}
+use Rattle.capnp_layout.proofs.words.WordsOfBytesLemmas.{length-words_of}
+use Rattle.capnp_layout.proofs.words.WordsOfPaddedByteListLemmas.{text_own, long_end}
+use Rattle.capnp_wire.proofs.layouts.NullAndNumbersWrittenLemmas.{numbers_copied}
 use Rattle.capnp_wire.proofs.layout.value.write_text.Goals as goal
 
 pub put_padded-requires-clause-room : goal.put_padded-requires-clause-room

@@ -2,8 +2,8 @@
 use Rattle.std.proofs.Common.{ℕ, MatchResult, subst}
 use Rattle.capnp_layout.specs.Prelude.{words_of, elements}
 use Rattle.capnp_wire.specs.Prelude.{numbers_of, HasWords, WordsError, IsNumbersTree, TooManyNumbers}
-use Rattle.capnp_wire.proofs.views.UniqueValueLemmas.{measured_found, measured_exactly}
-use Rattle.capnp_wire.proofs.views.NumberListValueLemmas.{one_of_numbers, numbers_measured}
+use Rattle.capnp_wire.proofs.views.UniqueValueTreeAndMeasureLemmas.{measured_found, measured_exactly}
+use Rattle.capnp_wire.proofs.views.NumberListMeasureLemmas.{one_of_numbers, numbers_measured}
 use Rattle.capnp_wire.proofs.primitive_list.ReaderSetterInputOwned.measure.Goals as goal
 
 pub returns : goal.returns

@@ -2,8 +2,8 @@
 use Rattle.std.proofs.Common.{ℕ, ap, arith}
 use Rattle.capnp_layout.specs.Prelude.{words_of, width, words_for}
 use Rattle.capnp_wire.specs.Prelude.{numbers_of, IsNumbersTree}
-use Rattle.capnp_wire.proofs.layouts.FreeBlockLemmas.{tree_body_long, numbers_total}
-use Rattle.capnp_wire.proofs.views.NumberListValueLemmas.{one_of_numbers, numbers_long}
+use Rattle.capnp_wire.proofs.layouts.NullAndNumbersWrittenLemmas.{tree_body_long, numbers_total}
+use Rattle.capnp_wire.proofs.views.NumberListMeasureLemmas.{one_of_numbers, numbers_long}
 use Rattle.capnp_wire.proofs.primitive_list.ReaderSetterInputOwned.write.Goals as goal
 
 pub write_numbers-requires-clause-few : goal.write_numbers-requires-clause-few

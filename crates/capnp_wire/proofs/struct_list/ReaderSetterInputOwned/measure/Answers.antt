@@ -1,7 +1,7 @@
 -- A list of structs that is read has, with all below it, the words of its tree.
 use Rattle.capnp_wire.specs.Prelude.{struct_list_of, IsListTree, WalkErrorInList, pointers_in, structs_form}
-use Rattle.capnp_wire.proofs.views.UniqueValueLemmas.{measured_found, measured_exactly}
-use Rattle.capnp_wire.proofs.views.ListValueLemmas.{one_of_list}
+use Rattle.capnp_wire.proofs.views.UniqueValueTreeAndMeasureLemmas.{measured_found, measured_exactly}
+use Rattle.capnp_wire.proofs.views.ListValueMeasureLemmas.{one_of_list}
 use Rattle.capnp_wire.proofs.struct_list.ReaderSetterInputOwned.measure.Goals as goal
 
 pub returns : goal.returns

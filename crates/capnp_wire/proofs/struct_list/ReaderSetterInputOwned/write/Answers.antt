@@ -1,7 +1,7 @@
 -- What is written of a list of structs is the body of its tree.
 use Rattle.capnp_wire.specs.Prelude.{limit_of, struct_list_of, IsListTree, pointers_in, structs_form}
-use Rattle.capnp_wire.proofs.layouts.FreeBlockLemmas.{tree_body_long}
-use Rattle.capnp_wire.proofs.views.ListValueLemmas.{one_of_list}
+use Rattle.capnp_wire.proofs.layouts.NullAndNumbersWrittenLemmas.{tree_body_long}
+use Rattle.capnp_wire.proofs.views.ListValueMeasureLemmas.{one_of_list}
 use Rattle.capnp_wire.proofs.struct_list.ReaderSetterInputOwned.write.Goals as goal
 
 pub returns-clause-written : goal.returns-clause-written

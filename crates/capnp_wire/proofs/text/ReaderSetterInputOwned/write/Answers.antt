@@ -1,7 +1,7 @@
 -- The bytes are one tree.
 use Rattle.std.proofs.Common.{sym, ◌∙◌}
 use Rattle.capnp_wire.specs.Prelude.{IsTextTree}
-use Rattle.capnp_wire.proofs.layouts.FreeBlockLemmas.{tree_body_long}
+use Rattle.capnp_wire.proofs.layouts.NullAndNumbersWrittenLemmas.{tree_body_long}
 use Rattle.capnp_wire.proofs.text.ReaderSetterInputOwned.write.Goals as goal
 
 pub returns-clause-long : goal.returns-clause-long

@@ -1,6 +1,6 @@
 -- There are bytes in front of a last zero exactly where the last byte is zero.
 use Rattle.std.proofs.Common.{◌≡◌, ◌+◌, ℕ, List, [], ◌∷◌, suc, length, ap, ◌∙◌, arith, length-append}
-use Rattle.capnp_wire.proofs.views.ShownFormLemmas.{zero_after, no_zero_after}
+use Rattle.capnp_wire.proofs.views.EnteredObjectShownLemmas.{zero_after, no_zero_after}
 use Rattle.capnp_wire.proofs.text.reader.before_zero.Goals as goal
 
 pub returns-in_default : goal.returns-in_default

@@ -1,7 +1,7 @@
 -- The text is the elements of a list of bytes, before its last zero.
 use Rattle.std.proofs.Common.{inl}
 use Rattle.std.proofs.lemmas.Result.{err_from_is_err_and}
-use Rattle.capnp_wire.proofs.views.ShownFormLemmas.{ends_with_zero, no_zero_at_end}
+use Rattle.capnp_wire.proofs.views.EnteredObjectShownLemmas.{ends_with_zero, no_zero_at_end}
 use Rattle.capnp_wire.proofs.text.reader.text_in.Goals as goal
 
 pub returns-in_err-bytes : goal.returns-in_err-bytes

@@ -1,7 +1,7 @@
 -- A part is measured untrimmed, and, where the canonical form is written, in that form, too.
 use Rattle.std.proofs.Common.{Ok, ap}
 use Rattle.capnp_wire.specs.declared.traits.TreeWords.{TreeWords}
-use Rattle.capnp_wire.proofs.views.MeasuredPartLemmas.{untrimmed_words, untrimmed_found, both_returned, both_found}
+use Rattle.capnp_wire.proofs.views.ValueAsPartTwoMeasuresLemmas.{untrimmed_words, untrimmed_found, both_returned, both_found}
 use Rattle.capnp_wire.proofs.traits.SetterInput.measure_part.Goals as goal
 
 pub returns-in_err-untrimmed-clause-found : goal.returns-in_err-untrimmed-clause-found

@@ -3,7 +3,7 @@ use Rattle.std.proofs.Common.{◌≡◌, ◌≤◌, ℕ, ◌-◌, [], ◌++◌, 
 use lib.Seq.{take-add, take-take}
 use Rattle.std.specs.Io.KnownBytes.{Appends}
 use Rattle.std.proofs.KnownBytes.{Appends-trans}
-use Rattle.capnp.proofs.DeviceLemmas.{front_kept, nothing_added}
+use Rattle.capnp.proofs.DeviceCallMovesFirstBytesLemmas.{front_kept, nothing_added}
 use Rattle.capnp.proofs.devices.output.OutputWrite.write_all.Goals as goal
 use Rattle.capnp.proofs.devices.output.OutputWrite.write_all.Goals.{in_default-via-in-Ok+else-count-gt0, in_default-via-in_default}
 

@@ -1,5 +1,5 @@
 -- A failure rejects the root, which is null where there was no segment.
-use Rattle.capnp_build.proofs.outcomes.RootOutcomeLemmas.{looks_at_root}
+use Rattle.capnp_build.proofs.outcomes.SetRootLemmas.{looks_at_root}
 use Rattle.capnp_build.proofs.arena.builder_arena.BuilderArena.accept_root.Goals as goal
 
 pub returns : goal.returns

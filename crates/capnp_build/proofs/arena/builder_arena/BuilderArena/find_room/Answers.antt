@@ -3,7 +3,7 @@ use Rattle.std.proofs.Common.{◌≡◌, inr, inl, ◌<◌, List, [], ◌∷◌,
 use Rattle.capnp_build.specs.Prelude.{Space, HasNullRoot, message, Built, IsBuilt}
 use Rattle.capnp_layout.specs.Prelude.{word_at, root}
 use Rattle.capnp_build.specs.declared.arena.location.RootLocation.{RootLocation}
-use Rattle.capnp_build.proofs.states.ChangedSegmentLemmas.{root_appended}
+use Rattle.capnp_build.proofs.states.SegmentSizesAfterChangeLemmas.{root_appended}
 use Rattle.capnp_build.proofs.arena.builder_arena.BuilderArena.find_room.Goals as goal
 
 added : (spaces more : List Space) (s : Space) → 0 < length spaces → more ≡ spaces ++ s ∷ [] → HasNullRoot spaces → HasNullRoot more

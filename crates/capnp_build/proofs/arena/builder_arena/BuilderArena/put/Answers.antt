@@ -2,7 +2,7 @@
 use Rattle.std.proofs.Common.{rules, ◌≡◌, List, ap, arith}
 use Rattle.capnp_build.specs.Prelude.{Space, space_at, free_words_of, Built}
 use Rattle.capnp_build.proofs.states.StayingBytesLemmas.{found_bytes, found_sizes}
-use Rattle.capnp_build.proofs.layouts.BlockPlaceLemmas.{placed_far}
+use Rattle.capnp_build.proofs.outcomes.BlockPrefersFirstSegmentLemmas.{placed_far}
 use Rattle.capnp_build.proofs.arena.builder_arena.BuilderArena.put.Goals as goal
 
 pub returns : goal.returns

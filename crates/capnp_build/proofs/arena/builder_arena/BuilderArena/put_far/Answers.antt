@@ -3,8 +3,8 @@ use Rattle.std.proofs.Common.{ℕ, ◌≡◌, ◌+◌, ◌*◌, ◌<◌, ◌≤�
 use Rattle.std.proofs.lemmas.List.{length-replicate}
 use Rattle.capnp_build.specs.Prelude.{space_at, KeepsOthers, size_in_words, Built, state_of, KeepsBytes}
 use Rattle.capnp_build.specs.declared.arena.location.RootLocation.{RootLocation}
-use Rattle.capnp_build.proofs.layouts.BodyPointerLemmas.{longer_by, keeps_of}
-use Rattle.capnp_build.proofs.layouts.ValueAfterPointerLemmas.{value_set}
+use Rattle.capnp_build.proofs.layouts.RootPointerToBodyLemmas.{longer_by, keeps_of}
+use Rattle.capnp_build.proofs.layouts.RootIsValueLemmas.{value_set}
 use Rattle.capnp_build.proofs.arena.builder_arena.BuilderArena.put_far.Goals as goal
 
 pub invariant_of-self : goal.invariant_of-self

@@ -2,9 +2,9 @@
 use Rattle.std.proofs.Common.{◌≡◌, ◌<◌, length, Option, Some, None, ap, sym, subst, ◌∙◌, arith}
 use Rattle.capnp_build.specs.Prelude.{space_at, KeepsOthers, size_in_words, Built, state_of, IsBuilt, KeepsBytes, IsAtEnd}
 use Rattle.capnp_build.specs.declared.arena.location.RootLocation.{RootLocation}
-use Rattle.capnp_build.proofs.roots.NullRootLemmas.{root_room}
-use Rattle.capnp_build.proofs.layouts.BodyPointerLemmas.{keeps_of}
-use Rattle.capnp_build.proofs.layouts.ValueAfterPointerLemmas.{value_set, value_whole}
+use Rattle.capnp_build.proofs.roots.NullRootTreeLemmas.{root_room}
+use Rattle.capnp_build.proofs.layouts.RootPointerToBodyLemmas.{keeps_of}
+use Rattle.capnp_build.proofs.layouts.RootIsValueLemmas.{value_set, value_whole}
 use Rattle.capnp_build.proofs.arena.builder_arena.BuilderArena.put_local.Goals as goal
 
 pub append_value-location-requires-clause-following : goal.append_value-location-requires-clause-following

@@ -4,9 +4,9 @@ use Rattle.std.specs.Option.{option_copied}
 use Rattle.capnp_layout.specs.Prelude.{Form, null, Root}
 use Rattle.capnp_build.specs.Prelude.{Space, space_at, Built, message, HasNullRoot, IsBuilt, HoldsForm, HoldsTree}
 use Rattle.capnp_build.specs.declared.arena.location.RootLocation.{RootLocation}
-use Rattle.capnp_build.proofs.states.ChangedSegmentLemmas.{got_used}
-use Rattle.capnp_build.proofs.roots.NullRootLemmas.{null_only}
-use Rattle.capnp_build.proofs.roots.RootBytesLemmas.{no_location_no_bytes, its_bytes, root_holds_there}
+use Rattle.capnp_build.proofs.states.SegmentSizesAfterChangeLemmas.{got_used}
+use Rattle.capnp_build.proofs.roots.NullRootTreeLemmas.{null_only}
+use Rattle.capnp_build.proofs.roots.RootBlockIsTreeBytesLemmas.{no_location_no_bytes, its_bytes, root_holds_there}
 use Rattle.capnp_build.proofs.arena.builder_arena.BuilderArena.root_bytes.Goals as goal
 
 pub returns-in_default-clause-form : goal.returns-in_default-clause-form

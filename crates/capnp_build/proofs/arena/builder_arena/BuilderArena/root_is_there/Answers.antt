@@ -3,8 +3,8 @@ use Rattle.std.proofs.Common.{ℕ, ◌<◌, List, [], ◌∷◌, length, Option,
 use Rattle.capnp_build.specs.Prelude.{Space, message, Built, IsBuilt}
 use Rattle.capnp_layout.specs.Prelude.{Form, null, Trees, none, tree, At, root}
 use Rattle.capnp_build.specs.declared.arena.location.RootLocation.{RootLocation}
-use Rattle.capnp_build.proofs.layouts.TreeLayoutLemmas.{laid_root}
-use Rattle.capnp_build.proofs.roots.NullRootLemmas.{null_root}
+use Rattle.capnp_build.proofs.layouts.LaidTreeReadAtRootLemmas.{laid_root}
+use Rattle.capnp_build.proofs.roots.NullRootTreeLemmas.{null_root}
 use Rattle.capnp_build.proofs.arena.builder_arena.BuilderArena.root_is_there.Goals as goal
 
 abbrev HasRoot : List Space → Type 0

@@ -4,9 +4,9 @@ use Rattle.capnp_build.specs.Prelude.{Space, IsRootKind, message, HasNullRoot, B
 use Rattle.capnp_layout.specs.Prelude.{Form, Trees, count, Root, pointer, HasRoom}
 use Rattle.capnp_build.specs.declared.root_kind.RootKind.{RootKind}
 use Rattle.capnp_build.specs.declared.arena.location.RootLocation.{RootLocation}
-use Rattle.capnp_build.proofs.layouts.TreeLayoutLemmas.{laid_as}
-use Rattle.capnp_build.proofs.roots.NullRootLemmas.{null_only}
-use Rattle.capnp_build.proofs.roots.RootReadBackLemmas.{shown_there}
+use Rattle.capnp_build.proofs.layouts.LaidTreeReadAtRootLemmas.{laid_as}
+use Rattle.capnp_build.proofs.roots.NullRootTreeLemmas.{null_only}
+use Rattle.capnp_build.proofs.roots.RootObjectFromBodyBytesLemmas.{shown_there}
 use Rattle.capnp_build.proofs.arena.builder_arena.BuilderArena.root_kind.Goals as goal
 
 shown_of : (spaces : List Space) (location : RootLocation) (s : RootKind) → IsBuilt spaces (Some location) → ((form : Form) (n : ℕ) → HasRoom form n → location.pointer_word ≡ pointer form n 0 → ShowsRoot s form)

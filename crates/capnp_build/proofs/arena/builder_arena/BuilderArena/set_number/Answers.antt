@@ -4,8 +4,8 @@ use Rattle.capnp_layout.specs.Prelude.{numbers, none}
 use Rattle.capnp_build.specs.Prelude.{Space, BuilderState, Built, HasNullRoot, IsBuilt, IsWritten, HasNumber, IsNumberSet}
 use Rattle.capnp_build.specs.declared.arena.location.RootLocation.{RootLocation}
 use Rattle.capnp_build.proofs.writes.RootObjectWriteLemmas.{written_at, number_known, number_inside, number_room, number_set, no_list}
-use Rattle.capnp_build.proofs.roots.NullRootLemmas.{null_only}
-use Rattle.capnp_build.proofs.roots.RootReadBackLemmas.{number_laid}
+use Rattle.capnp_build.proofs.roots.NullRootTreeLemmas.{null_only}
+use Rattle.capnp_build.proofs.roots.RootObjectFromBodyBytesLemmas.{number_laid}
 use Rattle.capnp_build.proofs.arena.builder_arena.BuilderArena.set_number.Goals as goal
 
 pub write_at-requires-clause-room : goal.write_at-requires-clause-room

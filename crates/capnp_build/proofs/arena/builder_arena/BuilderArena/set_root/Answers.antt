@@ -1,6 +1,6 @@
 -- The root is cleared first, then the value is measured and placed.
 use Rattle.std.proofs.lemmas.Result.{err_from_is_err_and}
-use Rattle.capnp_build.proofs.outcomes.RootOutcomeLemmas.{sets_root, sets_root_unmeasured}
+use Rattle.capnp_build.proofs.outcomes.SetRootLemmas.{sets_root, sets_root_unmeasured}
 use Rattle.capnp_build.proofs.arena.builder_arena.BuilderArena.set_root.Goals as goal
 
 pub returns : goal.returns

@@ -2,11 +2,11 @@
 use Rattle.std.proofs.Common.{rules, length, ap, arith, refl}
 use Rattle.std.proofs.lemmas.Result.{err_from_is_err_and}
 use Rattle.capnp_build.specs.Prelude.{space_at, free_words_of, Built}
-use Rattle.capnp_build.proofs.outcomes.RootOutcomeLemmas.{cleared_root, still_granted}
-use Rattle.capnp_build.proofs.outcomes.CanonicalRootLemmas.{canonical_unmeasured, canonical_full, set_meets_no_error}
-use Rattle.capnp_build.proofs.outcomes.FirstActionLemmas.{first_put}
+use Rattle.capnp_build.proofs.outcomes.SetRootLemmas.{cleared_root, still_granted}
+use Rattle.capnp_build.proofs.outcomes.CanonicalRootErrorLemmas.{canonical_unmeasured, canonical_full, set_meets_no_error}
+use Rattle.capnp_build.proofs.outcomes.FirstBlockSegmentChoiceLemmas.{first_put}
 use Rattle.capnp_build.proofs.states.StayingBytesLemmas.{zero_stays, outside_stays}
-use Rattle.capnp_build.proofs.layouts.BlockPlaceLemmas.{placed_local}
+use Rattle.capnp_build.proofs.outcomes.BlockPrefersFirstSegmentLemmas.{placed_local}
 use Rattle.capnp_build.proofs.arena.builder_arena.BuilderArena.set_root_canonical.Goals as goal
 
 pub returns : goal.returns

@@ -4,7 +4,7 @@ use Rattle.capnp_build.specs.Prelude.{Space, BuilderState, Built, HasNullRoot, I
 use Rattle.capnp_layout.specs.Prelude.{null, struct}
 use Rattle.capnp_build.specs.declared.arena.location.RootLocation.{RootLocation}
 use Rattle.capnp_build.proofs.writes.RootDataWordLemmas.{field_laid}
-use Rattle.capnp_build.proofs.roots.NullRootLemmas.{null_only}
+use Rattle.capnp_build.proofs.roots.NullRootTreeLemmas.{null_only}
 use Rattle.capnp_build.proofs.writes.RootObjectWriteLemmas.{written_at, field_known, field_inside, field_room, root_field_set, no_struct}
 use Rattle.capnp_build.proofs.arena.builder_arena.BuilderArena.set_word.Goals as goal
 

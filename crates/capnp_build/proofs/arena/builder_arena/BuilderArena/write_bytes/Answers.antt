@@ -4,8 +4,8 @@ use Rattle.std.specs.Option.{option_copied}
 use Rattle.capnp_layout.specs.Prelude.{numbers, none}
 use Rattle.capnp_build.specs.Prelude.{Space, BuilderState, Built, HasNullRoot, IsBuilt, IsWritten, HasBytes, IsBytesSet}
 use Rattle.capnp_build.specs.declared.arena.location.RootLocation.{RootLocation}
-use Rattle.capnp_build.proofs.states.ChangedSegmentLemmas.{got_low, got_none}
-use Rattle.capnp_build.proofs.roots.NullRootLemmas.{null_only}
+use Rattle.capnp_build.proofs.states.SegmentSizesAfterChangeLemmas.{got_low, got_none}
+use Rattle.capnp_build.proofs.roots.NullRootTreeLemmas.{null_only}
 use Rattle.capnp_build.proofs.writes.RootObjectWriteLemmas.{written_at, bytes_inside, bytes_room, bytes_rewritten, bytes_set, numbers_not_null}
 use Rattle.capnp_build.proofs.arena.builder_arena.BuilderArena.write_bytes.Goals as goal
 

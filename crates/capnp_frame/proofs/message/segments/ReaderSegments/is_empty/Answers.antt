@@ -1,5 +1,5 @@
 -- There is no first segment exactly where there is none.
-use Rattle.capnp_frame.proofs.tables.RunningSumLemmas.{first_shows}
+use Rattle.capnp_frame.proofs.tables.PartsCutAtRunningSumsLemmas.{first_shows}
 use Rattle.capnp_frame.proofs.message.segments.ReaderSegments.is_empty.Goals as goal
 
 pub returns : goal.returns

@@ -1,7 +1,7 @@
 -- The message at the front is the one that is found.
 use Rattle.std.proofs.Common.{rules, length, ap}
-use Rattle.capnp_frame.proofs.slices.FrontFrameLemmas.{parts_are, keeps_declared}
-use Rattle.capnp_frame.proofs.slices.FlatReaderLemmas.{reads_none, reads_found}
+use Rattle.capnp_frame.proofs.slices.SliceOutcomeAfterTableReadLemmas.{parts_are, keeps_declared}
+use Rattle.capnp_frame.proofs.slices.FlatReaderOutcomeLemmas.{reads_none, reads_found}
 use Rattle.capnp_frame.proofs.serialize.buffer_segments.BufferSegments.with_rules.Goals as goal
 
 pub returns-in_err-segment_indices : goal.returns-in_err-segment_indices

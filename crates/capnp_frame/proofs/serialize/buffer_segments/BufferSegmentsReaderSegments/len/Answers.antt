@@ -1,6 +1,6 @@
 -- As many as there are parts.
 use Rattle.std.proofs.Common.{drop, sym, ap, ◌∙◌, length}
-use Rattle.capnp_frame.proofs.tables.RunningSumLemmas.{length-cut}
+use Rattle.capnp_frame.proofs.tables.PartsCutAtRunningSumsLemmas.{length-cut}
 use Rattle.capnp_frame.proofs.serialize.buffer_segments.BufferSegmentsReaderSegments.len.Goals as goal
 
 pub returns : goal.returns

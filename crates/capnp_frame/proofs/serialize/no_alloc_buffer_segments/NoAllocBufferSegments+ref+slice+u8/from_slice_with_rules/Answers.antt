@@ -1,7 +1,7 @@
 -- The message at the front is the one in the buffer.
 use Rattle.std.proofs.Common.{refl, ap}
-use Rattle.capnp_frame.proofs.slices.FrontFrameLemmas.{moved_past_table}
-use Rattle.capnp_frame.proofs.slices.FlatReaderLemmas.{reads_none, reads_found}
+use Rattle.capnp_frame.proofs.slices.SliceOutcomeAfterTableReadLemmas.{moved_past_table}
+use Rattle.capnp_frame.proofs.slices.FlatReaderOutcomeLemmas.{reads_none, reads_found}
 use Rattle.capnp_frame.proofs.serialize.no_alloc_buffer_segments.NoAllocBufferSegments+ref+slice+u8.from_slice_with_rules.Goals as goal
 
 pub returns-in_err-info : goal.returns-in_err-info

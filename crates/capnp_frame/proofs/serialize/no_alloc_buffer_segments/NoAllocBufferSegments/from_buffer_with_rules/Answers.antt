@@ -1,6 +1,6 @@
 -- The message at the front is the one in the buffer.
 use Rattle.std.proofs.Common.{rules, ap}
-use Rattle.capnp_frame.proofs.slices.FlatReaderLemmas.{reads_none, reads_found}
+use Rattle.capnp_frame.proofs.slices.FlatReaderOutcomeLemmas.{reads_none, reads_found}
 use Rattle.capnp_frame.proofs.serialize.no_alloc_buffer_segments.NoAllocBufferSegments.from_buffer_with_rules.Goals as goal
 
 pub returns-in_err-info : goal.returns-in_err-info

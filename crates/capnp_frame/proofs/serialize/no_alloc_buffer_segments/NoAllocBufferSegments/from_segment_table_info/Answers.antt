@@ -1,7 +1,8 @@
 -- What the table's numbers describe is in the buffer.
 use Rattle.std.proofs.Common.{ap}
 use Rattle.capnp_frame.specs.declared.serialize.segment_table.Padding.TheVariants.{Any}
-use Rattle.capnp_frame.proofs.slices.FrontFrameLemmas.{holds_from_described, begins_from_holds}
+use Rattle.capnp_frame.proofs.slices.SliceOutcomeAfterTableReadLemmas.{begins_from_holds}
+use Rattle.capnp_frame.proofs.slices.UniqueTableInfoOfMessageLemmas.{holds_from_described}
 use Rattle.capnp_frame.proofs.serialize.no_alloc_buffer_segments.NoAllocBufferSegments.from_segment_table_info.Goals as goal
 
 pub of_message-requires : goal.of_message-requires

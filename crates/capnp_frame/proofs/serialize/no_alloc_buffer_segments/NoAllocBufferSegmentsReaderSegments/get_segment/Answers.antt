@@ -3,7 +3,7 @@ use Rattle.std.proofs.Common.{◌≡◌, ◌+◌, ◌*◌, ◌∙◌, length, ar
 use Rattle.std.specs.Prelude.{slice_get}
 use Rattle.std.proofs.lemmas.Option.{slice_get_past}
 use Rattle.capnp_frame.specs.Prelude.{declared_segments, HoldsMessage}
-use Rattle.capnp_frame.proofs.encodings.FrontMessageLemmas.{length-declared_segments}
+use Rattle.capnp_frame.proofs.encodings.DeclaredMessageIsFrontFrameLemmas.{length-declared_segments}
 use Rattle.capnp_frame.proofs.tables.SegmentRangeLemmas.{Lies, lies_between}
 use Rattle.capnp_frame.proofs.serialize.no_alloc_buffer_segments.NoAllocBufferSegmentsReaderSegments.get_segment.Given as given
 use Rattle.capnp_frame.proofs.serialize.no_alloc_buffer_segments.NoAllocBufferSegmentsReaderSegments.get_segment.Goals as goal

@@ -1,6 +1,6 @@
 -- As many as the table declares.
 use Rattle.std.proofs.Common.{◌∙◌, length, sym, ap}
-use Rattle.capnp_frame.proofs.encodings.FrontMessageLemmas.{length-declared_segments}
+use Rattle.capnp_frame.proofs.encodings.DeclaredMessageIsFrontFrameLemmas.{length-declared_segments}
 use Rattle.capnp_frame.proofs.serialize.no_alloc_buffer_segments.NoAllocBufferSegmentsReaderSegments.len.Goals as goal
 
 pub returns : goal.returns

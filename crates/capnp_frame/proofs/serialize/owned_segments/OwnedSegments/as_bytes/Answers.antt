@@ -1,7 +1,7 @@
 -- The parts cover all bytes.
 use Rattle.std.proofs.Common.{ap, sym, ◌∙◌}
 use Rattle.std.specs.List.{concat}
-use Rattle.capnp_frame.proofs.tables.RunningSumLemmas.{concat-cut}
+use Rattle.capnp_frame.proofs.tables.PartsCutAtRunningSumsLemmas.{concat-cut}
 use Rattle.capnp_frame.proofs.serialize.owned_segments.OwnedSegments.as_bytes.Goals as goal
 
 pub returns : goal.returns

@@ -1,8 +1,8 @@
 -- A write there is in the parts.
 use Rattle.std.proofs.Common.{ap, sym, ◌∙◌, refl}
 use Rattle.std.specs.List.{concat}
-use Rattle.capnp_frame.proofs.tables.RunningSumLemmas.{concat-cut}
-use Rattle.capnp_frame.proofs.encodings.MessageRequestLemmas.{overwritten_parts}
+use Rattle.capnp_frame.proofs.tables.PartsCutAtRunningSumsLemmas.{concat-cut}
+use Rattle.capnp_frame.proofs.encodings.MessageFoundByRequestsLemmas.{overwritten_parts}
 use Rattle.capnp_frame.proofs.serialize.owned_segments.OwnedSegments.as_bytes_mut.Goals as goal
 
 pub returns : goal.returns

@@ -1,6 +1,6 @@
 -- There is a length for each segment.
 use Rattle.std.proofs.Common.{sym, ap, ◌∙◌, length}
-use Rattle.capnp_frame.proofs.tables.RunningSumLemmas.{length-cut}
+use Rattle.capnp_frame.proofs.tables.PartsCutAtRunningSumsLemmas.{length-cut}
 use Rattle.capnp_frame.proofs.serialize.owned_segments.OwnedSegmentsReaderSegments.len.Goals as goal
 
 pub returns : goal.returns

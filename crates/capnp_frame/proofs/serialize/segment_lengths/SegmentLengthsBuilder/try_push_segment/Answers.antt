@@ -1,6 +1,6 @@
 -- The new end continues the running sums.
 use Rattle.std.proofs.Common.{rules}
-use Rattle.capnp_frame.proofs.tables.RunningSumLemmas.{AreRanges-pushed}
+use Rattle.capnp_frame.proofs.tables.PartsCutAtRunningSumsLemmas.{AreRanges-pushed}
 use Rattle.capnp_frame.proofs.serialize.segment_lengths.SegmentLengthsBuilder.try_push_segment.Goals as goal
 
 pub invariant_of-self-2 : goal.invariant_of-self-2

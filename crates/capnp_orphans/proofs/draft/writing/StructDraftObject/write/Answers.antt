@@ -1,6 +1,6 @@
 -- A struct is written at its start.
 use Rattle.std.proofs.Common.{arith}
-use Rattle.capnp_orphans.proofs.WrittenOrphanLemmas.{written_struct_children}
+use Rattle.capnp_orphans.proofs.WrittenBlockIsOrphanLemmas.{written_struct_children}
 use Rattle.capnp_orphans.proofs.draft.writing.StructDraftObject.write.Goals as goal
 
 pub returns : goal.returns

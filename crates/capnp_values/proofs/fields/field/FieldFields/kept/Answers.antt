@@ -1,6 +1,6 @@
 -- Fields keep one pointer more, or leave the first value out.
 use Rattle.std.proofs.Common.{◌∙◌, sym}
-use Rattle.capnp_values.proofs.structs.PointersKeptLemmas.{kept_left_out, kept_left_in}
+use Rattle.capnp_values.proofs.structs.KeptPointerCountLemmas.{kept_left_out, kept_left_in}
 use Rattle.capnp_values.proofs.fields.field.FieldFields.kept.Goals as goal
 
 pub returns-then-is_left_out-clause-kept : goal.returns-then-is_left_out-clause-kept

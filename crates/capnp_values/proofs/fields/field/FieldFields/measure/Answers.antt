@@ -2,7 +2,7 @@
 use Rattle.std.proofs.Common.{rules, ◌≡◌, Ok, Err, Result, sym, subst, arith}
 use Rattle.capnp_frame.specs.declared.error.Error.{Error}
 use Rattle.capnp_wire.specs.declared.traits.TreeWords.{TreeWords}
-use Rattle.capnp_wire.proofs.views.MeasuredPartLemmas.{output_words}
+use Rattle.capnp_wire.proofs.views.ValueAsPartTwoMeasuresLemmas.{output_words}
 use Rattle.capnp_values.specs.Fields.{IsValueInFront, FieldsError}
 use Rattle.capnp_values.specs.Measured.{MeasuresValue}
 use Rattle.capnp_values.proofs.lists.ItemMeasureLemmas.{measured_few, first_item_error, value_front}

@@ -1,10 +1,10 @@
 -- The words of fields are the words of the first value and of the fields after it.
 use Rattle.std.proofs.Common.{rules, ◌≡◌, ap, Ok, Err, ℕ, false}
 use Rattle.capnp_layout.specs.Prelude.{tree, none, total_words}
-use Rattle.capnp_wire.proofs.views.MeasuredPartLemmas.{untrimmed_words}
-use Rattle.capnp_values.proofs.values.MeasuredPartLemmas.{words_of_part, has_part}
-use Rattle.capnp_values.proofs.values.MeasureResultLemmas.{ok_not_err, err_kind, error_first, error_rest}
-use Rattle.capnp_values.proofs.values.UntrimmedValueLemmas.{as_part, as_parts, as_parts_found, as_parts_error, front_total, front_found}
+use Rattle.capnp_wire.proofs.views.ValueAsPartTwoMeasuresLemmas.{untrimmed_words}
+use Rattle.capnp_values.proofs.values.ValueAsPartWordsLemmas.{words_of_part, has_part}
+use Rattle.capnp_values.proofs.values.MeasureOutcomeIsUniqueLemmas.{ok_not_err, err_kind, error_first, error_rest}
+use Rattle.capnp_values.proofs.values.EqualWordsIfUntrimmedLemmas.{as_part, as_parts, as_parts_found, as_parts_error, front_total, front_found}
 use Rattle.capnp_values.proofs.fields.field.FieldFields.untrimmed.Goals as goal
 
 pub returns-in_err-own-clause-found : goal.returns-in_err-own-clause-found

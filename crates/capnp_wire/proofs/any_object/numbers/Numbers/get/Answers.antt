@@ -3,8 +3,8 @@ use Rattle.std.proofs.Common.{◌^◌, ◌<◌, ℕ, Option, slice_index_or, ap,
 use Rattle.std.proofs.lemmas.Option.{unwrap_or-slice_get}
 use Rattle.std.specs.Option.{unwrap_or}
 use Rattle.capnp_layout.specs.Prelude.{number_of, words_of, words_from, code_of, width, words_for}
-use Rattle.capnp_layout.proofs.words.DigitLemmas.{length-digits}
-use Rattle.capnp_wire.proofs.objects.NumberElementLemmas.{element_read}
+use Rattle.capnp_layout.proofs.words.DigitsToNumberAndBackLemmas.{length-digits}
+use Rattle.capnp_wire.proofs.objects.NumberElementReadLemmas.{element_read}
 use Rattle.capnp_wire.proofs.any_object.numbers.Numbers.get.Goals as goal
 
 pub returns : goal.returns

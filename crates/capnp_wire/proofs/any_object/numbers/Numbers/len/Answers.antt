@@ -1,7 +1,7 @@
 -- A list has as many elements as its count says.
 use Rattle.std.proofs.Common.{◌^◌, sym}
 use Rattle.capnp_layout.specs.Prelude.{number_of, words_of, words_from, code_of, width, words_for}
-use Rattle.capnp_layout.proofs.words.DigitLemmas.{length-digits}
+use Rattle.capnp_layout.proofs.words.DigitsToNumberAndBackLemmas.{length-digits}
 use Rattle.capnp_wire.proofs.any_object.numbers.Numbers.len.Goals as goal
 
 pub returns : goal.returns

@@ -2,9 +2,9 @@
 use Rattle.std.proofs.Common.{◌≡◌, ℕ, List, refl, sym, subst}
 use Rattle.capnp_layout.specs.Prelude.{words_of, code_of, numbers, structs, elements}
 use Rattle.capnp_wire.specs.Prelude.{Accepts, pointer_of, StructList, IsStructList, structs_in}
-use Rattle.capnp_wire.proofs.views.ShownFormLemmas.{struct_shows, entered_shows, entered_reads, numbers_form}
-use Rattle.capnp_wire.proofs.views.ListViewLemmas.{structs_entered, pointers_show, list_pointers_within, few_structs, few_pointers}
-use Rattle.capnp_wire.proofs.views.ObjectViewLemmas.{entered_kind, entered_form}
+use Rattle.capnp_wire.proofs.views.EnteredObjectShownLemmas.{struct_shows, entered_shows, entered_reads, numbers_form}
+use Rattle.capnp_wire.proofs.views.EnteredListShownOrRejectedLemmas.{structs_entered, pointers_show, list_pointers_within, few_structs, few_pointers}
+use Rattle.capnp_wire.proofs.views.AnyObjectAcceptedLemmas.{entered_kind, entered_form}
 use Rattle.capnp_wire.proofs.any_object.reader.Reader.of.Goals as goal
 
 pub returns-in-Struct : goal.returns-in-Struct

@@ -1,6 +1,6 @@
 -- The view accepts whatever a pointer points to, and null.
 use Rattle.capnp_wire.specs.Prelude.{pointer_of}
-use Rattle.capnp_wire.proofs.views.ObjectViewLemmas.{is_object_view}
+use Rattle.capnp_wire.proofs.views.AnyObjectAcceptedLemmas.{is_object_view}
 use Rattle.capnp_wire.proofs.any_object.reader.ReaderFromPointerReader.get_from_pointer.Goals as goal
 
 pub returns : goal.returns

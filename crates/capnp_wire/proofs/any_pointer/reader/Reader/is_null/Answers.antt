@@ -1,7 +1,7 @@
 -- A pointer is null where it has no place, or is at a word of zeros.
 use Rattle.std.proofs.Common.{refl}
 use Rattle.capnp_wire.specs.Prelude.{nowhere, pointer_of}
-use Rattle.capnp_wire.proofs.pointers.NullPointerLemmas.{null_by_word, word_by_null, no_null}
+use Rattle.capnp_wire.proofs.pointers.NullWhereWordIsZeroLemmas.{null_by_word, word_by_null, no_null}
 use Rattle.capnp_wire.proofs.any_pointer.reader.Reader.is_null.Goals as goal
 
 pub returns-in-None : goal.returns-in-None

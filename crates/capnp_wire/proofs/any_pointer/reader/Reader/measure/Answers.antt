@@ -2,7 +2,7 @@
 use Rattle.std.proofs.Common.{Some, None, refl, sym, ◌∙◌}
 use Rattle.std.proofs.lemmas.Result.{err_from_is_err_and}
 use Rattle.capnp_wire.specs.Prelude.{pointer_of}
-use Rattle.capnp_wire.proofs.walks.MeasuringWalkLemmas.{walked_as, measures_nothing, walk_measures, walk_overflows, measuring_walk_fails}
+use Rattle.capnp_wire.proofs.walks.MeasuringWalkCountOrErrorLemmas.{walked_as, measures_nothing, walk_measures, walk_overflows, measuring_walk_fails}
 use Rattle.capnp_wire.proofs.any_pointer.reader.Reader.measure.Goals as goal
 
 pub returns-in_default-clause-returned : goal.returns-in_default-clause-returned

@@ -2,7 +2,7 @@
 -- the walk does.
 use Rattle.std.proofs.Common.{◌≡◌}
 use Rattle.capnp_wire.specs.Prelude.{Measures, pointer_of}
-use Rattle.capnp_wire.proofs.walks.MeasuringWalkLemmas.{measured_is_ok, unmeasured_is_err}
+use Rattle.capnp_wire.proofs.walks.MeasuringWalkCountOrErrorLemmas.{measured_is_ok, unmeasured_is_err}
 use Rattle.capnp_wire.proofs.any_pointer.reader.Reader.target_size.Goals as goal
 
 pub returns-clause-measured : goal.returns-clause-measured

@@ -3,7 +3,7 @@ use Rattle.std.proofs.Common.{◌<◌, Option, sym, ap, arith, length}
 use Rattle.capnp_layout.specs.Prelude.{message_of, places}
 use Rattle.capnp_wire.specs.Prelude.{limit_of, Pointer}
 use Rattle.capnp_layout.specs.declared.place.Place.{Place}
-use Rattle.capnp_layout.proofs.objects.StructFieldLemmas.{length-places, place_within}
+use Rattle.capnp_layout.proofs.objects.SectionWordByIndexLemmas.{length-places, place_within}
 use Rattle.capnp_wire.proofs.any_pointer_list.reader.Reader.get.Goals as goal
 
 pub overflow_add-result : goal.overflow_add-result

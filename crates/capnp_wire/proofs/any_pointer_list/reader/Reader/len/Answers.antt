@@ -1,5 +1,5 @@
 -- A list of pointers has as many places as its count says.
-use Rattle.capnp_layout.proofs.objects.StructFieldLemmas.{length-places}
+use Rattle.capnp_layout.proofs.objects.SectionWordByIndexLemmas.{length-places}
 use Rattle.capnp_wire.proofs.any_pointer_list.reader.Reader.len.Goals as goal
 
 pub returns : goal.returns

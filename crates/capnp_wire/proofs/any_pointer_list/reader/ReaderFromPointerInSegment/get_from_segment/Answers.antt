@@ -1,9 +1,9 @@
 -- A list of pointers is a view that decides which objects it accepts.
 use Rattle.std.proofs.Common.{refl}
 use Rattle.capnp_wire.specs.Prelude.{pointer_of, TakesPointers, PointersFormError, pointer_list_of}
-use Rattle.capnp_wire.proofs.pointers.OwnSegmentLemmas.{known_segment}
-use Rattle.capnp_wire.proofs.views.ViewErrorLemmas.{is_view_of}
-use Rattle.capnp_wire.proofs.views.ListViewLemmas.{pointers_decide, pointers_accepted}
+use Rattle.capnp_wire.proofs.pointers.PointersInStructSegmentLemmas.{known_segment}
+use Rattle.capnp_wire.proofs.views.RejectedExcludesAcceptedLemmas.{is_view_of}
+use Rattle.capnp_wire.proofs.views.EnteredListShownOrRejectedLemmas.{pointers_decide, pointers_accepted}
 use Rattle.capnp_wire.proofs.any_pointer_list.reader.ReaderFromPointerInSegment.get_from_segment.Goals as goal
 
 pub returns : goal.returns

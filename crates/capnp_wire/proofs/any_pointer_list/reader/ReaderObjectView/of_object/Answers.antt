@@ -1,8 +1,8 @@
 -- The pointers of a list are the object's, with one less of nesting depth left.
 use Rattle.std.proofs.Common.{inr, refl}
 use Rattle.capnp_wire.specs.Prelude.{pointer_of, PointersFormError}
-use Rattle.capnp_wire.proofs.views.ShownFormLemmas.{entered_shows}
-use Rattle.capnp_wire.proofs.views.ListViewLemmas.{other_than_pointers, pointers_show, list_pointers_within, few_pointers}
+use Rattle.capnp_wire.proofs.views.EnteredObjectShownLemmas.{entered_shows}
+use Rattle.capnp_wire.proofs.views.EnteredListShownOrRejectedLemmas.{other_than_pointers, pointers_show, list_pointers_within, few_pointers}
 use Rattle.capnp_wire.proofs.any_pointer_list.reader.ReaderObjectView.of_object.Goals as goal
 
 pub returns-in_default : goal.returns-in_default

@@ -2,8 +2,8 @@
 use Rattle.std.proofs.Common.{◌≡◌, slice_index_or, sym, ◌∙◌, ap, arith}
 use Rattle.capnp_layout.specs.Prelude.{words_of, words_from}
 use Rattle.capnp_wire.specs.Prelude.{own_part}
-use Rattle.capnp_layout.proofs.objects.StructFieldLemmas.{word_within, no_word_past}
-use Rattle.capnp_wire.proofs.objects.NumberStructLemmas.{own_data_at}
+use Rattle.capnp_layout.proofs.objects.SectionWordByIndexLemmas.{word_within, no_word_past}
+use Rattle.capnp_wire.proofs.objects.NumberAsStructLemmas.{own_data_at}
 use Rattle.capnp_wire.proofs.any_struct.reader.StructReader.data_word.Goals as goal
 use Rattle.capnp_wire.proofs.any_struct.reader.StructReader.data_word.Goals.{then-index-self, else-index-self}
 

@@ -1,8 +1,8 @@
 -- A struct has as many data words as its size says.
 use Rattle.std.proofs.Common.{sym, ◌∙◌, arith}
 use Rattle.capnp_layout.specs.Prelude.{words_of, words_from}
-use Rattle.capnp_layout.proofs.objects.StructFieldLemmas.{length-words_from}
-use Rattle.capnp_wire.proofs.objects.NumberStructLemmas.{length-own_data}
+use Rattle.capnp_layout.proofs.objects.SectionWordByIndexLemmas.{length-words_from}
+use Rattle.capnp_wire.proofs.objects.NumberAsStructLemmas.{length-own_data}
 use Rattle.capnp_wire.proofs.any_struct.reader.StructReader.data_words.Goals as goal
 
 pub returns : goal.returns

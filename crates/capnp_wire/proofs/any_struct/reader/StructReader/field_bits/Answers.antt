@@ -2,10 +2,10 @@
 use Rattle.std.proofs.Common.{◌*◌, ◌/◌, ◌%◌, ◌^◌, ℕ, slice_index_or, sym, ap, ◌∙◌, arith}
 use Rattle.capnp_layout.specs.Prelude.{code_of, width, words_of, words_from}
 use Rattle.capnp_wire.specs.Prelude.{own_data}
-use Rattle.capnp_layout.proofs.trees.FieldRoomLemmas.{words_from_below}
-use Rattle.capnp_layout.proofs.objects.NumberElementLemmas.{within_word}
-use Rattle.capnp_wire.proofs.objects.NumberStructLemmas.{own_data_below}
-use Rattle.capnp_wire.proofs.words.BitLemmas.{field_in_word}
+use Rattle.capnp_layout.proofs.trees.ReadTreeSizesAndWordsBoundedLemmas.{words_from_below}
+use Rattle.capnp_layout.proofs.objects.NumberElementsInListWordsLemmas.{within_word}
+use Rattle.capnp_wire.proofs.objects.NumberAsStructLemmas.{own_data_below}
+use Rattle.capnp_wire.proofs.words.FieldAndElementAreBitsLemmas.{field_in_word}
 use Rattle.capnp_wire.proofs.any_struct.reader.StructReader.field_bits.Goals as goal
 
 pub returns-clause-bits : goal.returns-clause-bits

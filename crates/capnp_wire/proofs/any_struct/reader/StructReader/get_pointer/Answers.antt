@@ -3,7 +3,7 @@ use Rattle.std.proofs.Common.{◌+◌, ◌<◌, ◌≤◌, Option, sym, ap, ◌�
 use Rattle.capnp_layout.specs.Prelude.{message_of}
 use Rattle.capnp_wire.specs.Prelude.{limit_of, Pointer}
 use Rattle.capnp_layout.specs.declared.place.Place.{Place}
-use Rattle.capnp_layout.proofs.objects.StructFieldLemmas.{place_within, no_place_past}
+use Rattle.capnp_layout.proofs.objects.SectionWordByIndexLemmas.{place_within, no_place_past}
 use Rattle.capnp_wire.proofs.any_struct.reader.StructReader.get_pointer.Goals as goal
 use Rattle.capnp_wire.proofs.any_struct.reader.StructReader.get_pointer.Goals.{then-index-self, else-index-self}
 

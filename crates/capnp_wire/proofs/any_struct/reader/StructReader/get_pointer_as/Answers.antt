@@ -2,7 +2,7 @@
 use Rattle.std.proofs.Common.{◌+◌, refl, sym, subst}
 use Rattle.capnp_layout.specs.Prelude.{words_of, message_of}
 use Rattle.capnp_wire.specs.Prelude.{Pointer, HasSegment}
-use Rattle.capnp_wire.proofs.pointers.OwnSegmentLemmas.{struct_pointers_within}
+use Rattle.capnp_wire.proofs.pointers.PointersInStructSegmentLemmas.{struct_pointers_within}
 use Rattle.capnp_wire.proofs.any_struct.reader.StructReader.get_pointer_as.Goals as goal
 
 pub get_from_segment-requires : goal.get_from_segment-requires

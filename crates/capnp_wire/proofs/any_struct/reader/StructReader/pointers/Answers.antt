@@ -1,6 +1,6 @@
 -- A struct has as many pointers as its size says.
 use Rattle.std.proofs.Common.{◌+◌}
-use Rattle.capnp_layout.proofs.objects.StructFieldLemmas.{length-places}
+use Rattle.capnp_layout.proofs.objects.SectionWordByIndexLemmas.{length-places}
 use Rattle.capnp_wire.proofs.any_struct.reader.StructReader.pointers.Goals as goal
 
 pub returns : goal.returns

@@ -1,8 +1,8 @@
 -- A struct is a view that decides which objects it accepts.
 use Rattle.std.proofs.Common.{refl}
 use Rattle.capnp_wire.specs.Prelude.{pointer_of, StructFormError, TakesStruct, struct_of}
-use Rattle.capnp_wire.proofs.pointers.OwnSegmentLemmas.{known_segment}
-use Rattle.capnp_wire.proofs.views.ViewErrorLemmas.{is_view_of, struct_decides, struct_accepted}
+use Rattle.capnp_wire.proofs.pointers.PointersInStructSegmentLemmas.{known_segment}
+use Rattle.capnp_wire.proofs.views.RejectedExcludesAcceptedLemmas.{is_view_of, struct_decides, struct_accepted}
 use Rattle.capnp_wire.proofs.any_struct.reader.StructReaderFromPointerInSegment.get_from_segment.Goals as goal
 
 pub returns : goal.returns

@@ -1,7 +1,7 @@
 -- The fields of a struct are the object's, with one less of nesting depth left.
 use Rattle.std.proofs.Common.{inr, refl}
 use Rattle.capnp_wire.specs.Prelude.{StructFormError, pointer_of}
-use Rattle.capnp_wire.proofs.views.ShownFormLemmas.{entered_shows, other_than_struct, struct_shows}
+use Rattle.capnp_wire.proofs.views.EnteredObjectShownLemmas.{entered_shows, other_than_struct, struct_shows}
 use Rattle.capnp_wire.proofs.any_struct.reader.StructReaderObjectView.of_object.Goals as goal
 
 pub returns-in_default : goal.returns-in_default

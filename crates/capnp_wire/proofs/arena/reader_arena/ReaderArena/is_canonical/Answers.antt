@@ -2,8 +2,8 @@
 use Rattle.std.proofs.Common.{ℕ, sym, ◌∙◌, subst}
 use Rattle.capnp_layout.specs.Prelude.{message_of, words_of}
 use Rattle.capnp_wire.specs.Prelude.{CanonicityError, no_first_segment, nesting_of}
-use Rattle.capnp_wire.proofs.forms.TestedMessageLemmas.{no_segment_there, one_segment_there, more_is_not, said_of_more, unsaid_of_none, unsaid_error, said_at}
-use Rattle.capnp_wire.proofs.forms.TestedMessageLemmas.{said_exactly, said_where_found, said_error, second_shown, no_second, none_has_no_root}
+use Rattle.capnp_wire.proofs.forms.CanonicalTestResultFromWalkLemmas.{no_segment_there, one_segment_there, more_is_not, said_of_more, unsaid_of_none, unsaid_error, said_at}
+use Rattle.capnp_wire.proofs.forms.CanonicalTestResultFromWalkLemmas.{said_exactly, said_where_found, said_error, second_shown, no_second, none_has_no_root}
 use Rattle.capnp_wire.proofs.arena.reader_arena.ReaderArena.is_canonical.Goals as goal
 
 pub returns-in_default : goal.returns-in_default

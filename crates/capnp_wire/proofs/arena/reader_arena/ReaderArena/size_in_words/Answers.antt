@@ -1,7 +1,7 @@
 -- The sum over the first segments grows to the sum over all of them.
 use Rattle.std.proofs.Common.{◌≡◌, ◌<◌, [], length, Some, slice_get, sym, arith}
 use Rattle.std.proofs.lemmas.Option.{slice_get-get_or}
-use Rattle.capnp_layout.proofs.objects.StructFieldLemmas.{size_next}
+use Rattle.capnp_layout.proofs.objects.SectionWordByIndexLemmas.{size_next}
 use Rattle.capnp_wire.proofs.arena.reader_arena.ReaderArena.size_in_words.Goals as goal
 use Rattle.capnp_wire.proofs.arena.reader_arena.ReaderArena.size_in_words.Goals.{in-Some, in_default}
 

@@ -1,8 +1,8 @@
 -- Data is a view that decides which objects it accepts.
 use Rattle.std.proofs.Common.{refl}
 use Rattle.capnp_wire.specs.Prelude.{NumbersFormError, TakesNumbers, pointer_of}
-use Rattle.capnp_wire.proofs.pointers.OwnSegmentLemmas.{known_segment}
-use Rattle.capnp_wire.proofs.views.ViewErrorLemmas.{is_view_of, numbers_decide, data_accepted}
+use Rattle.capnp_wire.proofs.pointers.PointersInStructSegmentLemmas.{known_segment}
+use Rattle.capnp_wire.proofs.views.RejectedExcludesAcceptedLemmas.{is_view_of, numbers_decide, data_accepted}
 use Rattle.capnp_wire.proofs.data.reader.RefSliceU8FromPointerInSegment.get_from_segment.Goals as goal
 
 pub returns : goal.returns

@@ -1,6 +1,6 @@
 -- Data is a view that decides which objects it accepts.
 use Rattle.capnp_wire.specs.Prelude.{NumbersFormError, TakesNumbers, pointer_of}
-use Rattle.capnp_wire.proofs.views.ViewErrorLemmas.{is_view_of, numbers_decide, data_accepted}
+use Rattle.capnp_wire.proofs.views.RejectedExcludesAcceptedLemmas.{is_view_of, numbers_decide, data_accepted}
 use Rattle.capnp_wire.proofs.data.reader.RefSliceU8FromPointerReader.get_from_pointer.Goals as goal
 
 pub returns : goal.returns

@@ -1,6 +1,6 @@
 -- The view of a list of bytes in the pointer's segment shows the bytes that the pointer points to.
 use Rattle.capnp_wire.specs.Prelude.{IsData, NumbersFormError, pointer_of}
-use Rattle.capnp_wire.proofs.views.ShownFormLemmas.{entered_view}
+use Rattle.capnp_wire.proofs.views.EnteredObjectShownLemmas.{entered_view}
 use Rattle.capnp_wire.proofs.data.reader.RefSliceU8ObjectView.of_object.Goals as goal
 
 pub returns : goal.returns

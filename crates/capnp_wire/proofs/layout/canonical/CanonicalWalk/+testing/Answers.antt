@@ -1,10 +1,10 @@
 -- A walk tests an object, and then what its pointers point to.
 use Rattle.std.proofs.Common.{◌≤◌, ◌-◌, ◌∙◌, length, arith}
 use Rattle.capnp_layout.specs.Prelude.{words_of, places_in}
-use Rattle.capnp_layout.proofs.words.WordByteLemmas.{length-words_of}
-use Rattle.capnp_layout.proofs.objects.ListWordLemmas.{all_words_below}
-use Rattle.capnp_frame.proofs.sources.SourceCallLemmas.{passed_on}
-use Rattle.capnp_wire.proofs.walks.TestProgressLemmas.{null_passes, passing_begins, going_next, going_ends, passing_done, met_passes, pointers_pass, pointers_end, pointers_error}
+use Rattle.capnp_layout.proofs.words.WordsOfBytesLemmas.{length-words_of}
+use Rattle.capnp_layout.proofs.objects.ByteListElementLemmas.{all_words_below}
+use Rattle.capnp_frame.proofs.sources.JoinedCallsAdvanceSourceLemmas.{passed_on}
+use Rattle.capnp_wire.proofs.walks.CanonicalTestProgressLemmas.{null_passes, passing_begins, going_next, going_ends, passing_done, met_passes, pointers_pass, pointers_end, pointers_error}
 use Rattle.capnp_wire.proofs.layout.canonical.CanonicalWalk.+testing.Goals as goal
 
 pub test-returns-in_err-visit-clause-errors : goal.test-returns-in_err-visit-clause-errors

@@ -2,7 +2,7 @@
 -- word.
 use Rattle.std.proofs.Common.{◌≡◌, ◌+◌, ◌*◌, ◌≤◌, length}
 use Rattle.capnp_layout.specs.Prelude.{words_of, places_in, end_of}
-use Rattle.capnp_wire.proofs.walks.TestProgressLemmas.{PassesSoFar}
+use Rattle.capnp_wire.proofs.walks.CanonicalTestProgressLemmas.{PassesSoFar}
 use Rattle.capnp_wire.proofs.layout.canonical.CanonicalWalk.+testing.Given as goal
 
 abbrev pub decreases-test : goal.decreases-test

@@ -2,9 +2,9 @@
 use Rattle.std.proofs.Common.{◌≡◌, refl, arith, true, false}
 use Rattle.capnp_layout.specs.Prelude.{words_of}
 use Rattle.capnp_wire.specs.Prelude.{elsewhere}
-use Rattle.capnp_layout.proofs.words.WordByteLemmas.{length-words_of}
-use Rattle.capnp_frame.proofs.sources.SourceCallLemmas.{passed_on}
-use Rattle.capnp_wire.proofs.walks.VisitedObjectLemmas.{met, met_pointers, tests_say, limit_ends}
+use Rattle.capnp_layout.proofs.words.WordsOfBytesLemmas.{length-words_of}
+use Rattle.capnp_frame.proofs.sources.JoinedCallsAdvanceSourceLemmas.{passed_on}
+use Rattle.capnp_wire.proofs.walks.ObjectTestedBeforePointersLemmas.{met, met_pointers, tests_say, limit_ends}
 use Rattle.capnp_wire.proofs.layout.canonical.CanonicalWalk.enter.Goals as goal
 
 pub returns-in_err-count_traversed-clause-errors : goal.returns-in_err-count_traversed-clause-errors

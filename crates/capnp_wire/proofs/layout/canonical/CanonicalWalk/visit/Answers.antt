@@ -2,8 +2,8 @@
 use Rattle.std.proofs.Common.{◌∷◌, [], ◌∙◌, Some, refl, ap}
 use Rattle.capnp_layout.specs.Prelude.{words_of, past_segment}
 use Rattle.capnp_wire.specs.Prelude.{far}
-use Rattle.capnp_frame.proofs.sources.SourceCallLemmas.{passed_on}
-use Rattle.capnp_wire.proofs.walks.VisitedObjectLemmas.{no_word_ends}
+use Rattle.capnp_frame.proofs.sources.JoinedCallsAdvanceSourceLemmas.{passed_on}
+use Rattle.capnp_wire.proofs.walks.ObjectTestedBeforePointersLemmas.{no_word_ends}
 use Rattle.capnp_wire.proofs.layout.canonical.CanonicalWalk.visit.Goals as goal
 
 pub returns-in_err-pointer-clause-errors : goal.returns-in_err-pointer-clause-errors

@@ -1,8 +1,8 @@
 -- What a walk meets at a pointer that is no far pointer.
 use Rattle.std.proofs.Common.{◌≡◌, ◌<◌, List, [], ◌∷◌, Some, ℕ, refl, sym, subst}
 use Rattle.capnp_layout.specs.Prelude.{words_of, IsObject, word_at}
-use Rattle.capnp_frame.proofs.sources.SourceCallLemmas.{passed_on}
-use Rattle.capnp_wire.proofs.walks.VisitedObjectLemmas.{pointer_error_ends}
+use Rattle.capnp_frame.proofs.sources.JoinedCallsAdvanceSourceLemmas.{passed_on}
+use Rattle.capnp_wire.proofs.walks.ObjectTestedBeforePointersLemmas.{pointer_error_ends}
 use Rattle.capnp_wire.proofs.layout.canonical.CanonicalWalk.visit_object.Given as given
 use Rattle.capnp_wire.proofs.layout.canonical.CanonicalWalk.visit_object.Goals as goal
 use Rattle.capnp_wire.proofs.layout.canonical.CanonicalWalk.visit_object.Goals.{In-Some}

@@ -1,7 +1,7 @@
 -- The pointers that the copies keep of each element, and their slots.
 use Rattle.std.proofs.Common.{◌∙◌, ap, sym, refl, length}
-use Rattle.capnp_wire.proofs.layouts.TreesCopyLemmas.{paired}
-use Rattle.capnp_wire.proofs.layouts.CopiedTargetLemmas.{kept_many}
+use Rattle.capnp_wire.proofs.layouts.TreeCopySequenceLemmas.{paired}
+use Rattle.capnp_wire.proofs.layouts.CopyBeginsWithOwnWordsLemmas.{kept_many}
 use Rattle.capnp_wire.proofs.layout.copy_cursor.CopyCursor.elements.Goals as goal
 
 pub returns : goal.returns

@@ -1,8 +1,8 @@
 -- The pointers that a copy keeps, and their slots.
 use Rattle.std.proofs.Common.{◌∙◌, ap, sym, length, arith}
 use Rattle.capnp_layout.specs.declared.pointer_slots.SectionSizes.{SectionSizes}
-use Rattle.capnp_wire.proofs.layouts.TreesCopyLemmas.{paired}
-use Rattle.capnp_wire.proofs.layouts.CopiedTargetLemmas.{fewer_pointers, as_many}
+use Rattle.capnp_wire.proofs.layouts.TreeCopySequenceLemmas.{paired}
+use Rattle.capnp_wire.proofs.layouts.CopyBeginsWithOwnWordsLemmas.{fewer_pointers, as_many}
 use Rattle.capnp_wire.proofs.layout.copy_cursor.CopyCursor.of.Goals as goal
 
 pub of-from-requires-clause-kept : goal.of-from-requires-clause-kept

@@ -1,7 +1,7 @@
 -- A given number of pointers, and a given number of slots.
 use Rattle.std.proofs.Common.{◌∙◌, ap, sym, length, arith}
-use Rattle.capnp_wire.proofs.layouts.TreesCopyLemmas.{paired}
-use Rattle.capnp_layout.proofs.objects.StructFieldLemmas.{length-places}
+use Rattle.capnp_wire.proofs.layouts.TreeCopySequenceLemmas.{paired}
+use Rattle.capnp_layout.proofs.objects.SectionWordByIndexLemmas.{length-places}
 use Rattle.capnp_wire.proofs.layout.copy_cursor.CopyCursor.run.Goals as goal
 
 pub returns : goal.returns

@@ -2,9 +2,9 @@
 use Rattle.std.proofs.Common.{◌∙◌, refl, arith}
 use Rattle.capnp_layout.specs.Prelude.{places_in}
 use Rattle.capnp_wire.specs.Prelude.{counted}
-use Rattle.capnp_wire.proofs.walks.EmptyStructWalkLemmas.{null_or_empty_walked}
-use Rattle.capnp_frame.proofs.sources.SourceCallLemmas.{passed_on}
-use Rattle.capnp_wire.proofs.walks.PointerRunWalkLemmas.{parent_met, parent_fails, struct_holds, going_below}
+use Rattle.capnp_wire.proofs.walks.EmptyStructWalkAndCopyLemmas.{null_or_empty_walked}
+use Rattle.capnp_frame.proofs.sources.JoinedCallsAdvanceSourceLemmas.{passed_on}
+use Rattle.capnp_wire.proofs.walks.WalkEntersPointerRunLemmas.{parent_met, parent_fails, struct_holds, going_below}
 use Rattle.capnp_wire.proofs.walks.WalkProgressLemmas.{going_begins, going_there, going_on, going_done, progress_done, progress_error, progress_fails_there, entered, walk_goes_on, walk_fails}
 use Rattle.capnp_wire.proofs.layout.walk.Walk.+walk.Goals as goal
 

@@ -1,7 +1,7 @@
 -- An object counts against the traversal limit and its words are counted, or the walk stops there.
 use Rattle.capnp_layout.specs.Prelude.{is_null as null_there, at_pointer}
-use Rattle.capnp_frame.proofs.sources.SourceCallLemmas.{passed_on}
-use Rattle.capnp_wire.proofs.walks.WalkErrorLemmas.{past_limit_error}
+use Rattle.capnp_frame.proofs.sources.JoinedCallsAdvanceSourceLemmas.{passed_on}
+use Rattle.capnp_wire.proofs.walks.WalkErrorExcludesTreesLemmas.{past_limit_error}
 use Rattle.capnp_wire.proofs.walks.WalkProgressLemmas.{walked_null}
 use Rattle.capnp_wire.proofs.layout.walk.Walk.visit.Goals as goal
 

@@ -1,9 +1,9 @@
 -- A list of numbers counts against the traversal limit and its words are counted; nothing is below
 -- it.
 use Rattle.std.proofs.Common.{◌∙◌}
-use Rattle.capnp_wire.proofs.pointers.LocalObjectLemmas.{number_list_walked}
-use Rattle.capnp_frame.proofs.sources.SourceCallLemmas.{passed_on}
-use Rattle.capnp_wire.proofs.walks.WalkErrorLemmas.{past_limit_error}
+use Rattle.capnp_wire.proofs.walks.WalkEntersLocalObjectLemmas.{number_list_walked}
+use Rattle.capnp_frame.proofs.sources.JoinedCallsAdvanceSourceLemmas.{passed_on}
+use Rattle.capnp_wire.proofs.walks.WalkErrorExcludesTreesLemmas.{past_limit_error}
 use Rattle.capnp_wire.proofs.layout.walk.Walk.visit_numbers.Goals as goal
 
 pub returns-in_err-count_traversed-clause-errors : goal.returns-in_err-count_traversed-clause-errors

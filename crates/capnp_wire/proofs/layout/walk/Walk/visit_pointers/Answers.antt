@@ -1,8 +1,8 @@
 -- A list of pointers counts against the traversal limit, and its words are counted.
 use Rattle.std.proofs.Common.{◌∙◌}
-use Rattle.capnp_wire.proofs.pointers.LocalObjectLemmas.{pointer_list_entered}
-use Rattle.capnp_frame.proofs.sources.SourceCallLemmas.{passed_on}
-use Rattle.capnp_wire.proofs.walks.WalkErrorLemmas.{past_limit_error}
+use Rattle.capnp_wire.proofs.walks.WalkEntersLocalObjectLemmas.{pointer_list_entered}
+use Rattle.capnp_frame.proofs.sources.JoinedCallsAdvanceSourceLemmas.{passed_on}
+use Rattle.capnp_wire.proofs.walks.WalkErrorExcludesTreesLemmas.{past_limit_error}
 use Rattle.capnp_wire.proofs.layout.walk.Walk.visit_pointers.Goals as goal
 
 pub returns-in_err-count_traversed-clause-errors : goal.returns-in_err-count_traversed-clause-errors

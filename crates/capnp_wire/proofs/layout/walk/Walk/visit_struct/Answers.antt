@@ -2,11 +2,11 @@
 -- null, nothing is below it.
 use Rattle.std.proofs.Common.{◌+◌, ◌∙◌, refl, arith}
 use Rattle.capnp_layout.specs.Prelude.{words_of}
-use Rattle.capnp_layout.proofs.words.WordByteLemmas.{length-words_of}
-use Rattle.capnp_wire.proofs.pointers.LocalObjectLemmas.{struct_enters}
-use Rattle.capnp_wire.proofs.pointers.NullRunLemmas.{nulls_walked}
-use Rattle.capnp_frame.proofs.sources.SourceCallLemmas.{passed_on}
-use Rattle.capnp_wire.proofs.walks.WalkErrorLemmas.{past_limit_error}
+use Rattle.capnp_layout.proofs.words.WordsOfBytesLemmas.{length-words_of}
+use Rattle.capnp_wire.proofs.walks.WalkEntersLocalObjectLemmas.{struct_enters}
+use Rattle.capnp_wire.proofs.walks.NullPointersWalkAndCopyLemmas.{nulls_walked}
+use Rattle.capnp_frame.proofs.sources.JoinedCallsAdvanceSourceLemmas.{passed_on}
+use Rattle.capnp_wire.proofs.walks.WalkErrorExcludesTreesLemmas.{past_limit_error}
 use Rattle.capnp_wire.proofs.walks.WalkProgressLemmas.{entered, walk_over}
 use Rattle.capnp_wire.proofs.layout.walk.Walk.visit_struct.Goals as goal
 

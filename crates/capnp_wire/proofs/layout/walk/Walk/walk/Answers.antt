@@ -2,9 +2,9 @@
 use Rattle.std.proofs.Common.{refl, arith}
 use Rattle.capnp_layout.specs.Prelude.{at_pointer, no_word, no_segment}
 use Rattle.capnp_wire.specs.Prelude.{counted}
-use Rattle.capnp_frame.proofs.sources.SourceCallLemmas.{passed_on}
-use Rattle.capnp_layout.proofs.words.MessageWordLemmas.{segment_is_there, no_segment_is_there}
-use Rattle.capnp_wire.proofs.walks.EmptyStructWalkLemmas.{null_or_empty_walked}
+use Rattle.capnp_frame.proofs.sources.JoinedCallsAdvanceSourceLemmas.{passed_on}
+use Rattle.capnp_layout.proofs.words.WordAtPlaceLemmas.{segment_is_there, no_segment_is_there}
+use Rattle.capnp_wire.proofs.walks.EmptyStructWalkAndCopyLemmas.{null_or_empty_walked}
 use Rattle.capnp_wire.proofs.walks.WalkProgressLemmas.{entered, walk_goes_on, walk_fails}
 use Rattle.capnp_wire.proofs.layout.walk.Walk.walk.Goals as goal
 

@@ -4,8 +4,8 @@ use Rattle.std.proofs.lemmas.Nat.{pow_pos}
 use Rattle.std.proofs.lemmas.Option.{unwrap_or-slice_get}
 use Rattle.std.specs.Option.{unwrap_or}
 use Rattle.capnp_layout.specs.Prelude.{number_of, words_of, words_from, code_of, width, words_for, elements}
-use Rattle.capnp_layout.proofs.words.DigitLemmas.{length-digits}
-use Rattle.capnp_wire.proofs.objects.NumberElementLemmas.{element_read}
+use Rattle.capnp_layout.proofs.words.DigitsToNumberAndBackLemmas.{length-digits}
+use Rattle.capnp_wire.proofs.objects.NumberElementReadLemmas.{element_read}
 use Rattle.capnp_wire.proofs.primitive_list.reader.Reader.get.Goals as goal
 
 pub from_bits-requires : goal.from_bits-requires

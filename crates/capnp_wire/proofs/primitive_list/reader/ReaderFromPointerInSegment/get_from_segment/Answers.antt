@@ -1,9 +1,9 @@
 -- A list of numbers is a view that decides which objects it accepts.
 use Rattle.capnp_wire.specs.Prelude.{NumbersFormError, TakesNumbers, pointer_of, numbers_of}
 use Rattle.std.proofs.Common.{refl}
-use Rattle.capnp_wire.proofs.pointers.OwnSegmentLemmas.{known_segment}
-use Rattle.capnp_wire.proofs.views.ViewErrorLemmas.{is_view_of, numbers_decide}
-use Rattle.capnp_wire.proofs.views.ListViewLemmas.{numbers_accepted}
+use Rattle.capnp_wire.proofs.pointers.PointersInStructSegmentLemmas.{known_segment}
+use Rattle.capnp_wire.proofs.views.RejectedExcludesAcceptedLemmas.{is_view_of, numbers_decide}
+use Rattle.capnp_wire.proofs.views.EnteredListShownOrRejectedLemmas.{numbers_accepted}
 use Rattle.capnp_wire.proofs.primitive_list.reader.ReaderFromPointerInSegment.get_from_segment.Goals as goal
 
 pub returns : goal.returns

@@ -1,7 +1,7 @@
 -- A list of numbers is a view that decides which objects it accepts.
 use Rattle.capnp_wire.specs.Prelude.{NumbersFormError, TakesNumbers, pointer_of, numbers_of}
-use Rattle.capnp_wire.proofs.views.ViewErrorLemmas.{is_view_of, numbers_decide}
-use Rattle.capnp_wire.proofs.views.ListViewLemmas.{numbers_accepted}
+use Rattle.capnp_wire.proofs.views.RejectedExcludesAcceptedLemmas.{is_view_of, numbers_decide}
+use Rattle.capnp_wire.proofs.views.EnteredListShownOrRejectedLemmas.{numbers_accepted}
 use Rattle.capnp_wire.proofs.primitive_list.reader.ReaderFromPointerReader.get_from_pointer.Goals as goal
 
 pub returns : goal.returns

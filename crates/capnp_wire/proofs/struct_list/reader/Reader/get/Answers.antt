@@ -3,7 +3,7 @@ use Rattle.std.proofs.Common.{◌+◌, ◌*◌, ℕ, List, [], slice_index_or, r
 use Rattle.capnp_layout.specs.Prelude.{words_of, message_of, places, elements_from}
 use Rattle.capnp_wire.specs.Prelude.{limit_of, Struct}
 use Rattle.capnp_layout.specs.declared.place.Place.{Place}
-use Rattle.capnp_layout.proofs.objects.StructElementLemmas.{element_within, element_words, element_pointers}
+use Rattle.capnp_layout.proofs.objects.StructElementPlaceLemmas.{element_within, element_words, element_pointers}
 use Rattle.capnp_wire.proofs.struct_list.reader.Reader.get.Goals as goal
 
 pub overflow_mul-words_before : goal.overflow_mul-words_before

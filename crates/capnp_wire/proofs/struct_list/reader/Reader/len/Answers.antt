@@ -1,7 +1,7 @@
 -- A list of structs has as many elements as its tag says.
 use Rattle.std.proofs.Common.{sym}
 use Rattle.capnp_layout.specs.Prelude.{words_of}
-use Rattle.capnp_layout.proofs.trees.FieldRoomLemmas.{length-elements_from}
+use Rattle.capnp_layout.proofs.trees.ReadTreeSizesAndWordsBoundedLemmas.{length-elements_from}
 use Rattle.capnp_wire.proofs.struct_list.reader.Reader.len.Goals as goal
 
 pub returns : goal.returns

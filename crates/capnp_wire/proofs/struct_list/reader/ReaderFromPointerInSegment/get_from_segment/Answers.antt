@@ -1,9 +1,9 @@
 -- A list of structs is a view that decides which objects it accepts.
 use Rattle.std.proofs.Common.{refl}
 use Rattle.capnp_wire.specs.Prelude.{pointer_of, TakesStructs, StructsFormError, struct_list_of}
-use Rattle.capnp_wire.proofs.pointers.OwnSegmentLemmas.{known_segment}
-use Rattle.capnp_wire.proofs.views.ViewErrorLemmas.{is_view_of}
-use Rattle.capnp_wire.proofs.views.ListViewLemmas.{structs_decide, structs_accepted}
+use Rattle.capnp_wire.proofs.pointers.PointersInStructSegmentLemmas.{known_segment}
+use Rattle.capnp_wire.proofs.views.RejectedExcludesAcceptedLemmas.{is_view_of}
+use Rattle.capnp_wire.proofs.views.EnteredListShownOrRejectedLemmas.{structs_decide, structs_accepted}
 use Rattle.capnp_wire.proofs.struct_list.reader.ReaderFromPointerInSegment.get_from_segment.Goals as goal
 
 pub returns : goal.returns

@@ -1,7 +1,7 @@
 -- A list of structs is a view that decides which objects it accepts.
 use Rattle.capnp_wire.specs.Prelude.{pointer_of, TakesStructs, StructsFormError, struct_list_of}
-use Rattle.capnp_wire.proofs.views.ViewErrorLemmas.{is_view_of}
-use Rattle.capnp_wire.proofs.views.ListViewLemmas.{structs_decide, structs_accepted}
+use Rattle.capnp_wire.proofs.views.RejectedExcludesAcceptedLemmas.{is_view_of}
+use Rattle.capnp_wire.proofs.views.EnteredListShownOrRejectedLemmas.{structs_decide, structs_accepted}
 use Rattle.capnp_wire.proofs.struct_list.reader.ReaderFromPointerReader.get_from_pointer.Goals as goal
 
 pub returns : goal.returns

@@ -1,8 +1,8 @@
 -- The elements of a list are the object's, with one less of nesting depth left.
 use Rattle.std.proofs.Common.{inr, sym, subst}
 use Rattle.capnp_wire.specs.Prelude.{pointer_of, StructsFormError, IsStructList}
-use Rattle.capnp_wire.proofs.views.ShownFormLemmas.{entered_shows}
-use Rattle.capnp_wire.proofs.views.ListViewLemmas.{other_than_structs, structs_entered, few_structs}
+use Rattle.capnp_wire.proofs.views.EnteredObjectShownLemmas.{entered_shows}
+use Rattle.capnp_wire.proofs.views.EnteredListShownOrRejectedLemmas.{other_than_structs, structs_entered, few_structs}
 use Rattle.capnp_wire.proofs.struct_list.reader.ReaderObjectView.of_object.Goals as goal
 
 pub returns-in_default : goal.returns-in_default

@@ -1,8 +1,8 @@
 -- `Text` is a view that decides which objects it accepts.
 use Rattle.capnp_wire.specs.Prelude.{TextFormError, TakesText, pointer_of}
 use Rattle.std.proofs.Common.{refl}
-use Rattle.capnp_wire.proofs.pointers.OwnSegmentLemmas.{known_segment}
-use Rattle.capnp_wire.proofs.views.ViewErrorLemmas.{is_view_of, text_decides, text_accepted}
+use Rattle.capnp_wire.proofs.pointers.PointersInStructSegmentLemmas.{known_segment}
+use Rattle.capnp_wire.proofs.views.RejectedExcludesAcceptedLemmas.{is_view_of, text_decides, text_accepted}
 use Rattle.capnp_wire.proofs.text.reader.ReaderFromPointerInSegment.get_from_segment.Goals as goal
 
 pub returns : goal.returns

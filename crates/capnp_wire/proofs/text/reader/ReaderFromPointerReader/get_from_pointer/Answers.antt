@@ -1,6 +1,6 @@
 -- `Text` is a view that decides which objects it accepts.
 use Rattle.capnp_wire.specs.Prelude.{TextFormError, TakesText, pointer_of}
-use Rattle.capnp_wire.proofs.views.ViewErrorLemmas.{is_view_of, text_decides, text_accepted}
+use Rattle.capnp_wire.proofs.views.RejectedExcludesAcceptedLemmas.{is_view_of, text_decides, text_accepted}
 use Rattle.capnp_wire.proofs.text.reader.ReaderFromPointerReader.get_from_pointer.Goals as goal
 
 pub returns : goal.returns

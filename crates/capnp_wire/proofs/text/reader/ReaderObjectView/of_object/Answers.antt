@@ -1,6 +1,6 @@
 -- The view of a list of bytes shows the text that the pointer points to.
 use Rattle.capnp_wire.specs.Prelude.{IsText, TextFormError, pointer_of}
-use Rattle.capnp_wire.proofs.views.ShownFormLemmas.{entered_view}
+use Rattle.capnp_wire.proofs.views.EnteredObjectShownLemmas.{entered_view}
 use Rattle.capnp_wire.proofs.text.reader.ReaderObjectView.of_object.Goals as goal
 
 pub returns : goal.returns

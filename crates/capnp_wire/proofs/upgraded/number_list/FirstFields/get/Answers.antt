@@ -5,8 +5,8 @@ use Rattle.std.proofs.lemmas.Option.{unwrap_or-slice_get}
 use Rattle.std.specs.Option.{unwrap_or}
 use Rattle.capnp_layout.specs.Prelude.{words_of, width, elements_from}
 use Rattle.capnp_wire.specs.Prelude.{first_fields}
-use Rattle.capnp_layout.proofs.objects.StructElementLemmas.{element_within}
-use Rattle.capnp_wire.proofs.views.UpgradedNumberLemmas.{first_field_read}
+use Rattle.capnp_layout.proofs.objects.StructElementPlaceLemmas.{element_within}
+use Rattle.capnp_wire.proofs.views.UpgradedListReadAsNumbersLemmas.{first_field_read}
 use Rattle.capnp_wire.proofs.upgraded.number_list.FirstFields.get.Goals as goal
 
 pub overflow_mul-words_before : goal.overflow_mul-words_before

@@ -3,7 +3,7 @@ use Rattle.std.proofs.lemmas.List.{length-map}
 use Rattle.std.proofs.Common.{◌%◌, ◌^◌, ℕ, List, length, slice_index_or, sym, ap, ◌∙◌}
 use Rattle.capnp_layout.specs.Prelude.{words_of, width, elements_from}
 use Rattle.capnp_wire.specs.Prelude.{values_of}
-use Rattle.capnp_layout.proofs.trees.FieldRoomLemmas.{length-elements_from}
+use Rattle.capnp_layout.proofs.trees.ReadTreeSizesAndWordsBoundedLemmas.{length-elements_from}
 use Rattle.capnp_wire.proofs.upgraded.number_list.NumberList.len.Goals as goal
 
 pub returns-in-OfStructs : goal.returns-in-OfStructs

@@ -1,9 +1,9 @@
 -- A list of numbers is a view that decides which objects it accepts.
 use Rattle.std.proofs.Common.{refl}
 use Rattle.capnp_wire.specs.Prelude.{pointer_of, TakesFields, FieldsFormError, upgraded_numbers_of}
-use Rattle.capnp_wire.proofs.pointers.OwnSegmentLemmas.{known_segment}
-use Rattle.capnp_wire.proofs.views.ViewErrorLemmas.{is_view_of}
-use Rattle.capnp_wire.proofs.views.UpgradedNumberLemmas.{fields_decide, fields_accepted}
+use Rattle.capnp_wire.proofs.pointers.PointersInStructSegmentLemmas.{known_segment}
+use Rattle.capnp_wire.proofs.views.RejectedExcludesAcceptedLemmas.{is_view_of}
+use Rattle.capnp_wire.proofs.views.UpgradedListReadAsNumbersLemmas.{fields_decide, fields_accepted}
 use Rattle.capnp_wire.proofs.upgraded.number_list.NumberListFromPointerInSegment.get_from_segment.Goals as goal
 
 pub returns : goal.returns

@@ -1,6 +1,6 @@
 -- The view of a list shows the numbers that the pointer points to.
 use Rattle.capnp_wire.specs.Prelude.{pointer_of, ReadsAsNumbers, FieldsFormError, upgraded_numbers_of}
-use Rattle.capnp_wire.proofs.views.ShownFormLemmas.{entered_view}
+use Rattle.capnp_wire.proofs.views.EnteredObjectShownLemmas.{entered_view}
 use Rattle.capnp_wire.proofs.upgraded.number_list.NumberListObjectView.of_object.Goals as goal
 
 pub returns : goal.returns

@@ -4,11 +4,11 @@ use Rattle.std.proofs.Common.{◌≡◌, ◌^◌, ◌<◌, ℕ, List, [], ◌∷
 use Rattle.capnp_layout.specs.Prelude.{number_of, words_of, words_from, code_of, width, words_for, message_of, elements}
 use Rattle.capnp_wire.specs.Prelude.{own_part, own_data, limit_of, number_struct, Struct}
 use Rattle.capnp_wire.specs.declared.any_struct.part.WordPart.{WordPart}
-use Rattle.capnp_layout.proofs.words.DigitLemmas.{length-digits}
-use Rattle.capnp_layout.proofs.words.WordByteLemmas.{length-words_of}
-use Rattle.capnp_wire.proofs.objects.NumberElementLemmas.{element_read}
-use Rattle.capnp_layout.proofs.objects.NumberStructLemmas.{one_from, element_fits}
-use Rattle.capnp_wire.proofs.views.UpgradedStructLemmas.{number_struct_at}
+use Rattle.capnp_layout.proofs.words.DigitsToNumberAndBackLemmas.{length-digits}
+use Rattle.capnp_layout.proofs.words.WordsOfBytesLemmas.{length-words_of}
+use Rattle.capnp_wire.proofs.objects.NumberElementReadLemmas.{element_read}
+use Rattle.capnp_layout.proofs.objects.NumberAsOneWordStructLemmas.{one_from, element_fits}
+use Rattle.capnp_wire.proofs.views.UpgradedListReadAsStructsLemmas.{number_struct_at}
 use Rattle.capnp_wire.proofs.upgraded.number_structs.NumberStructs.get.Goals as goal
 
 pub invariant_of-result : goal.invariant_of-result

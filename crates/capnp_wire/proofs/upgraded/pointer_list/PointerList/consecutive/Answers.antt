@@ -3,7 +3,7 @@ use Rattle.std.proofs.Common.{◌≡◌, ℕ, List, inr, sym, ◌∙◌, ap, ari
 use Rattle.capnp_layout.specs.Prelude.{message_of}
 use Rattle.capnp_wire.specs.Prelude.{limit_of, PointerList, stepped_places}
 use Rattle.capnp_layout.specs.declared.place.Place.{Place}
-use Rattle.capnp_wire.proofs.views.UpgradedPointerLemmas.{stepped_by_one}
+use Rattle.capnp_wire.proofs.views.UpgradedListReadAsPointersLemmas.{stepped_by_one}
 use Rattle.capnp_wire.proofs.upgraded.pointer_list.PointerList.consecutive.Goals as goal
 
 pub returns : goal.returns

@@ -3,7 +3,7 @@ use Rattle.std.proofs.Common.{◌<◌, Option, sym, ap, arith, length}
 use Rattle.capnp_layout.specs.Prelude.{message_of}
 use Rattle.capnp_wire.specs.Prelude.{limit_of, Pointer, stepped_places}
 use Rattle.capnp_layout.specs.declared.place.Place.{Place}
-use Rattle.capnp_wire.proofs.views.UpgradedPointerLemmas.{length-stepped_places, stepped_within, step_ends}
+use Rattle.capnp_wire.proofs.views.UpgradedListReadAsPointersLemmas.{length-stepped_places, stepped_within, step_ends}
 use Rattle.capnp_wire.proofs.upgraded.pointer_list.PointerList.get.Goals as goal
 
 pub overflow_mul-words_before : goal.overflow_mul-words_before

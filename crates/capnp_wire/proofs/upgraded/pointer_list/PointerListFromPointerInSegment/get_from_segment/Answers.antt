@@ -1,9 +1,9 @@
 -- A list of pointers is a view that decides which objects it accepts.
 use Rattle.std.proofs.Common.{refl}
 use Rattle.capnp_wire.specs.Prelude.{pointer_of, TakesFirstPointers, FirstPointersFormError, upgraded_pointers_of}
-use Rattle.capnp_wire.proofs.pointers.OwnSegmentLemmas.{known_segment}
-use Rattle.capnp_wire.proofs.views.ViewErrorLemmas.{is_view_of}
-use Rattle.capnp_wire.proofs.views.UpgradedPointerLemmas.{first_pointers_decide, first_pointers_accepted}
+use Rattle.capnp_wire.proofs.pointers.PointersInStructSegmentLemmas.{known_segment}
+use Rattle.capnp_wire.proofs.views.RejectedExcludesAcceptedLemmas.{is_view_of}
+use Rattle.capnp_wire.proofs.views.UpgradedListReadAsPointersLemmas.{first_pointers_decide, first_pointers_accepted}
 use Rattle.capnp_wire.proofs.upgraded.pointer_list.PointerListFromPointerInSegment.get_from_segment.Goals as goal
 
 pub returns : goal.returns

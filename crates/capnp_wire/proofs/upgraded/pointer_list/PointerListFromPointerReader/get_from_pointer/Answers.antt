@@ -1,7 +1,7 @@
 -- A list of pointers is a view that decides which objects it accepts.
 use Rattle.capnp_wire.specs.Prelude.{pointer_of, TakesFirstPointers, FirstPointersFormError, upgraded_pointers_of}
-use Rattle.capnp_wire.proofs.views.ViewErrorLemmas.{is_view_of}
-use Rattle.capnp_wire.proofs.views.UpgradedPointerLemmas.{first_pointers_decide, first_pointers_accepted}
+use Rattle.capnp_wire.proofs.views.RejectedExcludesAcceptedLemmas.{is_view_of}
+use Rattle.capnp_wire.proofs.views.UpgradedListReadAsPointersLemmas.{first_pointers_decide, first_pointers_accepted}
 use Rattle.capnp_wire.proofs.upgraded.pointer_list.PointerListFromPointerReader.get_from_pointer.Goals as goal
 
 pub returns : goal.returns

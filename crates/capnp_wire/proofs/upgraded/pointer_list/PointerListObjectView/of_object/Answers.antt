@@ -3,8 +3,8 @@ use Rattle.std.proofs.Common.{◌≡◌, ◌<◌, ◌≤◌, ◌+◌, ◌*◌, �
 use Rattle.std.proofs.Math.Nat.{mul-le-mul_left}
 use Rattle.capnp_wire.specs.Prelude.{pointer_of}
 use Rattle.capnp_layout.specs.declared.pointer.Elements.{Elements}
-use Rattle.capnp_wire.proofs.views.ListViewLemmas.{few_pointers, few_structs}
-use Rattle.capnp_wire.proofs.views.UpgradedPointerLemmas.{pointers_read, first_pointers_read, no_first_pointers}
+use Rattle.capnp_wire.proofs.views.EnteredListShownOrRejectedLemmas.{few_pointers, few_structs}
+use Rattle.capnp_wire.proofs.views.UpgradedListReadAsPointersLemmas.{pointers_read, first_pointers_read, no_first_pointers}
 use Rattle.capnp_wire.proofs.upgraded.pointer_list.PointerListObjectView.of_object.Goals as goal
 
 pub new-requires-clause-few : goal.new-requires-clause-few

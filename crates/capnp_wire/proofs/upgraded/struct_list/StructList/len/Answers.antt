@@ -3,7 +3,7 @@ use Rattle.std.proofs.lemmas.List.{length-map}
 use Rattle.std.proofs.Common.{◌^◌, length, sym, ap, ◌∙◌}
 use Rattle.capnp_layout.specs.Prelude.{number_of, words_of, words_from, code_of, width, words_for, elements}
 use Rattle.capnp_wire.specs.Prelude.{number_struct, struct_elements_of}
-use Rattle.capnp_layout.proofs.words.DigitLemmas.{length-digits}
+use Rattle.capnp_layout.proofs.words.DigitsToNumberAndBackLemmas.{length-digits}
 use Rattle.capnp_wire.proofs.upgraded.struct_list.StructList.len.Goals as goal
 
 pub returns-in-Numbers : goal.returns-in-Numbers

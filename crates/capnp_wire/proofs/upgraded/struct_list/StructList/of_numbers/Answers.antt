@@ -4,8 +4,8 @@ use Rattle.capnp_layout.specs.Prelude.{code_of, width, words_of, elements}
 use Rattle.capnp_wire.specs.Prelude.{pointer_of, StructList, number_struct}
 use Rattle.capnp_layout.specs.declared.element_size.ElementSize.{ElementSize}
 use Rattle.capnp_layout.specs.declared.object.Body.TheVariants.{Numbers}
-use Rattle.capnp_wire.proofs.views.UpgradedStructLemmas.{nothings_upgraded, numbers_upgraded, bits_form_error, one_bit, no_bit, other_than_bits}
-use Rattle.capnp_wire.proofs.views.ListViewLemmas.{few_numbers}
+use Rattle.capnp_wire.proofs.views.UpgradedListReadAsStructsLemmas.{nothings_upgraded, numbers_upgraded, bits_form_error, one_bit, no_bit, other_than_bits}
+use Rattle.capnp_wire.proofs.views.EnteredListShownOrRejectedLemmas.{few_numbers}
 use Rattle.capnp_wire.proofs.upgraded.struct_list.StructList.of_numbers.Goals as goal
 
 pub returns-then-bits-eq1 : goal.returns-then-bits-eq1

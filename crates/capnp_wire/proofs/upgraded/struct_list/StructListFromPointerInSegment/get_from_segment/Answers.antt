@@ -1,9 +1,9 @@
 -- A list of structs is a view that decides which objects it accepts.
 use Rattle.std.proofs.Common.{refl}
 use Rattle.capnp_wire.specs.Prelude.{pointer_of, TakesAsStructs, ElementsFormError, upgraded_structs_of}
-use Rattle.capnp_wire.proofs.pointers.OwnSegmentLemmas.{known_segment}
-use Rattle.capnp_wire.proofs.views.ViewErrorLemmas.{is_view_of}
-use Rattle.capnp_wire.proofs.views.UpgradedStructLemmas.{elements_decide, elements_accepted}
+use Rattle.capnp_wire.proofs.pointers.PointersInStructSegmentLemmas.{known_segment}
+use Rattle.capnp_wire.proofs.views.RejectedExcludesAcceptedLemmas.{is_view_of}
+use Rattle.capnp_wire.proofs.views.UpgradedListReadAsStructsLemmas.{elements_decide, elements_accepted}
 use Rattle.capnp_wire.proofs.upgraded.struct_list.StructListFromPointerInSegment.get_from_segment.Goals as goal
 
 pub returns : goal.returns

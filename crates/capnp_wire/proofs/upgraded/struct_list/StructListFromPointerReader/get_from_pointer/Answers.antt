@@ -1,7 +1,7 @@
 -- A list of structs is a view that decides which objects it accepts.
 use Rattle.capnp_wire.specs.Prelude.{pointer_of, TakesAsStructs, ElementsFormError, upgraded_structs_of}
-use Rattle.capnp_wire.proofs.views.ViewErrorLemmas.{is_view_of}
-use Rattle.capnp_wire.proofs.views.UpgradedStructLemmas.{elements_decide, elements_accepted}
+use Rattle.capnp_wire.proofs.views.RejectedExcludesAcceptedLemmas.{is_view_of}
+use Rattle.capnp_wire.proofs.views.UpgradedListReadAsStructsLemmas.{elements_decide, elements_accepted}
 use Rattle.capnp_wire.proofs.upgraded.struct_list.StructListFromPointerReader.get_from_pointer.Goals as goal
 
 pub returns : goal.returns

@@ -1,8 +1,8 @@
 -- The elements are the object's, by its kind.
 use Rattle.std.proofs.Common.{arith}
 use Rattle.capnp_wire.specs.Prelude.{pointer_of}
-use Rattle.capnp_wire.proofs.views.UpgradedStructLemmas.{structs_upgraded, pointers_upgraded, struct_form_error}
-use Rattle.capnp_wire.proofs.views.ListViewLemmas.{few_structs, few_pointers}
+use Rattle.capnp_wire.proofs.views.UpgradedListReadAsStructsLemmas.{structs_upgraded, pointers_upgraded, struct_form_error}
+use Rattle.capnp_wire.proofs.views.EnteredListShownOrRejectedLemmas.{few_structs, few_pointers}
 use Rattle.capnp_wire.proofs.upgraded.struct_list.StructListObjectView.of_object.Goals as goal
 
 pub returns-in-Structs : goal.returns-in-Structs

@@ -1,8 +1,8 @@
 -- A list that is read as a list of pointers has the words of its tree.
 use Rattle.std.proofs.Common.{rules}
 use Rattle.capnp_wire.specs.Prelude.{IsPointerListValue, PointerListValueError}
-use Rattle.capnp_wire.proofs.views.UniqueValueLemmas.{measured_found, measured_exactly}
-use Rattle.capnp_wire.proofs.views.UpgradedValueLemmas.{one_of_pointers}
+use Rattle.capnp_wire.proofs.views.UniqueValueTreeAndMeasureLemmas.{measured_found, measured_exactly}
+use Rattle.capnp_wire.proofs.views.UniqueTreeOfUpgradedListLemmas.{one_of_pointers}
 use Rattle.capnp_wire.proofs.upgraded.values.PointerListSetterInputAny_pointer_listOwned.measure.Goals as goal
 
 pub returns-in-Some-clause-returned : goal.returns-in-Some-clause-returned

@@ -1,9 +1,9 @@
 -- A list that is read as a list of structs has the words of its tree.
 use Rattle.capnp_layout.specs.Prelude.{words_of}
 use Rattle.capnp_wire.specs.Prelude.{IsElementsValue, ElementsValueError}
-use Rattle.capnp_wire.proofs.views.UniqueValueLemmas.{measured_found, measured_exactly}
-use Rattle.capnp_wire.proofs.views.NumberListValueLemmas.{numbers_measured}
-use Rattle.capnp_wire.proofs.views.UpgradedValueLemmas.{one_of_elements}
+use Rattle.capnp_wire.proofs.views.UniqueValueTreeAndMeasureLemmas.{measured_found, measured_exactly}
+use Rattle.capnp_wire.proofs.views.NumberListMeasureLemmas.{numbers_measured}
+use Rattle.capnp_wire.proofs.views.UniqueTreeOfUpgradedListLemmas.{one_of_elements}
 use Rattle.capnp_wire.proofs.upgraded.values.StructListSetterInputStruct_listOwned.measure.Goals as goal
 
 pub returns-in-InPlace-clause-found : goal.returns-in-InPlace-clause-found

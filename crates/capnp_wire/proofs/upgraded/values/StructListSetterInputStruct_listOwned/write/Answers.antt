@@ -2,9 +2,9 @@
 use Rattle.std.proofs.Common.{ℕ, ap, arith}
 use Rattle.capnp_layout.specs.Prelude.{words_of, code_of, width, words_for}
 use Rattle.capnp_wire.specs.Prelude.{IsElementsValue, numbers_in_structs}
-use Rattle.capnp_wire.proofs.layouts.FreeBlockLemmas.{tree_body_long, numbers_total}
-use Rattle.capnp_wire.proofs.views.NumberListValueLemmas.{numbers_long}
-use Rattle.capnp_wire.proofs.views.UpgradedValueLemmas.{one_of_elements}
+use Rattle.capnp_wire.proofs.layouts.NullAndNumbersWrittenLemmas.{tree_body_long, numbers_total}
+use Rattle.capnp_wire.proofs.views.NumberListMeasureLemmas.{numbers_long}
+use Rattle.capnp_wire.proofs.views.UniqueTreeOfUpgradedListLemmas.{one_of_elements}
 use Rattle.capnp_wire.proofs.upgraded.values.StructListSetterInputStruct_listOwned.write.Goals as goal
 
 pub write_numbers-requires-clause-few : goal.write_numbers-requires-clause-few

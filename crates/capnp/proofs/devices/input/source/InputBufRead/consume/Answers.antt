@@ -1,6 +1,6 @@
 -- What is consumed leaves a tail.
 use Rattle.std.proofs.Common.{rules, le_refl}
-use Rattle.capnp.proofs.DeviceLemmas.{tail_left}
+use Rattle.capnp.proofs.DeviceCallMovesFirstBytesLemmas.{tail_left}
 use Rattle.capnp.proofs.devices.input.source.InputBufRead.consume.Goals as goal
 
 pub returns-clause-advances : goal.returns-clause-advances

@@ -1,5 +1,5 @@
 -- What was read is a part of what was asked.
-use Rattle.capnp.proofs.DeviceLemmas.{part_given, none_at_end}
+use Rattle.capnp.proofs.DeviceCallMovesFirstBytesLemmas.{part_given, none_at_end}
 use Rattle.capnp.proofs.devices.input.source.InputRead.read.Goals as goal
 
 pub returns-in-Ok-clause-taken : goal.returns-in-Ok-clause-taken

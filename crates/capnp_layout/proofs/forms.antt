@@ -1,3 +1,0 @@
--- Canonical forms.
-pub mod PreorderLemmas
-pub mod TruncatedLemmas
