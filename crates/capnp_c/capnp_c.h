@@ -34,8 +34,8 @@ enum linsjoar_error {
     LINSJOAR_MESSAGE_SIZE_OVERFLOW = 7,
     /* A message has more words than the limit: 8,388,608, or the limit of the options. These calls return
      * it: linsjoar_next_message, linsjoar_pack_message, linsjoar_unpack_message, linsjoar_message,
-     * linsjoar_segment, linsjoar_canonical_size, linsjoar_canonical. Their twins .._with_options read
-     * larger messages. linsjoar_pack and linsjoar_unpack read no message. */
+     * linsjoar_segment, linsjoar_canonical_size, linsjoar_canonical, linsjoar_open. Their twins
+     * .._with_options read larger messages. linsjoar_pack and linsjoar_unpack read no message. */
     LINSJOAR_MESSAGE_TOO_LARGE = 8,
     /* The bytes end where a message was to begin. */
     LINSJOAR_PREMATURE_END_OF_FILE = 9,
@@ -72,7 +72,10 @@ enum linsjoar_error {
     /* What was to be canonical is not in one segment. */
     LINSJOAR_NOT_ONE_SEGMENT = 25,
     /* The padding of a segment table is not zero. */
-    LINSJOAR_NON_ZERO_PADDING = 26
+    LINSJOAR_NON_ZERO_PADDING = 26,
+    /* A reader is not one of the bytes, no call wrote a struct or a list, or no list has such a code. The calls
+     * that read in place alone return it. */
+    LINSJOAR_INVALID_ARGUMENT = 27
 };
 
 /* The name of an error, as InvalidSegmentId; "" for a number that none has, as 0. */
@@ -130,6 +133,8 @@ static inline const char *linsjoar_error_name(int number) {
         return "NotOneSegment";
     case LINSJOAR_NON_ZERO_PADDING:
         return "NonZeroPadding";
+    case LINSJOAR_INVALID_ARGUMENT:
+        return "InvalidArgument";
     default:
         return "";
     }
@@ -140,11 +145,13 @@ static inline const char *linsjoar_error_name(int number) {
  * not be NULL. */
 struct linsjoar_options {
     /* How many words a message may have (else 8 is returned), and how many may be visited for its canonical
-     * form (else 20): many pointers may point to the same words. LINSJOAR_NO_LIMIT sets no limit. */
+     * form, or be read in place (else 20): many pointers may point to the same words. LINSJOAR_NO_LIMIT sets
+     * no limit. */
     size_t traversal_limit_in_words;
-    /* How deep objects may be nested where a canonical form is measured or written (else 19 is returned); a
-     * number below 0 is as 0. The walk over them calls itself at each, so a larger limit may take more of
-     * the stack. The other calls look at no object, and don't read this. */
+    /* How deep objects may be nested where a canonical form is measured or written, or objects are read in
+     * place (else 19 is returned); a number below 0 is as 0. The walk for a canonical form calls itself at
+     * each, so a larger limit may take more of the stack. The other calls look at no object, and don't read
+     * this. */
     int32_t nesting_limit;
 };
 
@@ -232,6 +239,152 @@ uint8_t linsjoar_pack(const uint8_t *words, size_t words_len, uint8_t *encoding,
  * returns 0 wherever a packing of that many bytes is there. */
 uint8_t linsjoar_unpack(const uint8_t *encoding, size_t encoding_len, uint8_t *words, size_t words_len,
                         size_t *read);
+
+/* Objects of a framed message, read in place.
+ *
+ * A reader, a place, a struct and a list are numbers that the caller keeps, and may copy. They hold no
+ * pointer: objects are told by how many bytes of the message are before them, and linsjoar_at makes an address
+ * of that. So they stay as good as the message's bytes do, wherever these are moved to. `bytes` and `len` are
+ * always the same: a buffer with the message at its front, of which linsjoar_open made the reader. A thread that
+ * reads the message while others do has a reader of its own.
+ *
+ * Each call takes any bytes, and any numbers in these structs. Where they are not what a call wrote for these
+ * bytes it returns an error, or finds another object, and it reads nothing outside the bytes. What a call has to
+ * write is 0 after an error, so such a place is no pointer, such a struct is empty, and such a list has no elements.
+ * What it reads it takes from the reader's words_left; a call that fails takes nothing. */
+
+/* What is known of a message that was opened. */
+struct linsjoar_reader {
+    size_t message_len;    /* how many bytes it has, with its table: what follows may be the next one */
+    size_t words_left;     /* how many words may still be read; LINSJOAR_NO_LIMIT sets no limit, and stays */
+    uint32_t segments;     /* how many segments it has */
+    int32_t nesting_limit; /* how deep objects may be nested; a number below 0 is as 0 */
+};
+
+/* The place of a pointer. One that is not there, as past the last pointer of a struct, is null. */
+struct linsjoar_place {
+    size_t word;      /* how many words of the segment are before it */
+    uint32_t segment; /* the number of its segment */
+    uint32_t nesting; /* how many objects may follow one another from it on */
+    uint8_t is_there; /* 0 where there is no pointer; any other number says that one is there */
+};
+
+/* A struct. What lies past its data is 0, and past its pointers null. */
+struct linsjoar_struct {
+    size_t start;                /* how many bytes of the message are before its data */
+    size_t data_len;             /* how many bytes of data it has */
+    struct linsjoar_place first; /* its first pointer, where it has one */
+    uint16_t pointers;           /* how many pointers it has */
+};
+
+/* A list, and as what its elements are read. */
+struct linsjoar_list {
+    size_t start;                /* how many bytes of the message are before its first element */
+    struct linsjoar_place first; /* the first pointer of its first element, where elements have pointers */
+    uint32_t count;              /* how many elements it has */
+    uint32_t step;               /* how many bits are from one element to the next */
+    uint32_t data_len;           /* how many bytes of data each element has as a struct */
+    uint16_t pointers;           /* how many pointers each element has as a struct */
+    uint8_t code;                /* an enum linsjoar_code: the one that was asked for */
+};
+
+/* What a pointer points to. */
+enum linsjoar_kind { LINSJOAR_NULL = 0, LINSJOAR_STRUCT = 1, LINSJOAR_LIST = 2 };
+
+/* What elements of a list are: numbers of 0, 1, 8, 16, 32 and 64 bits, pointers, structs. */
+enum linsjoar_code {
+    LINSJOAR_VOID = 0,
+    LINSJOAR_BIT = 1,
+    LINSJOAR_BYTE = 2,
+    LINSJOAR_TWO_BYTES = 3,
+    LINSJOAR_FOUR_BYTES = 4,
+    LINSJOAR_EIGHT_BYTES = 5,
+    LINSJOAR_POINTERS = 6,
+    LINSJOAR_STRUCTS = 7
+};
+
+/* Opens the framed message at the front of a buffer: 0 wherever one is there, else what linsjoar_message
+ * returns. */
+uint8_t linsjoar_open(const uint8_t *bytes, size_t len, struct linsjoar_reader *reader);
+uint8_t linsjoar_open_with_options(const uint8_t *bytes, size_t len, const struct linsjoar_options *options,
+                                   struct linsjoar_reader *reader);
+
+/* Finds the root pointer. It returns 17 where the first segment has no word. */
+uint8_t linsjoar_root(const uint8_t *bytes, size_t len, const struct linsjoar_reader *reader,
+                      struct linsjoar_place *root);
+
+/* Tells what a pointer points to, an enum linsjoar_kind, and for a list the enum linsjoar_code of its elements. It
+ * takes nothing from words_left. */
+uint8_t linsjoar_kind(const uint8_t *bytes, size_t len, const struct linsjoar_reader *reader,
+                      const struct linsjoar_place *pointer, uint8_t *kind, uint8_t *code);
+
+/* The calls that follow a pointer return, in this order: 27 where the reader is not one of these bytes; 17, 18,
+ * 19, 21 or 22 where the pointer points to no object, or too deep; 20 where the object has more words than are
+ * left; 22 where it is of another kind than the call reads. */
+
+/* Reads the struct that a pointer points to. Null is an empty one. */
+uint8_t linsjoar_struct(const uint8_t *bytes, size_t len, struct linsjoar_reader *reader,
+                        const struct linsjoar_place *pointer, struct linsjoar_struct *fields);
+
+/* Finds a pointer of a struct. */
+uint8_t linsjoar_struct_pointer(const struct linsjoar_struct *fields, uint16_t index, struct linsjoar_place *pointer);
+
+/* Reads the Text that a pointer points to: how many bytes of the message are before it, and how many it has without
+ * the zero byte that follows them. Null is empty, and has no such byte. It returns 23 where no zero byte is at the
+ * end. */
+uint8_t linsjoar_text(const uint8_t *bytes, size_t len, struct linsjoar_reader *reader,
+                      const struct linsjoar_place *pointer, size_t *start, size_t *text_len);
+
+/* Reads the Data that a pointer points to. Null is empty. */
+uint8_t linsjoar_data(const uint8_t *bytes, size_t len, struct linsjoar_reader *reader,
+                      const struct linsjoar_place *pointer, size_t *start, size_t *data_len);
+
+/* Reads the list that a pointer points to, its elements as an enum linsjoar_code says. Null is an empty one. As older
+ * and newer writers have them, numbers and pointers are read as structs with these as their first field, and
+ * structs as their first number or their first pointer; bits are read as bits alone. */
+uint8_t linsjoar_list(const uint8_t *bytes, size_t len, struct linsjoar_reader *reader,
+                      const struct linsjoar_place *pointer, uint8_t code, struct linsjoar_list *list);
+
+/* Finds an element of a list that is read as numbers, as structs, as pointers: 0, an empty struct, and no pointer past
+ * the last one. They return 27 for a list that is read as something else, or whose element does not
+ * lie within the bytes or has no place. */
+uint8_t linsjoar_list_number(const uint8_t *bytes, size_t len, const struct linsjoar_list *list, uint32_t index,
+                             uint64_t *number);
+uint8_t linsjoar_list_struct(const struct linsjoar_list *list, uint32_t index, struct linsjoar_struct *fields);
+uint8_t linsjoar_list_pointer(const struct linsjoar_list *list, uint32_t index, struct linsjoar_place *pointer);
+
+/* The rest is C, and no proof covers it. It takes structs that a call wrote for these bytes, and tests nothing. */
+
+/* The address of what this many bytes of the message are before. */
+static inline const uint8_t *linsjoar_at(const uint8_t *bytes, size_t start) { return bytes + start; }
+
+/* The little-endian number of `size` bytes, at most 8, that are `at` bytes after the begin of a struct's data; 0 past
+ * its end. */
+static inline uint64_t linsjoar_field(const uint8_t *bytes, const struct linsjoar_struct *fields, size_t at,
+                                      size_t size) {
+    const uint8_t *data = bytes + fields->start;
+    uint64_t number = 0;
+    for (size_t i = 0; i < size && at + i < fields->data_len; i++)
+        number |= (uint64_t)data[at + i] << 8 * i;
+    return number;
+}
+
+/* A field of a struct by its index in the schema's layout: how many fields of its size are before it. */
+static inline uint8_t linsjoar_u8(const uint8_t *bytes, const struct linsjoar_struct *fields, size_t index) {
+    return (uint8_t)linsjoar_field(bytes, fields, index, 1);
+}
+static inline uint16_t linsjoar_u16(const uint8_t *bytes, const struct linsjoar_struct *fields, size_t index) {
+    return (uint16_t)linsjoar_field(bytes, fields, 2 * index, 2);
+}
+static inline uint32_t linsjoar_u32(const uint8_t *bytes, const struct linsjoar_struct *fields, size_t index) {
+    return (uint32_t)linsjoar_field(bytes, fields, 4 * index, 4);
+}
+static inline uint64_t linsjoar_u64(const uint8_t *bytes, const struct linsjoar_struct *fields, size_t index) {
+    return linsjoar_field(bytes, fields, 8 * index, 8);
+}
+static inline int linsjoar_bool(const uint8_t *bytes, const struct linsjoar_struct *fields, size_t index) {
+    return (int)(linsjoar_field(bytes, fields, index / 8, 1) >> index % 8 & 1);
+}
 
 #ifdef __cplusplus
 }

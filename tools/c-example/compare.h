@@ -1,5 +1,5 @@
-/* What calls.c and options.c share: messages that are spelled out by the Cap'n Proto encoding document, and
- * comparisons. Each comparison that fails prints a line. */
+/* What calls.c, options.c and reading.c share: messages that are spelled out by the Cap'n Proto encoding
+ * document, and comparisons. Each comparison that fails prints a line. */
 #ifndef COMPARE_H
 #define COMPARE_H
 

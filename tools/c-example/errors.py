@@ -1,7 +1,7 @@
 """Compares the errors of crates/capnp_c/capnp_c.h with `ErrorKind` of crates/capnp_frame/src/error.rt: the name, the
-number and the text of each.
+number and the text of each. One more is of the library for C alone, of crates/capnp_c/src/reading.rt.
 
-    errors.py KINDS CC FLAG..      compiles a program with the header, which the flags find, and runs it
+    errors.py KINDS OWN CC FLAG..      compiles a program with the header, which the flags find, and runs it
 
 It ends with status 1 where the two differ.
 """
@@ -41,6 +41,13 @@ def kinds_of(path):
             for name, number in numbers.items()]
 
 
+def own_kind(path):
+    """The error that the library for C alone has: its number, its name in C and its text."""
+    with open(path) as file:
+        number = re.search(r"const INVALID_ARGUMENT: u8 = (\d+);", file.read())
+    return int(number[1]), "LINSJOAR_INVALID_ARGUMENT", "InvalidArgument"
+
+
 def compare(kinds, compiler, flags):
     # A switch that leaves out an error of the header, or has one that it has not, does not compile.
     cases = "".join("    case %s:\n        return %d;\n" % (name, number) for number, name, _ in kinds)
@@ -59,4 +66,4 @@ def compare(kinds, compiler, flags):
         sys.exit("errors.py: linsjoar_error_name returns other texts than ErrorKind has")
 
 
-compare(kinds_of(sys.argv[1]), sys.argv[2], sys.argv[3:])
+compare([*kinds_of(sys.argv[1]), own_kind(sys.argv[2])], sys.argv[3], sys.argv[4:])

@@ -5,3 +5,4 @@ pub mod PackMessageIntoBufferLemmas
 pub mod PackWordsIntoBufferLemmas
 pub mod PackChunkCallSequenceLemmas
 pub mod UnpackMessageIntoBufferLemmas
+pub mod in_place

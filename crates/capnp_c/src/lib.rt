@@ -1,5 +1,5 @@
-//! The library for C: it packs and unpacks words, checks and lists framed messages, and writes
-//! canonical forms.
+//! The library for C: it packs and unpacks words, checks and lists framed messages, reads their
+//! objects in place, and writes canonical forms.
 //!
 //! Each export works over caller-provided buffers, and takes no memory. It returns 0, or the number
 //! of an error (docs/FORMAT.md). An export that reads a message within limits has a twin
@@ -12,3 +12,4 @@ mod options;
 mod packed;
 mod packed_messages;
 mod provided_buffer;
+mod reading;

@@ -1,0 +1,10 @@
+-- Objects that are read in place, from C.
+pub mod SegmentByteRangeLemmas
+pub mod FollowedPointerResultLemmas
+pub mod EnteredObjectReadLemmas
+pub mod ListElementsInBytesLemmas
+pub mod StructElementByIndexLemmas
+pub mod ListReadAsStructsLemmas
+pub mod NumbersReadAsStructsLemmas
+pub mod ListReadAsNumbersOrPointersLemmas
+pub mod ListByElementKindLemmas

@@ -1,0 +1,27 @@
+-- What is read is what the pointer points to.
+use Rattle.std.proofs.Common.{refl}
+use Rattle.capnp_c.specs.Entering.{pointer_among}
+use Rattle.capnp_c.proofs.in_place.FollowedPointerResultLemmas.{same_pointer, follows_none, follows_object, follows_error, readable}
+use Rattle.capnp_wire.specs.Prelude.{TakesText}
+use Rattle.capnp_wire.proofs.views.RejectedExcludesAcceptedLemmas.{text_decides, text_accepted}
+use Rattle.capnp_c.proofs.reading.blobs.linsjoar_text.Goals as goal
+
+pub returns-in_default : goal.returns-in_default
+returns-in_default c = follows_none _ _ _ _ _ _ _ c.in_default.ensures (refl, refl)
+
+pub returns-in-Ok : goal.returns-in-Ok
+returns-in-Ok c =
+    let segments = c.in-Some.segments in
+    let known = c.in-Some.ensures in
+    let q = pointer_among segments c.args.reader.now c.args.pointer.now in
+    let same = same_pointer segments c.args.reader.now c.args.bytes.now c.args.pointer.now known.1 known.2 in
+    let shown = c.in-Ok.ensures.0 in
+    follows_object _ _ _ _ _ _ _ c.in-Ok.text.words_left q text_decides same known.0 shown c.in-Ok.ensures.1 (readable q TakesText shown.0 (text_accepted q _ shown) shown.1 shown.2.1)
+
+pub returns-in-Err : goal.returns-in-Err
+returns-in-Err c =
+    let segments = c.in-Some.segments in
+    let known = c.in-Some.ensures in
+    let q = pointer_among segments c.args.reader.now c.args.pointer.now in
+    let same = same_pointer segments c.args.reader.now c.args.bytes.now c.args.pointer.now known.1 known.2 in
+    rw c.number.ensures (follows_error _ _ _ _ _ _ _ c.in-Err.error.kind q text_decides same known.0 c.in-Err.ensures (refl, refl))
