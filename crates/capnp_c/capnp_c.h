@@ -249,9 +249,10 @@ uint8_t linsjoar_unpack(const uint8_t *encoding, size_t encoding_len, uint8_t *w
  * reads the message while others do has a reader of its own.
  *
  * Each call takes any bytes, and any numbers in these structs. Where they are not what a call wrote for these
- * bytes it returns an error, or finds another object, and it reads nothing outside the bytes. What a call has to
- * write is 0 after an error, so such a place is no pointer, such a struct is empty, and such a list has no elements.
- * What it reads it takes from the reader's words_left; a call that fails takes nothing. */
+ * bytes it returns an error, or finds another object, and it reads nothing outside the bytes. The data, texts and
+ * lists that linsjoar_struct, linsjoar_text, linsjoar_data and linsjoar_list find lie within the bytes. What a call
+ * has to write is 0 after an error, so such a place is no pointer, such a struct is empty, and such a list has no
+ * elements. What it reads it takes from the reader's words_left; a call that fails takes nothing. */
 
 /* What is known of a message that was opened. */
 struct linsjoar_reader {
@@ -353,7 +354,8 @@ uint8_t linsjoar_list_number(const uint8_t *bytes, size_t len, const struct lins
 uint8_t linsjoar_list_struct(const struct linsjoar_list *list, uint32_t index, struct linsjoar_struct *fields);
 uint8_t linsjoar_list_pointer(const struct linsjoar_list *list, uint32_t index, struct linsjoar_place *pointer);
 
-/* The rest is C, and no proof covers it. It takes structs that a call wrote for these bytes, and tests nothing. */
+/* The rest is C, and no proof covers it. It takes structs that a call wrote for these bytes, so that their data lie
+ * within these, and tests nothing. */
 
 /* The address of what this many bytes of the message are before. */
 static inline const uint8_t *linsjoar_at(const uint8_t *bytes, size_t start) { return bytes + start; }

@@ -8,7 +8,7 @@ use Rattle.capnp_frame.specs.declared.error.ErrorKind.TheVariants.{ReadLimitExce
 use Rattle.capnp_frame.specs.Prelude.{table_size, declared_lengths, declared_segments}
 use Rattle.capnp_layout.specs.Prelude.{message_of, number_of, places, less, Within, Form, null, struct, numbers, pointers, structs}
 use Rattle.capnp_layout.specs.declared.place.Place.{Place}
-use Rattle.capnp_wire.specs.Prelude.{Pointer, Struct, Shows, IsInvalidPointer}
+use Rattle.capnp_wire.specs.Prelude.{Pointer, Struct, Shows, Reads, IsStruct, IsText, IsData, IsInvalidPointer}
 use Rattle.capnp_c.specs.Options.{limit_of_number}
 use Rattle.capnp_c.specs.declared.reading.place.LinsjoarPlace.{LinsjoarPlace}
 use Rattle.capnp_c.specs.declared.reading.reader.LinsjoarReader.{LinsjoarReader}
@@ -51,6 +51,17 @@ struct_by message limit bytes fields = record {
   nesting = fields.first.nesting;
   limit = limit;
 }
+
+-- what is written for the struct that a pointer points to: it, and its data lie within the bytes
+abbrev pub ShowsStruct : Pointer → List ℕ → LinsjoarStruct → Type 0
+ShowsStruct pointer bytes fields = IsStruct pointer (struct_by pointer.message pointer.limit bytes fields) × (fields.start + fields.data_len ≤ length bytes)
+
+-- what is written for a text, and for data: these bytes, and they lie within the bytes of the message
+abbrev pub ShowsText : Pointer → List ℕ → ℕ → ℕ → Type 0
+ShowsText pointer bytes start len = Reads pointer (λ form. IsText form (take len (drop start bytes))) × (start + len ≤ length bytes)
+
+abbrev pub ShowsData : Pointer → List ℕ → ℕ → ℕ → Type 0
+ShowsData pointer bytes start len = Reads pointer (λ form. IsData form (take len (drop start bytes))) × (start + len ≤ length bytes)
 
 -- this number of words is left of the limit after what is there was counted
 abbrev pub TakesOff : Pointer → ℕ → Type 0

@@ -63,6 +63,14 @@ structs_by message limit bytes list = record {
   limit = limit;
 }
 
+-- the word of each number lies within the bytes; numbers of no bits have none
+abbrev pub NumbersWithin : ℕ → LinsjoarList → List ℕ → Type 0
+NumbersWithin code list bytes = (index : ℕ) → index < list.count → 0 < width code → list.start + 8 * (index * list.step / 64) + 8 ≤ length bytes
+
+-- and so do the data of each struct
+abbrev pub StructsWithin : LinsjoarList → List ℕ → Type 0
+StructsWithin list bytes = (index : ℕ) → index < list.count → list.start + index * (list.step / 8) + list.data_len ≤ length bytes
+
 -- a list is read as elements of this kind: which objects are, what is shown of them, and the error of others
 abbrev pub TakesList : ElementKind → Form → Type 0
 TakesList (Numbers size) form = TakesFields (code_of size) form
@@ -71,8 +79,9 @@ TakesList Structs form = TakesAsStructs form
 
 abbrev pub ShowsList : ElementKind → Pointer → List ℕ → LinsjoarList → Type 0
 ShowsList (Numbers size) pointer bytes list = Reads pointer (λ form. ReadsAsNumbers (code_of size) form (numbers_in (code_of size) bytes list))
+    × NumbersWithin (code_of size) list bytes
 ShowsList Pointers pointer bytes list = IsUpgradedPointers pointer (pointers_by pointer.message pointer.limit list)
-ShowsList Structs pointer bytes list = IsUpgradedStructs pointer (structs_by pointer.message pointer.limit bytes list)
+ShowsList Structs pointer bytes list = IsUpgradedStructs pointer (structs_by pointer.message pointer.limit bytes list) × StructsWithin list bytes
 
 abbrev pub ListFormError : ElementKind → Form → ErrorKind → Type 0
 ListFormError kind form error = (TakesList kind form → ⊥) × (error ≡ WrongPointerKind)
@@ -106,6 +115,7 @@ pub record FindsStruct (list : LinsjoarList) (index : ℕ) (fields : LinsjoarStr
       struct_by message limit bytes fields ≡ element_of (structs_by message limit bytes list) index)
   pub accepted : list.code ≡ 7 → (list.count ≤ index)
       ⊎ ((list.start + index * (list.step / 8) < 2 ^ 64) × (list.first.word + index * (list.step / 64) < 2 ^ 64)) → result ≡ 0
+  pub within : result ≡ 0 → (bytes : List ℕ) → StructsWithin list bytes → fields.start + fields.data_len ≤ length bytes
   pub other : (list.code ≡ 7 → ⊥) → result ≡ 27
   pub outside : index < list.count → (2 ^ 64 ≤ list.start + index * (list.step / 8)) ⊎ (2 ^ 64 ≤ list.first.word + index * (list.step / 64)) → result ≡ 27
   pub stays : 0 < result → fields ≡ no_struct

@@ -10,10 +10,10 @@ use Rattle.capnp_layout.specs.declared.object.Body.TheVariants.{Struct, Numbers}
 use Rattle.capnp_layout.specs.declared.pointer.StructSize.{StructSize}
 use Rattle.capnp_layout.proofs.objects.ByteListElementLemmas.{elements_are_bytes}
 use Rattle.capnp_layout.proofs.words.PutBytesAsWordsLemmas.{words_part}
-use Rattle.capnp_wire.specs.Prelude.{Pointer, Denotes, at_place, IsStruct, HasData, Reads, form_of}
+use Rattle.capnp_wire.specs.Prelude.{Pointer, Denotes, at_place, HasData, Reads, form_of}
 use Rattle.capnp_wire.proofs.views.EnteredObjectShownLemmas.{numbers_form, struct_shows, entered_reads}
 use Rattle.capnp_c.specs.Entering.{Enters}
-use Rattle.capnp_c.specs.Reading.{words_at, struct_by, TakesOff, ReadError}
+use Rattle.capnp_c.specs.Reading.{words_at, ShowsStruct, TakesOff, ReadError}
 use Rattle.capnp_c.specs.Options.{limit_of_number}
 use Rattle.capnp_c.specs.declared.reading.entered.Entered.{Entered}
 use Rattle.capnp_c.specs.declared.reading.structs.LinsjoarStruct.{LinsjoarStruct}
@@ -77,13 +77,13 @@ entered_rejects p bytes entered form_error kind enters error = inr (
   (enters.object.within, error),
 )
 
-pub entered_read : {V : Type 0} (p : Pointer) (bytes : List ℕ) (entered : Entered) (shows : V → Form → Type 0) (left : V → ℕ)
+pub entered_read : {V : Type 0} (p : Pointer) (bytes : List ℕ) (entered : Entered) (shows : V → Form → Type 0) (within : V → Type 0) (left : V → ℕ)
     (form_error : Form → ErrorKind → Type 0) (result : Result V Error) → Enters p bytes entered
-    → MatchResult result (λ v. shows v (form_of entered.object) × (left v ≡ entered.words_left)) (λ error. form_error (form_of entered.object) error.kind)
-    → MatchResult result (λ v. Reads p (shows v) × TakesOff p (left v)) (λ error. ReadError p form_error error.kind)
-entered_read p bytes entered shows left form_error (Ok v) enters holds =
-    (entered_reads p entered.object (shows v) enters.object holds.0, subst (TakesOff p) (sym holds.1) (object_takes_off p bytes entered enters))
-entered_read p bytes entered shows left form_error (Err error) enters holds = entered_rejects p bytes entered form_error error.kind enters holds
+    → MatchResult result (λ v. shows v (form_of entered.object) × within v × (left v ≡ entered.words_left)) (λ error. form_error (form_of entered.object) error.kind)
+    → MatchResult result (λ v. (Reads p (shows v) × within v) × TakesOff p (left v)) (λ error. ReadError p form_error error.kind)
+entered_read p bytes entered shows within left form_error (Ok v) enters holds =
+    ((entered_reads p entered.object (shows v) enters.object holds.0, holds.1), subst (TakesOff p) (sym holds.2) (object_takes_off p bytes entered enters))
+entered_read p bytes entered shows within left form_error (Err error) enters holds = entered_rejects p bytes entered form_error error.kind enters holds
 
 -- and null takes nothing
 less_nothing : (limit : Option ℕ) → limit ≡ less limit 0
@@ -107,27 +107,34 @@ pub struct_there : (p : Pointer) (bytes : List ℕ) (entered : Entered) (size : 
       data_len = 8 * size.data_words;
       first = record { word = entered.object.start.word + size.data_words; segment = entered.object.start.segment; nesting = entered.nesting; is_there = 1 };
       pointers = size.pointers;
-    } → IsStruct p (struct_by p.message p.limit bytes fields)
+    } → ShowsStruct p bytes fields
 struct_there p bytes entered size fields enters body is =
+    let room : room_of entered.object.body ≡ size.data_words + size.pointers = ap room_of body in
+    let extent : fields.start + fields.data_len ≡ entered.start + 8 * size.data_words = ap (λ (f : LinsjoarStruct). f.start + f.data_len) is in
     let words : words_at bytes fields.start fields.data_len ≡ words_from (words_of entered.object.segment.now) entered.object.start.word size.data_words =
     ap (λ (f : LinsjoarStruct). words_at bytes f.start f.data_len) is ∙ data_words_there p bytes entered size enters body in
     let children : places fields.first.segment fields.first.word fields.pointers
     ≡ places entered.object.start.segment (entered.object.start.word + size.data_words) size.pointers =
     ap (λ (f : LinsjoarStruct). places f.first.segment f.first.word f.pointers) is in
-    let there = struct_shows p entered.object size enters.object body in
-    record {
-      same_message = refl;
-      shown = (there.0, there.1, (subst (λ l. HasData there.0.form l) (sym words) there.2.0, children ∙ there.2.1, there.2.2));
-      nesting_below = ap (λ (f : LinsjoarStruct). f.first.nesting) is ∙ enters.nesting;
-      same_limit = refl;
-    }
+    let there = struct_shows p entered.object size enters.object body in (
+      record {
+        same_message = refl;
+        shown = (there.0, there.1, (subst (λ l. HasData there.0.form l) (sym words) there.2.0, children ∙ there.2.1, there.2.2));
+        nesting_below = ap (λ (f : LinsjoarStruct). f.first.nesting) is ∙ enters.nesting;
+        same_limit = refl;
+      },
+      omega (arith, extent, room, enters.within),
+    )
 
 -- and for null
-pub no_struct_there : (p : Pointer) (bytes : List ℕ) (fields : LinsjoarStruct) → Denotes p nothing → fields.data_len ≡ 0 → fields.pointers ≡ 0
-    → fields.first.nesting ≡ p.nesting - 1 → IsStruct p (struct_by p.message p.limit bytes fields)
-no_struct_there p bytes fields null_there data_len pointers nesting = record {
-  same_message = refl;
-  shown = (nothing, null_there, (ap (λ n. words_at bytes fields.start n) data_len, ap (λ n. places fields.first.segment fields.first.word n) pointers, nothing_within p));
-  nesting_below = nesting;
-  same_limit = refl;
-}
+pub no_struct_there : (p : Pointer) (bytes : List ℕ) (fields : LinsjoarStruct) → Denotes p nothing → fields.start ≡ 0 → fields.data_len ≡ 0 → fields.pointers ≡ 0
+    → fields.first.nesting ≡ p.nesting - 1 → ShowsStruct p bytes fields
+no_struct_there p bytes fields null_there start data_len pointers nesting = (
+  record {
+    same_message = refl;
+    shown = (nothing, null_there, (ap (λ n. words_at bytes fields.start n) data_len, ap (λ n. places fields.first.segment fields.first.word n) pointers, nothing_within p));
+    nesting_below = nesting;
+    same_limit = refl;
+  },
+  omega (arith, start, data_len),
+)

@@ -60,10 +60,12 @@ list_decides kind = record {
 
 pub list_taken : (kind : ElementKind) (p : Pointer) (bytes : List ℕ) (list : LinsjoarList) → ShowsList kind p bytes list → IsReadable p (TakesList kind)
 list_taken (Numbers size) p bytes list shown =
-    readable p (TakesFields (code_of size)) shown.0 (fields_accepted p (code_of size) (numbers_in (code_of size) bytes list) shown) shown.1 shown.2.1
+    let read = shown.0 in
+    readable p (TakesFields (code_of size)) read.0 (fields_accepted p (code_of size) (numbers_in (code_of size) bytes list) read) read.1 read.2.1
 list_taken Pointers p bytes list read =
     readable p TakesFirstPointers read.shown.0 (first_pointers_accepted p (pointers_by p.message p.limit list) read) read.shown.1 read.shown.2.1
-list_taken Structs p bytes list read =
+list_taken Structs p bytes list shown =
+    let read = shown.0 in
     readable p TakesAsStructs read.shown.0 (elements_accepted p (structs_by p.message p.limit bytes list) read) read.shown.1 read.shown.2.2
 
 pub shown_with_code : (kind : ElementKind) (p : Pointer) (bytes : List ℕ) (list : LinsjoarList) (code : ℕ) → ShowsList kind p bytes list → ShowsList kind p bytes (record list { code = code })
@@ -74,24 +76,27 @@ shown_with_code Structs p bytes list code shown = shown
 -- null has no elements
 pub null_list : (kind : ElementKind) (p : Pointer) (bytes : List ℕ) (list : LinsjoarList) → Denotes p nothing → list.count ≡ 0 → list.first.nesting ≡ p.nesting - 1 → ShowsList kind p bytes list
 null_list (Numbers size) p bytes list none count nesting =
-    (nothing, none, (ap (λ n. numbers_along bytes list.start 0 list.step (code_of size) n) count, nothing_within p))
+    ((nothing, none, (ap (λ n. numbers_along bytes list.start 0 list.step (code_of size) n) count, nothing_within p)), λ i less some. absurd (omega (arith, less, count)))
 null_list Pointers p bytes list none count nesting = record {
   same_message = refl;
   shown = (nothing, none, (ap (λ n. stepped_places list.first.segment list.first.word (list.step / 64) n) count, nothing_within p));
   nesting_below = nesting;
   same_limit = refl;
 }
-null_list Structs p bytes list none count nesting = record {
-  same_message = refl;
-  shown = (
-    nothing,
-    none,
-    (
-      ap (λ n. data_along bytes list.start (list.step / 8) list.data_len n) count,
-      ap (λ n. pointers_along list.first.segment list.first.word (list.step / 64) list.pointers n) count,
-      nothing_within p,
-    ),
-  );
-  nesting_below = nesting;
-  same_limit = refl;
-}
+null_list Structs p bytes list none count nesting = (
+  record {
+    same_message = refl;
+    shown = (
+      nothing,
+      none,
+      (
+        ap (λ n. data_along bytes list.start (list.step / 8) list.data_len n) count,
+        ap (λ n. pointers_along list.first.segment list.first.word (list.step / 64) list.pointers n) count,
+        nothing_within p,
+      ),
+    );
+    nesting_below = nesting;
+    same_limit = refl;
+  },
+  λ i less. absurd (omega (arith, less, count)),
+)

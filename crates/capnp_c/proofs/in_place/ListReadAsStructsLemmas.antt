@@ -1,5 +1,6 @@
 -- A list of structs or of pointers is read as structs.
-use Rattle.std.proofs.Common.{◌≡◌, ℕ, ◌+◌, ◌-◌, ◌*◌, ◌/◌, List, Option, refl, ap, ◌∙◌, arith}
+use Rattle.std.proofs.Common.{◌≡◌, ℕ, ◌+◌, ◌-◌, ◌*◌, ◌/◌, List, Option, refl, ap, ◌∙◌, suc, ◌≤◌, sym, subst, arith}
+use Rattle.std.proofs.Math.Nat.{mul-le-mul_left}
 use Rattle.capnp_layout.specs.Prelude.{words_of, room_of, words_in, elements, elements_from, pointer_places}
 use Rattle.capnp_layout.specs.declared.object.Body.TheVariants.{Pointers, Structs}
 use Rattle.capnp_layout.specs.declared.place.Place.{Place}
@@ -7,7 +8,7 @@ use Rattle.capnp_layout.specs.declared.pointer.Elements.{Elements}
 use Rattle.capnp_wire.specs.Prelude.{Pointer, StructList, IsUpgradedStructs, elements_without_data}
 use Rattle.capnp_wire.proofs.views.UpgradedListReadAsStructsLemmas.{structs_upgraded, pointers_upgraded}
 use Rattle.capnp_c.specs.Entering.{Enters}
-use Rattle.capnp_c.specs.ReadingLists.{data_along, pointers_along, structs_by}
+use Rattle.capnp_c.specs.ReadingLists.{StructsWithin, data_along, pointers_along, structs_by}
 use Rattle.capnp_c.specs.declared.reading.entered.Entered.{Entered}
 use Rattle.capnp_c.specs.declared.reading.list.LinsjoarList.{LinsjoarList}
 use Rattle.capnp_c.specs.declared.reading.place.LinsjoarPlace.{LinsjoarPlace}
@@ -30,7 +31,7 @@ pub structs_there : (p : Pointer) (bytes : List ℕ) (entered : Entered) (there 
     → entered.object.body ≡ Structs there following → step ≡ 64 * (there.size.data_words + there.size.pointers)
     → first ≡ record { word = entered.object.start.word + (1 + there.size.data_words); segment = entered.object.start.segment; nesting = entered.nesting; is_there = 1 }
     → list ≡ record { start = entered.start + 8; first = first; count = there.count; step = step; data_len = 8 * there.size.data_words; pointers = there.size.pointers; code = 0 }
-    → IsUpgradedStructs p (structs_by p.message p.limit bytes list)
+    → IsUpgradedStructs p (structs_by p.message p.limit bytes list) × StructsWithin list bytes
 structs_there p bytes entered there following step first list enters body step_is first_is is =
     let d = there.size.data_words in
     let q = there.size.pointers in
@@ -49,15 +50,22 @@ structs_there p bytes entered there following step first list enters body step_i
     ∙ ap (λ k. pointers_along segment k (step / 64) q n) begins
     ∙ ap (λ k. pointers_along segment (w + 1 + d) k q n) in_words_is
     ∙ pointers_there segment (w + 1) d q n in
-    structs_upgraded p entered.object there following (structs_by p.message p.limit bytes list) enters.object body
+    let within : StructsWithin list bytes = subst (λ l. StructsWithin l bytes) (sym is)
+    (λ i less.
+    let most : suc i ≤ n = omega (arith, less) in
+    let ends = mul-le-mul_left (d + q) most in
+    let turned : i * (step / 8) ≡ i * (8 * (d + q)) = ap (λ k. i * k) in_bytes in
+    omega (arith, ends, turned, used, enters.object.object_is.elements, enters.within)) in
+    let read = structs_upgraded p entered.object there following (structs_by p.message p.limit bytes list) enters.object body
     (ap (structs_by p.message p.limit bytes) is
-    ∙ list_as_structs p.message p.limit bytes plain _ q _ (p.nesting - 1) words_are refl children (ap (λ (f : LinsjoarPlace). f.nesting) first_is ∙ enters.nesting))
+    ∙ list_as_structs p.message p.limit bytes plain _ q _ (p.nesting - 1) words_are refl children (ap (λ (f : LinsjoarPlace). f.nesting) first_is ∙ enters.nesting)) in
+    (read, within)
 
 pub pointers_as_structs : (p : Pointer) (bytes : List ℕ) (entered : Entered) (n : ℕ) (first : LinsjoarPlace) (list : LinsjoarList) → Enters p bytes entered
     → entered.object.body ≡ Pointers n
     → first ≡ record { word = entered.object.start.word + 0; segment = entered.object.start.segment; nesting = entered.nesting; is_there = 1 }
     → list ≡ record { start = entered.start; first = first; count = n; step = 64; data_len = 0; pointers = 1; code = 0 }
-    → IsUpgradedStructs p (structs_by p.message p.limit bytes list)
+    → IsUpgradedStructs p (structs_by p.message p.limit bytes list) × StructsWithin list bytes
 pointers_as_structs p bytes entered n first list enters body first_is is =
     let w = entered.object.start.word in
     let segment = entered.object.start.segment in
@@ -71,6 +79,8 @@ pointers_as_structs p bytes entered n first list enters body first_is is =
     ap (λ (f : LinsjoarPlace). pointers_along f.segment first.word 1 1 n) first_is
     ∙ ap (λ k. pointers_along segment k 1 1 n) begins
     ∙ pointers_there segment (w + 0) 0 1 n in
-    pointers_upgraded p entered.object n (elements_without_data 1 n) (structs_by p.message p.limit bytes list) enters.object body refl
+    let within : StructsWithin list bytes = subst (λ l. StructsWithin l bytes) (sym is) (λ i less. omega (arith, less, room, enters.within)) in
+    let read = pointers_upgraded p entered.object n (elements_without_data 1 n) (structs_by p.message p.limit bytes list) enters.object body refl
     (ap (structs_by p.message p.limit bytes) is
-    ∙ list_as_structs p.message p.limit bytes plain _ 1 _ (p.nesting - 1) words_are refl children (ap (λ (f : LinsjoarPlace). f.nesting) first_is ∙ enters.nesting))
+    ∙ list_as_structs p.message p.limit bytes plain _ 1 _ (p.nesting - 1) words_are refl children (ap (λ (f : LinsjoarPlace). f.nesting) first_is ∙ enters.nesting)) in
+    (read, within)

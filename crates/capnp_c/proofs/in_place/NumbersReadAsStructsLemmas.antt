@@ -15,7 +15,7 @@ use Rattle.capnp_wire.specs.Prelude.{Pointer, IsUpgradedStructs, number_struct, 
 use Rattle.capnp_wire.proofs.views.UpgradedListReadAsStructsLemmas.{nothings_upgraded, numbers_upgraded, some_element}
 use Rattle.capnp_c.specs.Entering.{Enters}
 use Rattle.capnp_c.specs.Reading.{words_at}
-use Rattle.capnp_c.specs.ReadingLists.{word_from, number_at, numbers_along, data_along, pointers_along, structs_by}
+use Rattle.capnp_c.specs.ReadingLists.{StructsWithin, word_from, number_at, numbers_along, data_along, pointers_along, structs_by}
 use Rattle.capnp_c.specs.declared.reading.entered.Entered.{Entered}
 use Rattle.capnp_c.specs.declared.reading.list.LinsjoarList.{LinsjoarList}
 use Rattle.capnp_c.specs.declared.reading.place.LinsjoarPlace.{LinsjoarPlace}
@@ -84,6 +84,16 @@ number_bytes bytes start len i fits within inside =
     ∙ ap (λ l. number_of 256 (take len l)) (drop-drop a at bytes)
     ∙ ap (λ k. number_of 256 (take len (drop k bytes))) whole
 
+-- the word that has the first byte of such a number lies within the bytes
+number_word_within : (p : Pointer) (bytes : List ℕ) (entered : Entered) (size : ElementSize) (n len i : ℕ) → Enters p bytes entered
+    → entered.object.body ≡ Numbers size n → width (code_of size) ≡ 8 * len → 0 < len → i < n → entered.start + 8 * (i * len / 8) + 8 ≤ length bytes
+number_word_within p bytes entered size n len i enters body wide some less =
+    let w = width (code_of size) in
+    let room : room_of entered.object.body ≡ words_for n w = ap room_of body in
+    let at = in_words i w n less (omega (arith, wide, some)) in
+    let place : i * len / 8 ≡ w * i / 64 = omega (arith, ap (λ k. k * i) wide) in
+    omega (arith, place, at, room, enters.within)
+
 numbers_data : (p : Pointer) (bytes : List ℕ) (entered : Entered) (size : ElementSize) (n len : ℕ) → Enters p bytes entered
     → entered.object.body ≡ Numbers size n → ((i : ℕ) → slice_index_or bytes i 0 < 256) → width (code_of size) ≡ 8 * len → 0 < len → len ≤ 8 → 0 < code_of size
     → ((i : ℕ) → i * len % 8 + len ≤ 8)
@@ -96,18 +106,15 @@ numbers_data p bytes entered size n len enters body fits wide some few coded wit
     let along = numbers_along bytes start 0 w c n in
     let same : along ≡ values = numbers_in_place p bytes entered size n enters body fits in
     let many : length values ≡ n = length-digits (2 ^ w) n _ in
-    let room : room_of entered.object.body ≡ words_for n w = ap room_of body in
     let long = length-data_along bytes start len len n in
     ext_get_or [] (data_along bytes start len len n) (map (number_struct c) values) (long ∙ sym (length-map values (number_struct c) ∙ many))
     (λ i inside.
     let less : i < n = omega (arith, inside, long) in
-    let at = in_words i w n less (omega (arith, wide, some)) in
     let turned : 0 + i * w ≡ i * (8 * len) = ap (λ k. 0 + i * k) wide ∙ omega arith in
-    let place : i * len / 8 ≡ w * i / 64 = omega (arith, ap (λ k. k * i) wide) in
     let own : slice_index_or values i 0 ≡ number_of 256 (take len (drop (start + i * len) bytes)) =
     ap (λ l. slice_index_or l i 0) (sym same) ∙ numbers_along_at bytes start 0 w c n i less ∙ ap (λ b. number_at bytes start b c) turned
     ∙ ap (λ k. word_from bytes (start + 8 * (i * (8 * len) / 64)) / 2 ^ (i * (8 * len) % 64) % 2 ^ k) wide
-    ∙ number_bytes bytes start len i fits (within i) (omega (arith, place, at, room, enters.within)) in
+    ∙ number_bytes bytes start len i fits (within i) (number_word_within p bytes entered size n len i enters body wide some less) in
     data_along_at bytes start len len n i less
     ∙ one_word bytes (start + i * len) len some few
     ∙ ap (λ x. x ∷ []) (sym own)
@@ -124,7 +131,7 @@ module _ (p : Pointer) (bytes : List ℕ) (entered : Entered) (n : ℕ) (first :
 
   nothings : entered.object.body ≡ Numbers Void n
       → list ≡ record { start = entered.start; first = first; count = n; step = 0; data_len = 0; pointers = 0; code = 0 }
-      → IsUpgradedStructs p (structs_by p.message p.limit bytes list)
+      → IsUpgradedStructs p (structs_by p.message p.limit bytes list) × StructsWithin list bytes
   nothings body is =
       let w = entered.object.start.word in
       let plain : LinsjoarList = record { start = entered.start; first = first; count = n; step = 0; data_len = 0; pointers = 0; code = 0 } in
@@ -133,27 +140,35 @@ module _ (p : Pointer) (bytes : List ℕ) (entered : Entered) (n : ℕ) (first :
       ap (λ k. data_along bytes k 0 0 n) begin ∙ data_there p bytes entered 0 0 n 0 enters (omega arith) in
       let children : pointers_along first.segment first.word 0 0 n ≡ pointer_places entered.object.start.segment (w + 0) 0 0 n =
       no_pointers_along first.segment first.word 0 n ∙ sym (no_pointer_places entered.object.start.segment (w + 0) n) in
-      nothings_upgraded p entered.object n (elements_without_data 0 n) (structs_by p.message p.limit bytes list) enters.object body refl
-      (ap (structs_by p.message p.limit bytes) is ∙ list_as_structs p.message p.limit bytes plain _ 0 _ (p.nesting - 1) words_are refl children nesting_is)
+      let within : StructsWithin list bytes = subst (λ l. StructsWithin l bytes) (sym is) (λ i less. omega (arith, enters.within)) in
+      let read = nothings_upgraded p entered.object n (elements_without_data 0 n) (structs_by p.message p.limit bytes list) enters.object body refl
+      (ap (structs_by p.message p.limit bytes) is ∙ list_as_structs p.message p.limit bytes plain _ 0 _ (p.nesting - 1) words_are refl children nesting_is) in
+      (read, within)
 
   some_numbers : (size : ElementSize) (len : ℕ) → entered.object.body ≡ Numbers size n → ((i : ℕ) → slice_index_or bytes i 0 < 256)
       → code_of size ≢ 1 → width (code_of size) ≡ 8 * len → 0 < len → len ≤ 8 → 0 < code_of size → ((i : ℕ) → i * len % 8 + len ≤ 8)
       → list ≡ record { start = entered.start; first = first; count = n; step = 8 * len; data_len = len; pointers = 0; code = 0 }
-      → IsUpgradedStructs p (structs_by p.message p.limit bytes list)
+      → IsUpgradedStructs p (structs_by p.message p.limit bytes list) × StructsWithin list bytes
   some_numbers size len body fits no_bits wide some few coded within is =
       let values = elements (words_of entered.object.segment.now) entered.object.start.word (code_of size) n in
       let plain : LinsjoarList = record { start = entered.start; first = first; count = n; step = 8 * len; data_len = len; pointers = 0; code = 0 } in
       let in_bytes : 8 * len / 8 ≡ len = omega arith in
       let words_are : data_along bytes entered.start (8 * len / 8) len n ≡ map (number_struct (code_of size)) values =
       ap (λ k. data_along bytes entered.start k len n) in_bytes ∙ numbers_data p bytes entered size n len enters body fits wide some few coded within in
-      numbers_upgraded p entered.object size n values (structs_by p.message p.limit bytes list) enters.object body no_bits refl
+      let inside : StructsWithin list bytes = subst (λ l. StructsWithin l bytes) (sym is)
+      (λ i less.
+      let turned : i * (8 * len / 8) ≡ i * len = ap (λ k. i * k) in_bytes in
+      let whole = number_word_within p bytes entered size n len i enters body wide some less in
+      omega (arith, turned, whole, within i)) in
+      let read = numbers_upgraded p entered.object size n values (structs_by p.message p.limit bytes list) enters.object body no_bits refl
       (ap (structs_by p.message p.limit bytes) is
-      ∙ list_as_structs p.message p.limit bytes plain _ 0 _ (p.nesting - 1) words_are refl (no_pointers_along first.segment first.word (8 * len / 64) n) nesting_is)
+      ∙ list_as_structs p.message p.limit bytes plain _ 0 _ (p.nesting - 1) words_are refl (no_pointers_along first.segment first.word (8 * len / 64) n) nesting_is) in
+      (read, inside)
 
   pub numbers_as_structs : (size : ElementSize) (bits : ℕ) → entered.object.body ≡ Numbers size n → ((i : ℕ) → slice_index_or bytes i 0 < 256)
       → bits ≡ width (code_of size) → bits ≢ 1
       → list ≡ record { start = entered.start; first = first; count = n; step = bits; data_len = bits / 8; pointers = 0; code = 0 }
-      → IsUpgradedStructs p (structs_by p.message p.limit bytes list)
+      → IsUpgradedStructs p (structs_by p.message p.limit bytes list) × StructsWithin list bytes
   numbers_as_structs Void bits body fits wide more is = nothings body (is ∙ ap (λ (b : ℕ). stepped b) wide)
   numbers_as_structs Bit bits body fits wide more is = absurd (more wide)
   numbers_as_structs Byte bits body fits wide more is =

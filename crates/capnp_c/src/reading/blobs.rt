@@ -1,9 +1,9 @@
 //! `Text` and `Data`.
 ghost use Rattle.std.specs.Prelude.{◌≡◌, ◌+◌, ◌≤◌, ◌++◌, ◌∷◌, [], ℕ, List, length, take, drop, MatchOption, MatchResult};
 ghost use Rattle.capnp_layout.specs.Prelude.{numbers};
-ghost use Rattle.capnp_wire.specs.Prelude.{Pointer, Reads, IsText, IsData, TakesText, TakesNumbers, TextFormError, NumbersFormError, form_of};
+ghost use Rattle.capnp_wire.specs.Prelude.{Pointer, IsText, TakesText, TakesNumbers, TextFormError, NumbersFormError, form_of};
 ghost use Rattle.capnp_c.specs.Entering.{pointer_among, Enters};
-ghost use Rattle.capnp_c.specs.Reading.{ReadError, TakesOff};
+ghost use Rattle.capnp_c.specs.Reading.{ReadError, TakesOff, ShowsText, ShowsData};
 ghost use Rattle.capnp_c.specs.ReadingExports.{Follows};
 
 use crate::reading::INVALID_ARGUMENT;
@@ -39,7 +39,7 @@ pub extern "C" fn linsjoar_text(
     len: &mut usize,
 ) -> u8
     ensures { Follows reader.old reader.new bytes.now pointer.now
-        (λ place. Reads place (λ form. IsText form (take len.new (drop start.new bytes.now))))
+        (λ place. ShowsText place bytes.now start.new len.new)
         TakesText TextFormError ((start.new ≡ 0) × (len.new ≡ 0)) result }
 {
     *start = 0;
@@ -69,7 +69,7 @@ pub extern "C" fn linsjoar_data(
     len: &mut usize,
 ) -> u8
     ensures { Follows reader.old reader.new bytes.now pointer.now
-        (λ place. Reads place (λ form. IsData form (take len.new (drop start.new bytes.now))))
+        (λ place. ShowsData place bytes.now start.new len.new)
         (TakesNumbers 2) (NumbersFormError 2) ((start.new ≡ 0) × (len.new ≡ 0)) result }
 {
     *start = 0;
@@ -96,8 +96,7 @@ fn text_at(
 ) -> Result<Blob>
     requires { segments.now.bytes.now ≡ bytes.now }
     ensures { let place = pointer_among segments.now reader.now pointer.now in MatchResult result
-        (λ text. Reads place (λ form. IsText form (take text.len (drop text.start bytes.now)))
-        × TakesOff place text.words_left)
+        (λ text. ShowsText place bytes.now text.start text.len × TakesOff place text.words_left)
         (λ error. ReadError place TextFormError error.kind) }
 {
     match enter(segments, reader, pointer)? {
@@ -114,8 +113,7 @@ fn data_at(
 ) -> Result<Blob>
     requires { segments.now.bytes.now ≡ bytes.now }
     ensures { let place = pointer_among segments.now reader.now pointer.now in MatchResult result
-        (λ blob. Reads place (λ form. IsData form (take blob.len (drop blob.start bytes.now)))
-        × TakesOff place blob.words_left)
+        (λ blob. ShowsData place bytes.now blob.start blob.len × TakesOff place blob.words_left)
         (λ error. ReadError place (NumbersFormError 2) error.kind) }
 {
     match enter(segments, reader, pointer)? {
@@ -159,6 +157,7 @@ fn text_of(entered: &Entered, bytes: &[u8]) -> Result<Blob>
     requires { (place : Pointer) × Enters place bytes.now entered.now }
     ensures { MatchResult result
         (λ text. IsText (form_of entered.now.object) (take text.len (drop text.start bytes.now))
+        × (text.start + text.len ≤ length bytes.now)
         × (text.words_left ≡ entered.now.words_left))
         (λ error. TextFormError (form_of entered.now.object) error.kind) }
 {

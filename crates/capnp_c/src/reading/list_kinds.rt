@@ -6,7 +6,7 @@ ghost use Rattle.capnp_layout.specs.declared.object.Body.{Body};
 ghost use Rattle.capnp_wire.specs.Prelude.{Pointer, ReadsAsNumbers, TakesFields, TakesFirstPointers, TakesAsStructs, IsUpgradedPointers, IsUpgradedStructs, form_of};
 ghost use Rattle.capnp_wire.specs.UpgradedViews.{IsFirstField};
 ghost use Rattle.capnp_c.specs.Entering.{Enters};
-ghost use Rattle.capnp_c.specs.ReadingLists.{ShowsList, TakesList, numbers_in, pointers_by, structs_by};
+ghost use Rattle.capnp_c.specs.ReadingLists.{ShowsList, TakesList, NumbersWithin, StructsWithin, numbers_in, pointers_by, structs_by};
 
 use crate::reading::element_kind::ElementKind;
 use crate::reading::entered::Entered;
@@ -40,7 +40,8 @@ fn as_numbers(entered: &Entered, bytes: &[u8], size: ElementSize) -> Option<Lins
     requires { (place : Pointer) × Enters place bytes.now entered.now }
     ensures { let form = form_of entered.now.object in MatchOption result
         (TakesFields (code_of size) form → ⊥)
-        (λ list. ReadsAsNumbers (code_of size) form (numbers_in (code_of size) bytes.now list)) }
+        (λ list. ReadsAsNumbers (code_of size) form (numbers_in (code_of size) bytes.now list)
+        × NumbersWithin (code_of size) list bytes.now) }
 {
     let _bytes = bytes;
     let body = entered.object.body;
@@ -93,7 +94,8 @@ fn as_structs(entered: &Entered, bytes: &[u8]) -> Option<LinsjoarList>
     requires { (place : Pointer) × Enters place bytes.now entered.now }
     ensures { (place : Pointer) → Enters place bytes.now entered.now → MatchOption result
         (TakesAsStructs (form_of entered.now.object) → ⊥)
-        (λ list. IsUpgradedStructs place (structs_by place.message place.limit bytes.now list)) }
+        (λ list. IsUpgradedStructs place (structs_by place.message place.limit bytes.now list)
+        × StructsWithin list bytes.now) }
 {
     match entered.object.body {
         Body::Struct(_) => None,
@@ -130,7 +132,8 @@ fn numbers_as_structs(
     requires numbers { entered.now.object.body ≡ Body.Numbers size count }
     ensures { (place : Pointer) → Enters place bytes.now entered.now → MatchOption result
         (TakesAsStructs (form_of entered.now.object) → ⊥)
-        (λ list. IsUpgradedStructs place (structs_by place.message place.limit bytes.now list)) }
+        (λ list. IsUpgradedStructs place (structs_by place.message place.limit bytes.now list)
+        × StructsWithin list bytes.now) }
 {
     let _bytes = bytes;
     let bits = size.bits() as u32;

@@ -2,9 +2,9 @@
 ghost use Rattle.std.specs.Prelude.{◌≡◌, ◌+◌, ◌*◌, ◌/◌, ◌≤◌, length, MatchOption, MatchResult};
 ghost use Rattle.capnp_layout.specs.Prelude.{room_of};
 ghost use Rattle.capnp_layout.specs.declared.pointer.StructSize.{StructSize};
-ghost use Rattle.capnp_wire.specs.Prelude.{IsStruct, TakesStruct, StructFormError};
+ghost use Rattle.capnp_wire.specs.Prelude.{TakesStruct, StructFormError};
 ghost use Rattle.capnp_c.specs.Entering.{pointer_among};
-ghost use Rattle.capnp_c.specs.Reading.{ReadError, TakesOff, struct_by};
+ghost use Rattle.capnp_c.specs.Reading.{ReadError, TakesOff, ShowsStruct};
 ghost use Rattle.capnp_c.specs.ReadingExports.{Follows, FindsPointer, no_struct};
 
 use crate::reading::INVALID_ARGUMENT;
@@ -65,7 +65,7 @@ pub extern "C" fn linsjoar_struct(
     fields: &mut LinsjoarStruct,
 ) -> u8
     ensures { Follows reader.old reader.new bytes.now pointer.now
-        (λ place. IsStruct place (struct_by place.message place.limit bytes.now fields.new))
+        (λ place. ShowsStruct place bytes.now fields.new)
         TakesStruct StructFormError (fields.new ≡ no_struct) result }
 {
     *fields = LinsjoarStruct::empty(LinsjoarPlace::nowhere(0));
@@ -89,8 +89,7 @@ fn struct_at(
     pointer: &LinsjoarPlace,
 ) -> Result<ReadStruct>
     ensures { let place = pointer_among segments.now reader.now pointer.now in MatchResult result
-        (λ found. IsStruct place
-        (struct_by place.message place.limit segments.now.bytes.now found.fields)
+        (λ found. ShowsStruct place segments.now.bytes.now found.fields
         × TakesOff place found.words_left)
         (λ error. ReadError place StructFormError error.kind) }
 {

@@ -16,7 +16,8 @@ returns-in-Ok c =
     let q = pointer_among segments c.args.reader.now c.args.pointer.now in
     let same = same_pointer segments c.args.reader.now c.args.bytes.now c.args.pointer.now known.1 known.2 in
     let shown = c.in-Ok.ensures.0 in
-    follows_object _ _ _ _ _ _ _ c.in-Ok.blob.words_left q (numbers_decide 2) same known.0 shown c.in-Ok.ensures.1 (readable q (TakesNumbers 2) shown.0 (data_accepted q _ shown) shown.1 shown.2.1)
+    let read = shown.0 in
+    follows_object _ _ _ _ _ _ _ c.in-Ok.blob.words_left q (numbers_decide 2) same known.0 shown c.in-Ok.ensures.1 (readable q (TakesNumbers 2) read.0 (data_accepted q _ read) read.1 read.2.1)
 
 pub returns-in-Err : goal.returns-in-Err
 returns-in-Err c =

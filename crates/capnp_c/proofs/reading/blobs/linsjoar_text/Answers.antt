@@ -16,7 +16,8 @@ returns-in-Ok c =
     let q = pointer_among segments c.args.reader.now c.args.pointer.now in
     let same = same_pointer segments c.args.reader.now c.args.bytes.now c.args.pointer.now known.1 known.2 in
     let shown = c.in-Ok.ensures.0 in
-    follows_object _ _ _ _ _ _ _ c.in-Ok.text.words_left q text_decides same known.0 shown c.in-Ok.ensures.1 (readable q TakesText shown.0 (text_accepted q _ shown) shown.1 shown.2.1)
+    let read = shown.0 in
+    follows_object _ _ _ _ _ _ _ c.in-Ok.text.words_left q text_decides same known.0 shown c.in-Ok.ensures.1 (readable q TakesText read.0 (text_accepted q _ read) read.1 read.2.1)
 
 pub returns-in-Err : goal.returns-in-Err
 returns-in-Err c =

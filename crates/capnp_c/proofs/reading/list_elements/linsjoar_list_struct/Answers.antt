@@ -1,5 +1,5 @@
 -- An element is where the step leads; past the last one it is empty.
-use Rattle.std.proofs.Common.{inl, inr, Some, refl, sym, ap, ◌∙◌, arith}
+use Rattle.std.proofs.Common.{◌+◌, inl, inr, Some, refl, sym, ap, ◌∙◌, arith}
 use Rattle.capnp_c.specs.declared.reading.place.LinsjoarPlace.{LinsjoarPlace}
 use Rattle.capnp_c.specs.declared.reading.structs.LinsjoarStruct.{LinsjoarStruct}
 use Rattle.capnp_c.proofs.in_place.ListByElementKindLemmas.{code_of_structs}
@@ -19,6 +19,7 @@ returns-then-index-list c =
             (ap (λ (f : LinsjoarStruct). f.data_len) fields.ensures) (ap (λ (f : LinsjoarStruct). f.pointers) fields.ensures) c.if-index-list.true,
       );
       accepted = λ is any. refl;
+      within = λ zero bytes all. omega (arith, ap (λ (f : LinsjoarStruct). f.start + f.data_len) fields.ensures);
       other = λ not. absurd (not code);
       outside = λ less past. absurd (omega (arith, less, c.if-index-list.true));
       stays = λ more. absurd (omega (arith, more));
@@ -39,6 +40,7 @@ returns c =
             c.if-index-list.false begin refl (ap (λ (p : LinsjoarPlace). p.word) place) (ap (λ (p : LinsjoarPlace). p.segment) place) refl,
       );
       accepted = λ is any. refl;
+      within = λ zero bytes all. omega (arith, begin, all c.args.index c.if-index-list.false);
       other = λ not. absurd (not code);
       outside = λ less past. elim past [
         | inl far ↦ absurd (omega (arith, far, begin))

@@ -2,9 +2,9 @@
 use Rattle.std.proofs.Common.{◌∙◌, ap, subst}
 use Rattle.capnp_c.specs.Entering.{pointer_among}
 use Rattle.capnp_c.proofs.in_place.FollowedPointerResultLemmas.{same_pointer, follows_none, follows_object, follows_error, readable}
-use Rattle.capnp_wire.specs.Prelude.{IsStruct, TakesStruct}
+use Rattle.capnp_wire.specs.Prelude.{TakesStruct}
 use Rattle.capnp_wire.proofs.views.RejectedExcludesAcceptedLemmas.{struct_decides, struct_accepted}
-use Rattle.capnp_c.specs.Reading.{struct_by}
+use Rattle.capnp_c.specs.Reading.{ShowsStruct}
 use Rattle.capnp_c.specs.declared.reading.place.LinsjoarPlace.{LinsjoarPlace}
 use Rattle.capnp_c.specs.declared.reading.structs.LinsjoarStruct.{LinsjoarStruct}
 use Rattle.capnp_c.proofs.reading.structs.linsjoar_struct.Goals as goal
@@ -21,8 +21,9 @@ returns-in-Ok c =
     let known = c.in-Some.ensures in
     let q = pointer_among segments c.args.reader.now c.args.pointer.now in
     let same = same_pointer segments c.args.reader.now c.args.bytes.now c.args.pointer.now known.1 known.2 in
-    let shown = subst (λ b. IsStruct q (struct_by q.message q.limit b c.in-Ok.found.fields)) known.2 c.in-Ok.ensures.0 in
-    follows_object _ _ _ _ _ _ _ c.in-Ok.found.words_left q struct_decides same known.0 shown c.in-Ok.ensures.1 (readable q TakesStruct shown.shown.0 (struct_accepted q _ shown) shown.shown.1 shown.shown.2.2)
+    let shown = subst (λ b. ShowsStruct q b c.in-Ok.found.fields) known.2 c.in-Ok.ensures.0 in
+    let read = shown.0 in
+    follows_object _ _ _ _ _ _ _ c.in-Ok.found.words_left q struct_decides same known.0 shown c.in-Ok.ensures.1 (readable q TakesStruct read.shown.0 (struct_accepted q _ read) read.shown.1 read.shown.2.2)
 
 pub returns-in-Err : goal.returns-in-Err
 returns-in-Err c =

@@ -29,7 +29,7 @@ returns-in-None c =
     let p = pointer_among c.args.segments.now c.args.reader.now c.args.pointer.now in
     let none = rw c.in-None.is at c.in_ok-entered.ensures in
     let nesting = ap (λ (f : LinsjoarStruct). f.first.nesting) c.empty.ensures ∙ ap (λ (place : LinsjoarPlace). place.nesting) c.nowhere_below.ensures in (
-      no_struct_there p c.args.segments.now.bytes.now c.empty.result none (ap (λ (f : LinsjoarStruct). f.data_len) c.empty.ensures)
-          (ap (λ (f : LinsjoarStruct). f.pointers) c.empty.ensures) nesting,
+      no_struct_there p c.args.segments.now.bytes.now c.empty.result none (ap (λ (f : LinsjoarStruct). f.start) c.empty.ensures)
+          (ap (λ (f : LinsjoarStruct). f.data_len) c.empty.ensures) (ap (λ (f : LinsjoarStruct). f.pointers) c.empty.ensures) nesting,
       nothing_taken_off p c.args.reader.now.words_left refl none,
     )
