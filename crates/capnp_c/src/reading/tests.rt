@@ -120,7 +120,10 @@ fn structs_and_blobs(rt: HostRuntime) {
         linsjoar_data(bytes, &mut reader, &pointer, &mut start, &mut len),
         0
     );
-    assert_eq!(rt; (start, len, reader.words_left), (48, 3, left - 1));
+    assert_eq!(rt;
+        (start, len, reader.words_left),
+        (48, 3, left.saturating_sub(1))
+    );
 }
 
 #[test]
