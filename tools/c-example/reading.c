@@ -49,7 +49,8 @@ static void read_a_struct(void) {
     NUMBER(LINSJOAR_READ_LIMIT_EXCEEDED, linsjoar_struct(message, MESSAGE_LEN, &poor, &root, &fields));
     NUMBER(3, poor.words_left);
     NUMBER(0, fields.start + fields.data_len + fields.pointers);
-    NUMBER(LINSJOAR_INVALID_ARGUMENT, linsjoar_struct(message, 15, &poor, &root, &fields));
+    NUMBER(LINSJOAR_INVALID_ARGUMENT, linsjoar_struct(message, 7, &poor, &root, &fields));
+    NUMBER(LINSJOAR_POINTER_OUT_OF_BOUNDS, linsjoar_struct(message, 15, &poor, &root, &fields));
     NUMBER(0, linsjoar_struct(message, MESSAGE_LEN, &reader, &root, &fields));
     NUMBER(16, fields.start);
     NUMBER(8, fields.data_len);
