@@ -1,6 +1,6 @@
 //! Unpacking groups of one word, one after another.
 //!
-//! As many words as surely fit are unpacked, by the most bytes that such a group can have, so no
+//! Where as many bytes are shown as such a group can have, and a word of the buffer is left, no
 //! other test of room is needed. One look-up by the tag then says where the next group begins.
 //! Speed: words of every kind may alternate, as in small records (`capnp_ls unpack`).
 ghost use Rattle.std.specs.Prelude.{◌≡◌, ◌<◌, ◌≤◌, length, IfSome};
@@ -13,13 +13,43 @@ use crate::unpack::Progress;
 // The most bytes that a group of one word can have: a tag, a word and a count.
 pub(crate) const REACH: usize = 10;
 
+// With so many bytes shown it pays to count the words beforehand.
+const MANY: usize = 64;
+
 // Fills the front of a buffer with the groups of one word at the front of what is shown.
 //
-// It ends at a run, and after as many words as surely fit what is shown: with 10 bytes one, with 16
-// bytes more another. No group takes a branch of its own.
-// Speed: this number is known beforehand, so a word takes one test of room.
+// It ends at a run, and where a group or its word might not fit. No group takes a branch of its
+// own.
 #[inline(always)]
 pub(crate) fn unpack_single_words(shown: &[u8], buffer: &mut [u8]) -> Progress
+    ensures { Unpacked shown.now buffer.new result.used result.filled }
+{
+    if shown.len() >= MANY {
+        return unpack_many_words(shown, buffer);
+    }
+    let mut used = 0;
+    let mut filled = 0;
+    if shown.len() < REACH || buffer.len() < 8 {
+        return Progress { used, filled };
+    }
+    let last = shown.len() - REACH;
+    let room = buffer.len() - 8;
+    while used <= last && filled <= room {
+        let Some(group) = unpack_single_word(&shown[used..], &mut buffer[filled..]) else {
+            break;
+        };
+        used += group;
+        filled += 8;
+    }
+    Progress { used, filled }
+}
+
+// The same for as many words as surely fit what is shown: with 10 bytes one, with 16 bytes more
+// another. It ends at a run.
+// Speed: this number is known beforehand, so a word takes one test of room. Where a source shows
+// few bytes at a time, counting costs more than it saves (`capnp_bench trickle`).
+#[inline(always)]
+fn unpack_many_words(shown: &[u8], buffer: &mut [u8]) -> Progress
     ensures { Unpacked shown.now buffer.new result.used result.filled }
 {
     let mut used = 0;
