@@ -2,7 +2,7 @@
 
 In a page of `PAGES`, under a line `path` that stands alone, each ```rust block has to stand in that file, line by line
 and in one piece. So has each example of a public item's documentation, but for the indentation, in the tests of a file
-examples.rt below crates/*/src, or of a file in a folder examples/ there.
+examples.rt below crates/*/src, or of a file in tools/consumer/examples/.
 """
 import re
 
@@ -36,7 +36,7 @@ def check_page(tree, page):
 
 
 def check_examples(tree):
-    tests = tree.sources(r"crates/\w+/src/(.*/)?examples(/\w+)?\.rt")
+    tests = tree.sources(r"crates/\w+/src/(.*/)?examples\.rt|tools/consumer/examples/\w+")
     tested = "\n" + "".join(line.strip() + "\n" for path in tests for line in tree.text(path).rstrip("\n").split("\n"))
     for path in tree.sources(r"crates/\w+/src/.*\.rt"):
         example = None

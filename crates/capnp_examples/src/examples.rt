@@ -1,21 +1,4 @@
-//! The examples of public items' documentation, which `tools/lint code` compares with these.
-mod allocators;
-mod basics;
-mod building;
-mod devices;
-mod framed;
-mod framed_in_place;
-mod framing;
-mod layout;
-mod lists;
-mod orphans;
-mod packed;
-mod pointers;
-mod printing;
-mod streams;
-mod upgraded;
-mod values;
-
+//! The examples of modules and of pages, which `tools/lint code` compares with these.
 use capnp::io::{Read, Write};
 use capnp::message::{
     Builder, DEFAULT_READER_OPTIONS, HeapAllocator, SegmentArray, SingleSegmentAllocator,

@@ -1,4 +1,4 @@
-//! The examples in the documentation of public items, as tests. The crate holds nothing else.
+//! The examples of modules and of pages, as tests. The crate holds nothing else.
 #![tactic(auto)]
 
 #[cfg(test)]

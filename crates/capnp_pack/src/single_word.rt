@@ -13,7 +13,7 @@ use crate::unpack::Progress;
 // The most bytes that a group of one word can have: a tag, a word and a count.
 pub(crate) const REACH: usize = 10;
 
-// With so many bytes shown it pays to count the words beforehand.
+// Where this many bytes are shown it pays to count the words beforehand.
 const MANY: usize = 64;
 
 // Fills the front of a buffer with the groups of one word at the front of what is shown.
