@@ -16,13 +16,6 @@ const SET: &[u8] = b"\0\0\0\0\x03\0\0\0\
     \xef\xbe\xad\xde\0\0\xc0\x3f\
     \xff\xff\xff\xff\xff\xff\xff\xff";
 
-// The same struct, in which the second byte is another one, and the lowest bit is zero again.
-#[rattlefmt::skip]
-const SET_AGAIN: &[u8] = b"\0\0\0\0\x03\0\0\0\
-    \0\x05\xfe\xff\0\0\0\x80\
-    \xef\xbe\xad\xde\0\0\xc0\x3f\
-    \xff\xff\xff\xff\xff\xff\xff\xff";
-
 // Fields that have defaults: a bool that is not its default, one that is, and a byte whose bits all
 // differ from the default's. The others are 301 where the default is 300, the default of a word,
 // and a float that differs from its default in the sign.
@@ -46,14 +39,6 @@ fn set() -> Section {
 #[test]
 fn fields_are_set_by_their_widths(rt: HostRuntime) -> Result<()> {
     compare_by_each::<any_struct::Owned, Section>(&rt, &set(), SET)
-}
-
-#[test]
-fn a_field_is_set_over_its_bits_alone(rt: HostRuntime) -> Result<()> {
-    let again = set()
-        .with_data_field::<u8>(1, 5)
-        .with_data_field::<bool>(0, false);
-    compare_by_each::<any_struct::Owned, Section>(&rt, &again, SET_AGAIN)
 }
 
 #[test]

@@ -69,32 +69,6 @@ const DEEP: ErrorKind = ErrorKind::NestingLimitExceeded;
 
 const TOO_LARGE: ErrorKind = ErrorKind::CanonicalTooLarge;
 
-// Roots that fail, each with one kind in all three calls.
-#[rattlefmt::skip]
-const ROOTS: [(&[&[u8]], ErrorKind); 10] = [
-    (&[], ErrorKind::InvalidSegmentId(0)),
-    (&[b""], ErrorKind::PointerOutOfBounds),
-    (&[b"\x04\0\0\0\0\0\0\0"], ErrorKind::PointerOutOfBounds),
-    (&[b"\x03\0\0\0\0\0\0\0"], ErrorKind::CapabilityRefused),
-    (&[b"\x02\0\0\0\x07\0\0\0"], ErrorKind::InvalidSegmentId(7)),
-    // Landing pads that point to landing pads.
-    (&[b"\x02\0\0\0\x01\0\0\0", b"\x02\0\0\0\0\0\0\0"], ErrorKind::PointerOutOfBounds),
-    (&[b"\x06\0\0\0\x01\0\0\0", b"\x06\0\0\0\0\0\0\0\x01\0\0\0\0\0\0\0"], ErrorKind::PointerOutOfBounds),
-    // A struct that holds itself.
-    (&[b"\0\0\0\0\0\0\x01\0\xfc\xff\xff\xff\0\0\x01\0"], DEEP),
-    // 536,870,911 nothings, and 16,777,216 empty structs.
-    (&[b"\x01\0\0\0\xf8\xff\xff\xff"], LIMITED),
-    (&[b"\x01\0\0\0\x07\0\0\0\0\0\0\x04\0\0\0\0"], LIMITED),
-];
-
-#[test]
-fn failed_roots(rt: HostRuntime) -> Result<()> {
-    for (segments, kind) in &ROOTS {
-        retried!(assert_failure(&rt, segments, DEFAULT_LIMIT, [*kind; 3]))?;
-    }
-    Ok(())
-}
-
 const NOTHINGS: &[u8] = b"\x01\0\0\0\xf8\xff\xff\xff";
 
 const EMPTY_STRUCTS: &[u8] = b"\x01\0\0\0\x07\0\0\0\0\0\0\x04\0\0\0\0";

@@ -1,14 +1,13 @@
 //! Lists that were read from one message and are set in another, by hand-computed bytes: what no
 //! contract says, above all that they succeed.
 use crate::fixtures::expect;
-use crate::value_lists::{LISTS, NARROW, NO_STRUCTS, PHONES, WIDE};
-use crate::values::{GROUP, NAMES, NO_POINTERS, compare_by_each, compare_canonical, measured};
+use crate::value_lists::{LISTS, NARROW, PHONES, WIDE};
+use crate::values::{GROUP, NAMES, compare_by_each, compare_canonical, measured};
 use capnp_frame::message::{ReaderSegments, SegmentArray};
 use capnp_frame::{ErrorKind, Result};
 use capnp_object_tests::arenas::{Walked, arena_of, plain_arena, root_as};
 use capnp_values::{Field, NoFields, StructValue};
 use capnp_wire::arena::ReaderArena;
-use capnp_wire::primitive_element::PrimitiveElement;
 use capnp_wire::traits::{FromPointerReader, SetterInput};
 use capnp_wire::{any_pointer_list, any_struct, list_list, primitive_list, struct_list, text_list};
 use std::process::Abort;
@@ -70,50 +69,6 @@ fn lists_of_pointers_are_set_again(rt: HostRuntime) -> Result<()> {
     compare_canonical::<text_list::Owned, Texts<'_>>(&rt, &list, NAMES)?;
     let lists = plain_arena(&[LISTS]);
     compare_read::<_, list_list::Owned<primitive_list::Owned<u16>>, Lists<'_>>(&rt, &lists, LISTS)
-}
-
-// Null is a list of no elements, and is set as one.
-#[test]
-fn lists_of_null_are_set_as_empty_ones(rt: HostRuntime) -> Result<()> {
-    let null = plain_arena(&[&[0; 8]]);
-    compare_read::<_, struct_list::Owned, Structs<'_>>(&rt, &null, NO_STRUCTS)?;
-    compare_read::<_, any_pointer_list::Owned, Pointers<'_>>(&rt, &null, NO_POINTERS)?;
-    compare_read::<_, text_list::Owned, Texts<'_>>(&rt, &null, NO_POINTERS)?;
-    compare_numbers::<u32>(&rt, &[0; 8], b"\x01\0\0\0\x04\0\0\0")
-}
-
-// Reads a list of numbers in the same way.
-fn compare_numbers<N: PrimitiveElement>(
-    rt: &(impl Abort + AllocGlobal),
-    segment: &[u8],
-    expected: &[u8],
-) -> Result<()> {
-    let segments = [segment];
-    let arena = plain_arena(&segments);
-    compare_read::<_, primitive_list::Owned<N>, primitive_list::Reader<'_, N>>(rt, &arena, expected)
-}
-
-// What is after the last element in its word is left out.
-#[test]
-fn lists_of_numbers_are_set_again(rt: HostRuntime) -> Result<()> {
-    compare_numbers::<u8>(
-        &rt,
-        b"\x01\0\0\0\x1a\0\0\0\x01\x02\x03\x04\x05\0\0\0",
-        b"\x01\0\0\0\x1a\0\0\0\x01\x02\x03\0\0\0\0\0",
-    )?;
-    compare_numbers::<bool>(
-        &rt,
-        b"\x01\0\0\0\x19\0\0\0\xff\xff\0\0\0\0\0\0",
-        b"\x01\0\0\0\x19\0\0\0\x07\0\0\0\0\0\0\0",
-    )?;
-    let halves = b"\x01\0\0\0\x13\0\0\0\x01\0\xff\xff\0\0\0\0";
-    compare_numbers::<i16>(&rt, halves, halves)?;
-    let floats = b"\x01\0\0\0\x0c\0\0\0\0\0\x80\x3f\0\0\0\0";
-    compare_numbers::<f32>(&rt, floats, floats)?;
-    let words = b"\x01\0\0\0\x15\0\0\0\x01\0\0\0\0\0\0\0\xff\xff\xff\xff\xff\xff\xff\xff";
-    compare_numbers::<u64>(&rt, words, words)?;
-    let nothing = b"\x01\0\0\0\x28\0\0\0";
-    compare_numbers::<()>(&rt, nothing, nothing)
 }
 
 // A struct of a number and of a list that was read.

@@ -101,19 +101,21 @@ fn set_what_is_too_large(rt: &(impl Abort + AllocGlobal)) -> Result<()> {
     Ok(())
 }
 
-// Requests of a heap whose first segment has 16 words, in words, and the segments that it hands
-// out.
-const HANDED_OUT: [(u32, &[u8]); 3] = [(1, &[0; 128]), (1, &[0; 256]), (100, &[0; 800])];
+// Requests of a heap whose first segment has 16 words and whose largest has 31, in words, and the
+// segments that it hands out.
+const HANDED_OUT: [(u32, &[u8]); 3] = [(1, &[0; 128]), (1, &[0; 248]), (100, &[0; 800])];
 
 fn next_segment(heap: &mut HeapAllocator, words: u32) -> Result<Vec<u8>> {
     heap.allocate_segment(words)
 }
 
 // A failed allocation changes nothing: the next request has the same size, and the one after it
-// twice that.
+// the most.
 #[test]
 fn a_heap_that_fails(rt: HostRuntime) -> Result<()> {
-    let mut heap = HeapAllocator::new(rt.alloc()).first_segment_words(16);
+    let mut heap = HeapAllocator::new(rt.alloc())
+        .first_segment_words(16)
+        .max_segment_words(31);
     for (words, wanted) in &HANDED_OUT {
         let segment = retried!(next_segment(&mut heap, *words))?;
         expect(&rt, *words, segment.as_slice(), *wanted);

@@ -1,6 +1,6 @@
 //! Lists of structs, of numbers and of lists that are set at the root of a message, by bytes
 //! computed by hand from the encoding document, "Lists" and "Canonicalization".
-use crate::values::{compare_by_each, compare_canonical, expect_too_large};
+use crate::values::{compare_by_each, compare_canonical};
 use capnp_frame::Result;
 use capnp_values::{Field, NoFields, Null, NumberList, PointerList, StructList, StructValue};
 use capnp_wire::primitive_element::PrimitiveElement;
@@ -37,7 +37,7 @@ pub(crate) const NARROW: &[u8] = b"\x01\0\0\0\x27\0\0\0\x08\0\0\0\x01\0\x01\0\
 // No structs of a word and a pointer, and in canonical form of no size; three structs of no size.
 const NO_PHONES: &[u8] = b"\x01\0\0\0\x07\0\0\0\0\0\0\0\x01\0\x01\0";
 
-pub(crate) const NO_STRUCTS: &[u8] = b"\x01\0\0\0\x07\0\0\0\0\0\0\0\0\0\0\0";
+const NO_STRUCTS: &[u8] = b"\x01\0\0\0\x07\0\0\0\0\0\0\0\0\0\0\0";
 
 const THREE_EMPTY: &[u8] = b"\x01\0\0\0\x07\0\0\0\x0c\0\0\0\0\0\0\0";
 
@@ -114,30 +114,6 @@ fn compare_numbers<N: PrimitiveElement + Copy>(
 }
 
 #[test]
-fn lists_of_numbers_are_at_the_root(rt: HostRuntime) -> Result<()> {
-    compare_numbers::<()>(&rt, &[(), (), ()], b"\x01\0\0\0\x18\0\0\0")?;
-    let bits = [true, false, true, true, false, false, false, false, true];
-    compare_numbers::<bool>(&rt, &bits, b"\x01\0\0\0\x49\0\0\0\x0d\x01\0\0\0\0\0\0")?;
-    compare_numbers::<u8>(&rt, &[1, 255], b"\x01\0\0\0\x12\0\0\0\x01\xff\0\0\0\0\0\0")?;
-    compare_numbers::<u16>(
-        &rt,
-        &[1, 0x203, 65535, 4, 5],
-        b"\x01\0\0\0\x2b\0\0\0\x01\0\x03\x02\xff\xff\x04\0\x05\0\0\0\0\0\0\0",
-    )?;
-    compare_numbers::<u32>(
-        &rt,
-        &[1, u32::MAX],
-        b"\x01\0\0\0\x14\0\0\0\x01\0\0\0\xff\xff\xff\xff",
-    )?;
-    compare_numbers::<u64>(
-        &rt,
-        &[1 << 63, 2],
-        b"\x01\0\0\0\x15\0\0\0\0\0\0\0\0\0\0\x80\x02\0\0\0\0\0\0\0",
-    )?;
-    compare_numbers::<u64>(&rt, &[], b"\x01\0\0\0\x05\0\0\0")
-}
-
-#[test]
 fn lists_of_signed_numbers_are_at_the_root(rt: HostRuntime) -> Result<()> {
     compare_numbers::<i8>(
         &rt,
@@ -167,14 +143,4 @@ fn lists_of_lists_are_at_the_root(rt: HostRuntime) -> Result<()> {
         list_list::Owned<primitive_list::Owned<u16>>,
         PointerList<'_, primitive_list::Owned<u16>, Numbers<'_>>,
     >(&rt, &list, LISTS)
-}
-
-// 2^16 data words, and 2^29 elements, are too many for a tag and for a pointer.
-#[test]
-fn too_many_elements_fail(rt: HostRuntime) {
-    let large = [StructValue::new([0; 65536], NoFields)];
-    let list = StructList::new(&large);
-    expect_too_large::<struct_list::Owned, StructList<'_, StructValue<65536, NoFields>>>(
-        &rt, &list,
-    );
 }

@@ -3,8 +3,8 @@
 use crate::building::{expect_segments, far_message};
 use crate::fixtures::expect;
 use capnp_build::allocator::Allocator;
+use capnp_frame::Result;
 use capnp_frame::message::ReaderSegments;
-use capnp_frame::{ErrorKind, Result};
 use capnp_frame_tests::retried;
 use capnp_message::{Builder, HeapAllocator, ScratchSpaceHeapAllocator, SingleSegmentAllocator};
 use capnp_object_tests::arenas::Walked;
@@ -45,11 +45,6 @@ pub(crate) const NAMES: &[u8] = b"\x01\0\0\0\x1e\0\0\0\
 #[rattlefmt::skip]
 pub(crate) const GROUP: &[u8] = b"\0\0\0\0\x01\0\x01\0\x07\0\0\0\0\0\0\0\x01\0\0\0\x16\0\0\0\
     \x05\0\0\0\x22\0\0\0\x05\0\0\0\x1a\0\0\0Ann\0\0\0\0\0Bo\0\0\0\0\0\0";
-
-// A list of two null pointers, which canonical form keeps, and one of none.
-const NULLS: &[u8] = b"\x01\0\0\0\x16\0\0\0\0\0\0\0\0\0\0\0\0\0\0\0\0\0\0\0";
-
-pub(crate) const NO_POINTERS: &[u8] = b"\x01\0\0\0\x06\0\0\0";
 
 const EMPTY: &[u8] = b"\xfc\xff\xff\xff\0\0\0\0";
 
@@ -165,15 +160,6 @@ fn lists_of_pointers_are_at_the_root(rt: HostRuntime) -> Result<()> {
     compare_canonical::<any_struct::Owned, Group<'_>>(&rt, &group, GROUP)
 }
 
-#[test]
-fn lists_of_nulls_are_at_the_root(rt: HostRuntime) -> Result<()> {
-    let nulls = [Null, Null];
-    let list = PointerList::new(&nulls);
-    compare_canonical::<text_list::Owned, PointerList<'_, text::Owned, Null>>(&rt, &list, NULLS)?;
-    let none = PointerList::new(&nulls[..0]);
-    compare_by_each::<text_list::Owned, PointerList<'_, text::Owned, Null>>(&rt, &none, NO_POINTERS)
-}
-
 // Makes a value the root in canonical form, and compares the one segment.
 pub(crate) fn compare_canonical<T, V: SetterInput<T>>(
     rt: &(impl Abort + AllocGlobal),
@@ -209,23 +195,4 @@ pub(crate) fn measured<T, V: SetterInput<T>>(value: &V, canonical: bool) -> Walk
         Ok(words) => Ok(words),
         Err(error) => Err(error.kind),
     }
-}
-
-/// What is returned for a struct of more data words than a pointer can say.
-pub(crate) fn expect_too_large<T, V: SetterInput<T>>(rt: &impl Abort, value: &V) {
-    let failed = Err(ErrorKind::AllocationTooLarge(65536));
-    expect(rt, "65,536 words", measured::<T, V>(value, true), failed);
-}
-
-// A pointer can tell 65,535 data words.
-#[test]
-fn too_many_words_fail(rt: HostRuntime) {
-    let most: StructValue<65535, NoFields> = StructValue::new([0; 65535], NoFields);
-    let found = [
-        measured::<any_struct::Owned, StructValue<65535, NoFields>>(&most, false),
-        measured::<any_struct::Owned, StructValue<65535, NoFields>>(&most, true),
-    ];
-    expect(&rt, "65,535 words", found, [Ok(65535), Ok(0)]);
-    let more: StructValue<65536, NoFields> = StructValue::new([0; 65536], NoFields);
-    expect_too_large::<any_struct::Owned, StructValue<65536, NoFields>>(&rt, &more);
 }

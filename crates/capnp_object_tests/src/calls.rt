@@ -1,6 +1,5 @@
 //! The calls of reading views by hand-computed bytes: what no contract says, above all that they
 //! succeed. Where an allocation fails, these tests may fail.
-mod any_objects;
 mod canonical_messages;
 mod counts;
 mod empty_structs;
@@ -11,7 +10,6 @@ mod lists;
 mod long_lists;
 mod numbers;
 mod objects;
-mod pointer_words;
 mod printing;
 mod traversals;
 mod unlimited_roots;

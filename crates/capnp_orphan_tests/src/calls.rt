@@ -2,10 +2,8 @@
 //! allocation fails, these tests may fail.
 mod callers;
 mod cases;
-mod drafts;
 mod examples;
 mod long_lists;
 mod many_bytes;
 mod read_lists;
 mod schema_types;
-mod trees;

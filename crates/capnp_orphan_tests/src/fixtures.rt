@@ -3,7 +3,7 @@ use capnp::any_struct::StructReader;
 use capnp::message::{DEFAULT_READER_OPTIONS, Reader};
 use capnp_frame::Result;
 use capnp_orphans::Orphanage;
-use capnp_wire::{any_pointer, text};
+use capnp_wire::any_pointer;
 use std::fmt::Debug;
 use std::process::Abort;
 
@@ -38,10 +38,4 @@ pub fn message_of(objects: &Orphanage) -> Message<'_> {
 /// The struct at a pointer.
 pub fn fields_at<'a, 'b>(pointer: &Pointer<'a, 'b>) -> Result<Fields<'a, 'b>> {
     pointer.get_as()
-}
-
-/// The text at a pointer.
-pub fn text_at<'a, 'b>(pointer: &Pointer<'a, 'b>) -> Result<&'a [u8]> {
-    let text: text::Reader<'a> = pointer.get_as()?;
-    Ok(text.as_bytes())
 }

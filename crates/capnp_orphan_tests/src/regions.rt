@@ -1,4 +1,4 @@
-//! Regions that are too short, full or used again.
+//! Regions that are full or used again.
 use crate::errors::error_of;
 use crate::fixtures::expect;
 use capnp_frame::{ErrorKind, Result};
@@ -7,15 +7,6 @@ use std::process::Abort;
 
 fn too_many_words(words: u32) -> Option<ErrorKind> {
     Some(ErrorKind::AllocationTooLarge(words))
-}
-
-#[test]
-fn fewer_than_8_bytes_have_no_root(rt: HostRuntime) {
-    let mut region = [7; 7];
-    for len in 0..8 {
-        let failed = Orphanage::in_region(&mut region[..len]);
-        expect(&rt, len, error_of(failed), too_many_words(1));
-    }
 }
 
 const ONE: &[u8] = b"\0\0\0\0\0\0\0\0\x01\0\0\0\0\0\0\0";

@@ -7,6 +7,7 @@ use capnp_message::builder::Builder;
 use capnp_message::heap_allocator::{AllocationStrategy, HeapAllocator};
 use capnp_object_tests::arenas::kind_of;
 use std::alloc::Global;
+use std::process::Abort;
 
 /// A heap that grants a given number of requests, counts them all, and notes the words of the last
 /// one.
@@ -65,17 +66,21 @@ fn asked_heap(alloc: Global, granted: u32) -> Asked {
 }
 
 // A list that finds no room after the root's word.
+fn expect_asked(rt: &(impl Abort + AllocGlobal), words: u32) {
+    let mut allocator = asked_heap(rt.alloc(), 1);
+    let mut message = Builder::new(rt.alloc(), &mut allocator);
+    let failed = kind_of(init_words(&mut message, words));
+    expect(rt, words, failed, Some(ErrorKind::OutOfMemory));
+    assert!(rt; is_null_word(&message));
+    drop(message);
+    let asked = (allocator.requests, allocator.last);
+    expect(rt, words, asked, (2, words.saturating_add(1)));
+}
+
 #[test]
 fn a_second_segment_is_asked_for(rt: HostRuntime) {
-    for words in [1, 2, 63, 1024, 4096, 70_000, (1 << 29) - 1] {
-        let mut allocator = asked_heap(rt.alloc(), 1);
-        let mut message = Builder::new(rt.alloc(), &mut allocator);
-        let failed = kind_of(init_words(&mut message, words));
-        expect(&rt, words, failed, Some(ErrorKind::OutOfMemory));
-        assert!(rt; is_null_word(&message));
-        drop(message);
-        let asked = (allocator.requests, allocator.last);
-        expect(&rt, words, asked, (2, words.saturating_add(1)));
+    for words in &[1, 2, 63, 1024, 4096, 70_000, (1 << 29) - 1] {
+        expect_asked(&rt, *words);
     }
 }
 

@@ -63,7 +63,7 @@ fn expect_read<'a, S: ReaderSegments, T, V: FromPointerReader<'a, S> + SetterInp
     expect_set::<T, V>(rt, case, &list, segment)
 }
 
-// Numbers one after the other, and the list of them that is read of the segment.
+// Numbers one after the other.
 fn expect_numbers<N: PrimitiveElement + Numbered + Copy>(
     rt: &(impl Abort + AllocGlobal),
     case: &str,
@@ -74,9 +74,15 @@ fn expect_numbers<N: PrimitiveElement + Numbered + Copy>(
         all.push(N::at(index))?;
     }
     let list = NumberList::new(&all);
-    expect_set::<capnp_wire::primitive_list::Owned<N>, NumberList<'_, N>>(
-        rt, case, &list, segment,
-    )?;
+    expect_set::<capnp_wire::primitive_list::Owned<N>, NumberList<'_, N>>(rt, case, &list, segment)
+}
+
+// The list of them that is read of the segment.
+fn expect_read_numbers<N: PrimitiveElement>(
+    rt: &(impl Abort + AllocGlobal),
+    case: &str,
+    segment: &[u8],
+) -> Result<()> {
     let segments = [segment];
     let arena = plain_arena(&segments);
     let read: capnp_wire::primitive_list::Reader<'_, N> = root_as(&arena)?;
@@ -85,15 +91,24 @@ fn expect_numbers<N: PrimitiveElement + Numbered + Copy>(
     )
 }
 
+fn expect_both<N: PrimitiveElement + Numbered + Copy>(
+    rt: &(impl Abort + AllocGlobal),
+    case: &str,
+    segment: &[u8],
+) -> Result<()> {
+    expect_numbers::<N>(rt, case, segment)?;
+    expect_read_numbers::<N>(rt, case, segment)
+}
+
 #[test]
 fn long_lists_of_numbers(rt: HostRuntime) -> Result<()> {
     let alloc = rt.alloc();
-    expect_numbers::<()>(&rt, "nothing", &list_of_nothings(alloc, MANY)?)?;
-    expect_numbers::<bool>(&rt, "bools", &list_of_bits(alloc, MANY)?)?;
-    expect_numbers::<u8>(&rt, "bytes", &list_of_numbers(alloc, 1, MANY)?)?;
-    expect_numbers::<i16>(&rt, "two bytes", &list_of_numbers(alloc, 2, MANY)?)?;
-    expect_numbers::<u32>(&rt, "four bytes", &list_of_numbers(alloc, 4, MANY)?)?;
-    expect_numbers::<u64>(&rt, "words", &list_of_numbers(alloc, 8, MANY)?)
+    expect_both::<()>(&rt, "nothing", &list_of_nothings(alloc, MANY)?)?;
+    expect_both::<bool>(&rt, "bools", &list_of_bits(alloc, MANY)?)?;
+    expect_both::<u8>(&rt, "bytes", &list_of_numbers(alloc, 1, MANY)?)?;
+    expect_both::<i16>(&rt, "two bytes", &list_of_numbers(alloc, 2, MANY)?)?;
+    expect_both::<u32>(&rt, "four bytes", &list_of_numbers(alloc, 4, MANY)?)?;
+    expect_both::<u64>(&rt, "words", &list_of_numbers(alloc, 8, MANY)?)
 }
 
 // The digits of all texts, one after the other.
@@ -151,39 +166,58 @@ type Named<'a> = StructValue<1, Field<text::Owned, &'a str, NoFields>>;
 
 type ReadStructs<'a> = struct_list::Reader<'a, SegmentArray<'a>>;
 
-// Structs of a number and a text, and what such structs are made of.
-fn elements_of<'a>(
-    alloc: Global,
-    names: &[&'a str],
-) -> Result<(Vec<Named<'a>>, Vec<PhoneEntry<'a>>)> {
+// Structs of a number and a text.
+fn values_of<'a>(alloc: Global, names: &[&'a str]) -> Result<Vec<Named<'a>>> {
     let mut values = Vec::new(alloc);
-    let mut entries = Vec::new(alloc);
     for (index, name) in (0..MANY).zip(names) {
         let kind = number(index);
         values.push(StructValue::new([kind], Field::new(*name, NoFields)))?;
+    }
+    Ok(values)
+}
+
+// What such structs are made of.
+fn entries_of<'a>(alloc: Global, names: &[&'a str]) -> Result<Vec<PhoneEntry<'a>>> {
+    let mut entries = Vec::new(alloc);
+    for (index, name) in (0..MANY).zip(names) {
         entries.push(PhoneEntry {
             number: *name,
-            kind,
+            kind: number(index),
         })?;
     }
-    Ok((values, entries))
+    Ok(entries)
+}
+
+// Structs in a slice.
+fn expect_structs(rt: &(impl Abort + AllocGlobal), names: &[&str], segment: &[u8]) -> Result<()> {
+    let values = values_of(rt.alloc(), names)?;
+    let list = StructList::new(&values);
+    expect_set::<struct_list::Owned, StructList<'_, Named<'_>>>(rt, "structs", &list, segment)
+}
+
+// Structs that are made when they are asked for.
+fn expect_made_structs(
+    rt: &(impl Abort + AllocGlobal),
+    names: &[&str],
+    segment: &[u8],
+) -> Result<()> {
+    let entries = entries_of(rt.alloc(), names)?;
+    let list = LazyStructList::new(Entries { entries: &entries });
+    expect_set::<struct_list::Owned, LazyStructList<Entries<'_>>>(
+        rt,
+        "made structs",
+        &list,
+        segment,
+    )
 }
 
 #[test]
 fn long_lists_of_structs(rt: HostRuntime) -> Result<()> {
     let bytes = all_digits(rt.alloc())?;
     let names = names_in(rt.alloc(), &bytes)?;
-    let (values, entries) = elements_of(rt.alloc(), &names)?;
     let segment = list_of_structs(rt.alloc(), Texts::After, MANY)?;
-    let list = StructList::new(&values);
-    expect_set::<struct_list::Owned, StructList<'_, Named<'_>>>(&rt, "structs", &list, &segment)?;
-    let list = LazyStructList::new(Entries { entries: &entries });
-    expect_set::<struct_list::Owned, LazyStructList<Entries<'_>>>(
-        &rt,
-        "made structs",
-        &list,
-        &segment,
-    )?;
+    expect_structs(&rt, &names, &segment)?;
+    expect_made_structs(&rt, &names, &segment)?;
     let other = list_of_structs(rt.alloc(), Texts::Before, MANY)?;
     let segments = [other.as_slice()];
     let arena = plain_arena(&segments);
@@ -226,35 +260,33 @@ fn write_bytes(message: &mut Builder<HeapAllocator>) -> Result<()> {
 }
 
 #[test]
-fn long_objects_in_place(rt: HostRuntime) -> Result<()> {
+fn long_lists_in_place(rt: HostRuntime) -> Result<()> {
     let segment = list_of_numbers(rt.alloc(), 8, MANY)?;
     let mut message = large_message(rt.alloc());
     let got = write_numbers(&mut message)?;
-    expect(
-        &rt,
-        "numbers",
-        [got, has_segment(&message, &segment)],
-        [true, true],
-    );
-    // A struct of 65,535 data words and no pointers, right after its pointer.
+    let found = [got, has_segment(&message, &segment)];
+    expect(&rt, "numbers", found, [true, true]);
+    Ok(())
+}
+
+// A struct of 65,535 data words and no pointers, right after its pointer.
+#[test]
+fn long_structs_in_place(rt: HostRuntime) -> Result<()> {
     let mut segment = list_of_numbers(rt.alloc(), 8, MOST as u32)?;
     assert!(rt; 8 <= segment.len());
     segment[..8].copy_from_slice(&[0, 0, 0, 0, 0xff, 0xff, 0, 0]);
     let mut message = large_message(rt.alloc());
     let got = write_words(&mut message)?;
-    expect(
-        &rt,
-        "words",
-        [got, has_segment(&message, &segment)],
-        [true, true],
-    );
+    let found = [got, has_segment(&message, &segment)];
+    expect(&rt, "words", found, [true, true]);
+    Ok(())
+}
+
+#[test]
+fn long_data_in_place(rt: HostRuntime) -> Result<()> {
+    let segment = list_of_numbers(rt.alloc(), 1, MANY)?;
     let mut message = large_message(rt.alloc());
     write_bytes(&mut message)?;
-    expect(
-        &rt,
-        "bytes",
-        has_segment(&message, &list_of_numbers(rt.alloc(), 1, MANY)?),
-        true,
-    );
+    expect(&rt, "bytes", has_segment(&message, &segment), true);
     Ok(())
 }

@@ -1,8 +1,8 @@
 //! What is written through the views of builders, by its bytes.
 use crate::building::expect_segments;
-use crate::calls::arenas::{Words, arena_of, set_text, view_error};
+use crate::calls::arenas::{Words, arena_of, set_text};
 use crate::fixtures::expect;
-use capnp_build::{any_pointer, any_struct, data, primitive_list, text};
+use capnp_build::{any_pointer, any_struct, primitive_list, text};
 use capnp_frame::Result;
 use capnp_frame::message::SegmentArray;
 use capnp_object_tests::arenas::{Arena, plain_arena};
@@ -160,43 +160,4 @@ fn set_canonical_tree(arena: &mut Words, source: &Arena<'_>) -> Result<()> {
         any_pointer::Owned,
         capnp_wire::any_pointer::Reader<'_, SegmentArray<'_>>,
     >(&root)
-}
-
-// How long a text is that is got, and whether it is this one after a part of it is written.
-fn write_got_text(arena: &mut Words) -> Result<(u32, bool)> {
-    set_text(arena, "Hello, World!")?;
-    let mut view = arena.get_root::<text::Owned>()?;
-    if view.len() > 12 {
-        view.write(7, b"Earth?");
-    }
-    Ok((view.len(), view.as_bytes() == b"Hello, Earth?".as_slice()))
-}
-
-#[test]
-fn text_that_is_got(rt: HostRuntime) -> Result<()> {
-    let found = write_got_text(&mut arena_of(rt.alloc(), 1024))?;
-    expect(&rt, "Earth", found, (13, true));
-    Ok(())
-}
-
-// How many bytes of data there are, and whether they are these.
-fn init_bytes(arena: &mut Words) -> Result<(u32, bool)> {
-    let mut bytes = arena.initn_root::<data::Owned>(3)?;
-    bytes.set(2, 255);
-    bytes.write(0, b"ab");
-    Ok((bytes.len(), bytes.as_bytes() == b"ab\xff".as_slice()))
-}
-
-// Whether a root is null that is made so.
-fn init_null(arena: &mut Words) -> Result<bool> {
-    Ok(arena.init_root::<any_pointer::Owned>()?.is_null())
-}
-
-#[test]
-fn bytes_in_place(rt: HostRuntime) -> Result<()> {
-    let mut arena = arena_of(rt.alloc(), 1024);
-    expect(&rt, "data", init_bytes(&mut arena)?, (3, true));
-    expect(&rt, "no text", view_error::<text::Owned>(&mut arena), 23);
-    assert!(rt; init_null(&mut arena)?);
-    Ok(())
 }

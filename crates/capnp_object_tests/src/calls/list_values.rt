@@ -1,6 +1,6 @@
 //! Lists that were read, as values.
-use crate::calls::upgrades::{BOTH, DATA, PAIRS, POINTERS, Pointers, Structs, Texts};
-use crate::fixtures::{Arena, Numbered, arena_of, expect, root_as};
+use crate::calls::upgrades::{DATA, PAIRS, POINTERS, Pointers, Structs, Texts};
+use crate::fixtures::{Numbered, expect, plain_arena, root_as};
 use capnp_frame::Result;
 use capnp_wire::traits::SetterInput;
 use capnp_wire::upgraded::NumberList;
@@ -34,66 +34,41 @@ fn as_it_is(segment: &[u8]) -> Numbered<Written> {
     Ok((pointer, block))
 }
 
-fn numbers_of(arena: &Arena<'_>) -> Result<Numbered<Written>> {
-    let list: NumberList<'_, u16> = root_as(arena)?;
+fn numbers_of(segment: &[u8]) -> Result<Numbered<Written>> {
+    let segments = [segment];
+    let arena = plain_arena(&segments);
+    let list: NumberList<'_, u16> = root_as(&arena)?;
     Ok(written::<primitive_list::Owned<u16>, NumberList<'_, u16>>(&list))
 }
 
-fn structs_of(arena: &Arena<'_>) -> Result<Numbered<Written>> {
-    let list: Structs<'_> = root_as(arena)?;
+fn structs_of(segment: &[u8]) -> Result<Numbered<Written>> {
+    let segments = [segment];
+    let arena = plain_arena(&segments);
+    let list: Structs<'_> = root_as(&arena)?;
     Ok(written::<struct_list::Owned, Structs<'_>>(&list))
 }
 
-fn pointers_of(arena: &Arena<'_>) -> Result<Numbered<Written>> {
-    let list: Pointers<'_> = root_as(arena)?;
+fn pointers_of(segment: &[u8]) -> Result<Numbered<Written>> {
+    let segments = [segment];
+    let arena = plain_arena(&segments);
+    let list: Pointers<'_> = root_as(&arena)?;
     Ok(written::<any_pointer_list::Owned, Pointers<'_>>(&list))
 }
 
-fn texts_of(arena: &Arena<'_>) -> Result<Numbered<Written>> {
-    let list: Texts<'_> = root_as(arena)?;
+fn texts_of(segment: &[u8]) -> Result<Numbered<Written>> {
+    let segments = [segment];
+    let arena = plain_arena(&segments);
+    let list: Texts<'_> = root_as(&arena)?;
     Ok(written::<list_list::Owned<text::Owned>, Texts<'_>>(&list))
 }
 
 #[test]
 fn lists_as_they_are(rt: HostRuntime) -> Result<()> {
-    let segments = [PAIRS];
-    let arena = arena_of(&segments, None, 64);
-    expect(&rt, "numbers", numbers_of(&arena)?, as_it_is(PAIRS));
+    expect(&rt, "numbers", numbers_of(PAIRS)?, as_it_is(PAIRS));
     // Numbers that are read as structs stay numbers.
-    expect(&rt, "as structs", structs_of(&arena)?, as_it_is(PAIRS));
-    let segments = [POINTERS];
-    let arena = arena_of(&segments, None, 64);
-    expect(&rt, "pointers", pointers_of(&arena)?, as_it_is(POINTERS));
-    expect(&rt, "texts", texts_of(&arena)?, as_it_is(POINTERS));
-    let segments = [DATA];
-    let arena = arena_of(&segments, None, 64);
-    expect(&rt, "structs", structs_of(&arena)?, as_it_is(DATA));
-    Ok(())
-}
-
-// Three structs of a pointer: null, to the text "a", and null.
-const POINTERS_AS_STRUCTS: &[u8] = b"\x01\0\0\0\x1f\0\0\0\x0c\0\0\0\0\0\x01\0\
-\0\0\0\0\0\0\0\0\x05\0\0\0\x12\0\0\0\0\0\0\0\0\0\0\0a\0\0\0\0\0\0\0";
-
-#[test]
-fn pointers_as_structs(rt: HostRuntime) -> Result<()> {
-    let segments = [POINTERS];
-    let arena = arena_of(&segments, None, 64);
-    expect(
-        &rt,
-        "pointers as structs",
-        structs_of(&arena)?,
-        as_it_is(POINTERS_AS_STRUCTS),
-    );
-    Ok(())
-}
-
-// What else the structs have is not in the view.
-#[test]
-fn first_fields_are_no_value(rt: HostRuntime) -> Result<()> {
-    let segments = [BOTH];
-    let arena = arena_of(&segments, None, 64);
-    let found = [numbers_of(&arena)?, pointers_of(&arena)?, texts_of(&arena)?];
-    expect(&rt, "first fields", found, [Err(22), Err(22), Err(22)]);
+    expect(&rt, "as structs", structs_of(PAIRS)?, as_it_is(PAIRS));
+    expect(&rt, "pointers", pointers_of(POINTERS)?, as_it_is(POINTERS));
+    expect(&rt, "texts", texts_of(POINTERS)?, as_it_is(POINTERS));
+    expect(&rt, "structs", structs_of(DATA)?, as_it_is(DATA));
     Ok(())
 }

@@ -1,10 +1,10 @@
-//! Lists of text, of data and of lists by their elements, and elements of each list one by one
-//! (encoding document, "Lists"). Which pointer points to which list is in `conformance/lists.txt`.
-use crate::fixtures::{Arena, Numbered, arena_of, expect, root_as};
+//! Elements of lists one by one, and by an index that may be too large (encoding document, "Lists").
+//! Which pointer points to which list is in `conformance/lists.txt`.
+use crate::fixtures::{Arena, arena_of, expect, root_as};
 use capnp_frame::Result;
 use capnp_frame::message::SegmentArray;
 use capnp_wire::traits::{ListIter, Owned};
-use capnp_wire::{any_pointer_list, data_list, list_list, primitive_list, struct_list, text_list};
+use capnp_wire::{any_pointer_list, list_list, primitive_list, struct_list};
 
 // Two structs of a data word and a pointer: 10 with the text "hi", and 20 with null.
 const CONTACTS: &[u8] = b"\x01\0\0\0\x27\0\0\0\x08\0\0\0\x01\0\x01\0\
@@ -26,122 +26,7 @@ type Structs<'a> = struct_list::Reader<'a, SegmentArray<'a>>;
 
 type Pointers<'a> = any_pointer_list::Reader<'a, SegmentArray<'a>>;
 
-// Whether these bytes are there.
-fn has_bytes(data: Result<&[u8]>, wanted: &[u8]) -> Numbered<bool> {
-    match data {
-        Ok(bytes) => Ok(bytes == wanted),
-        Err(error) => Err(error.kind.number()),
-    }
-}
-
-// Whether this is a text of a list.
-fn is_text(
-    list: &text_list::Reader<'_, SegmentArray<'_>>,
-    index: u32,
-    wanted: &[u8],
-) -> Option<Numbered<bool>> {
-    if index >= list.len() {
-        return None;
-    }
-    match list.get(index) {
-        Ok(text) => Some(Ok(text.as_bytes() == wanted)),
-        Err(error) => Some(Err(error.kind.number())),
-    }
-}
-
-#[test]
-fn texts_of_a_list(rt: HostRuntime) -> Result<()> {
-    let segments = [POINTERS];
-    let arena = arena_of(&segments, Some(100), 2);
-    let texts = typed_root::<text_list::Owned>(&arena)?;
-    let found = [
-        is_text(&texts, 0, b""),
-        is_text(&texts, 1, b"a"),
-        is_text(&texts, 2, b""),
-    ];
-    let wanted = [Some(Ok(true)), Some(Ok(true)), Some(Err(22))];
-    expect(&rt, "texts", (texts.len(), found), (3, wanted));
-    Ok(())
-}
-
-// Whether these bytes are data of a list.
-fn is_data(
-    list: &data_list::Reader<'_, SegmentArray<'_>>,
-    index: u32,
-    wanted: &[u8],
-) -> Option<Numbered<bool>> {
-    if index >= list.len() {
-        return None;
-    }
-    Some(has_bytes(list.get(index), wanted))
-}
-
-#[test]
-fn data_of_a_list(rt: HostRuntime) -> Result<()> {
-    let segments = [POINTERS];
-    let arena = arena_of(&segments, Some(100), 2);
-    let data = typed_root::<data_list::Owned>(&arena)?;
-    let found = (data.len(), is_data(&data, 1, b"a\0"));
-    expect(&rt, "data", found, (3, Some(Ok(true))));
-    Ok(())
-}
-
 type Numbers = list_list::Owned<primitive_list::Owned<u64>>;
-
-type NumberLists<'a> = <Numbers as Owned<'a, SegmentArray<'a>>>::Reader;
-
-// How many numbers the first list has, and its first number.
-fn first_numbers(lists: &NumberLists<'_>) -> Option<Numbered<(u32, u64)>> {
-    if lists.len() == 0 {
-        return None;
-    }
-    match lists.get(0) {
-        Ok(numbers) if numbers.len() > 0 => Some(Ok((numbers.len(), numbers.get(0)))),
-        Ok(_) => None,
-        Err(error) => Some(Err(error.kind.number())),
-    }
-}
-
-#[test]
-fn lists_of_a_list(rt: HostRuntime) -> Result<()> {
-    let segments = [NUMBERS];
-    let arena = arena_of(&segments, Some(2), 2);
-    let lists = typed_root::<Numbers>(&arena)?;
-    expect(&rt, "how many", lists.len(), 1);
-    expect(&rt, "once", first_numbers(&lists), Some(Ok((1, 7))));
-    expect(&rt, "twice", first_numbers(&lists), Some(Err(20)));
-    Ok(())
-}
-
-// A view by a struct's segment counts as any other does.
-#[test]
-fn data_of_an_element(rt: HostRuntime) -> Result<()> {
-    let segments = [CONTACTS];
-    let arena = arena_of(&segments, Some(6), 2);
-    let list: Structs<'_> = typed_root::<struct_list::Owned>(&arena)?;
-    assert!(rt; list.len() == 2);
-    let null = has_bytes(list.get(1).get_pointer_as(0), b"");
-    let found = has_bytes(list.get(0).get_pointer_as(0), b"hi\0");
-    let again = has_bytes(list.get(0).get_pointer_as(0), b"hi\0");
-    expect(
-        &rt,
-        CONTACTS,
-        (null, found, again),
-        (Ok(true), Ok(true), Err(20)),
-    );
-    Ok(())
-}
-
-#[test]
-fn data_below_the_nesting_limit(rt: HostRuntime) -> Result<()> {
-    let segments = [POINTERS];
-    let arena = arena_of(&segments, Some(100), 1);
-    let data = typed_root::<data_list::Owned>(&arena)?;
-    let found = [is_data(&data, 1, b"a\0"), is_data(&data, 0, b"")];
-    let wanted = [Some(Err(19)), Some(Ok(true))];
-    expect(&rt, "data", (data.len(), found), (3, wanted));
-    Ok(())
-}
 
 // The first data words of the elements, as three digits each.
 fn first_words<'a>(elements: ListIter<'_, Structs<'a>>) -> u64 {

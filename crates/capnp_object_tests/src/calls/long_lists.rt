@@ -101,14 +101,13 @@ fn is_struct(element: &StructReader<'_, SegmentArray<'_>>, index: u32) -> bool {
     element.get_word(0) == number(index) && points_to_text(&element.get_pointer(0), index)
 }
 
-// As a list of structs, and as what became of one: of structs, of their numbers and of their texts.
+// As a list of structs, and as what became of one.
 fn are_structs(arena: &Arena<'_>) -> Result<bool> {
     let list: Structs<'_> = root_as(arena)?;
     let upgraded: StructList<'_, SegmentArray<'_>> = root_as(arena)?;
-    let fields: NumberList<'_, u64> = root_as(arena)?;
     let mut index = 0u32;
     for (element, other) in list.iter().zip(upgraded.iter()) {
-        if index >= list.len() || index >= upgraded.len() || index >= fields.len() {
+        if index >= list.len() || index >= upgraded.len() {
             return Ok(false);
         }
         if !is_struct(&element, index) || !is_struct(&other, index) {
@@ -117,7 +116,17 @@ fn are_structs(arena: &Arena<'_>) -> Result<bool> {
         if !is_struct(&list.get(index), index) || !is_struct(&upgraded.get(index), index) {
             return Ok(false);
         }
-        if fields.get(index) != number(index) {
+        index = index.wrapping_add(1);
+    }
+    Ok(index == MANY)
+}
+
+// Whether the first words of the structs are the numbers of their indices.
+fn are_fields(arena: &Arena<'_>) -> Result<bool> {
+    let fields: NumberList<'_, u64> = root_as(arena)?;
+    let mut index = 0u32;
+    for field in fields.iter() {
+        if index >= fields.len() || fields.get(index) != field || field != number(index) {
             return Ok(false);
         }
         index = index.wrapping_add(1);
@@ -166,15 +175,13 @@ fn is_bytes(bytes: Result<Bytes<'_>>, index: u32) -> bool {
     }
 }
 
-// As a list of pointers, of texts, of data and of lists.
+// As a list of pointers and of texts.
 fn are_texts(arena: &Arena<'_>) -> Result<bool> {
     let pointers: any_pointer_list::Reader<'_, SegmentArray<'_>> = root_as(arena)?;
     let texts: text_list::Reader<'_, SegmentArray<'_>> = root_as(arena)?;
-    let data: data_list::Reader<'_, SegmentArray<'_>> = root_as(arena)?;
-    let lists: list_list::Reader<'_, SegmentArray<'_>, Bytes<'_>> = root_as(arena)?;
     let mut index = 0u32;
     for (pointer, text) in pointers.iter().zip(texts.iter()) {
-        if index >= pointers.len() || index >= texts.len() || index >= data.len() {
+        if index >= pointers.len() || index >= texts.len() {
             return Ok(false);
         }
         if !points_to_text(&pointer, index) || !is_text(text, index) {
@@ -183,24 +190,24 @@ fn are_texts(arena: &Arena<'_>) -> Result<bool> {
         if !points_to_text(&pointers.get(index), index) || !is_text(texts.get(index), index) {
             return Ok(false);
         }
-        if !is_data(data.get(index), index) || index >= lists.len() {
-            return Ok(false);
-        }
-        if !is_bytes(lists.get(index), index) {
-            return Ok(false);
-        }
         index = index.wrapping_add(1);
     }
     Ok(index == MANY)
 }
 
-// One by one, as data and as lists.
+// As a list of data and of lists.
 fn are_blobs(arena: &Arena<'_>) -> Result<bool> {
     let data: data_list::Reader<'_, SegmentArray<'_>> = root_as(arena)?;
     let lists: list_list::Reader<'_, SegmentArray<'_>, Bytes<'_>> = root_as(arena)?;
     let mut index = 0u32;
     for (bytes, list) in data.iter().zip(lists.iter()) {
+        if index >= data.len() || index >= lists.len() {
+            return Ok(false);
+        }
         if !is_data(bytes, index) || !is_bytes(list, index) {
+            return Ok(false);
+        }
+        if !is_data(data.get(index), index) || !is_bytes(lists.get(index), index) {
             return Ok(false);
         }
         index = index.wrapping_add(1);
@@ -214,8 +221,12 @@ fn structs_of_long_lists(rt: HostRuntime) -> Result<()> {
         let segment = list_of_structs(rt.alloc(), place, MANY)?;
         let segments = [segment.as_slice()];
         let arena = plain_arena(&segments);
-        let found = [are_structs(&arena)?, are_pointers(&arena)?];
-        expect(&rt, place, found, [true; 2]);
+        let found = [
+            are_structs(&arena)?,
+            are_fields(&arena)?,
+            are_pointers(&arena)?,
+        ];
+        expect(&rt, place, found, [true; 3]);
     }
     Ok(())
 }

@@ -1,7 +1,7 @@
-//! Text and data that are printed.
-use crate::fixtures::{expect, plain_arena, root_as, root_as_data};
+//! Text that is printed.
+use crate::fixtures::{expect, plain_arena, root_as};
 use capnp_frame::Result;
-use capnp_wire::{data, text};
+use capnp_wire::text;
 use std::alloc::Global;
 
 fn printed(alloc: Global, text: text::Reader<'_>) -> Result<String> {
@@ -10,10 +10,6 @@ fn printed(alloc: Global, text: text::Reader<'_>) -> Result<String> {
 
 fn at_width_3(alloc: Global, text: text::Reader<'_>) -> Result<String> {
     Ok(format!(in alloc; "{text:>3}")?)
-}
-
-fn digits(alloc: Global, bytes: data::Reader<'_>) -> Result<String> {
-    Ok(format!(in alloc; "{}", data::Hex(bytes))?)
 }
 
 // A text of the bytes in table 3-8 of the Unicode Standard.
@@ -39,14 +35,5 @@ fn text_in_a_width(rt: HostRuntime) -> Result<()> {
     let text: text::Reader<'_> = root_as(&arena)?;
     let printed = at_width_3(rt.alloc(), text)?;
     expect(&rt, "padded", printed.as_str(), "  \u{E9}");
-    Ok(())
-}
-
-#[test]
-fn data_as_digits(rt: HostRuntime) -> Result<()> {
-    let segments = [b"\x01\0\0\0\x22\0\0\0\0\x0f\xf0\xab\0\0\0\0".as_slice()];
-    let arena = plain_arena(&segments);
-    let digits = digits(rt.alloc(), root_as_data(&arena)?)?;
-    expect(&rt, "digits", digits.as_str(), "000ff0ab");
     Ok(())
 }

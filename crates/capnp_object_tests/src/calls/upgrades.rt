@@ -1,6 +1,6 @@
 //! Lists that are read as what their elements became: structs, numbers and pointers (encoding
 //! document, "Lists"), one by one. What each is as another one is in `conformance/lists.txt`.
-use crate::fixtures::{arena_of, expect, root_as};
+use crate::fixtures::{Arena, arena_of, expect, root_as};
 use capnp_frame::Result;
 use capnp_frame::message::SegmentArray;
 use capnp_wire::text;
@@ -33,32 +33,67 @@ pub type Pointers<'a> = PointerList<'a, SegmentArray<'a>>;
 
 pub type Texts<'a> = ListList<'a, SegmentArray<'a>, text::Reader<'a>>;
 
+// The largest first word, and whether the third element is there and the one after it.
+fn structs_of(arena: &Arena<'_>) -> Result<(Option<u64>, [bool; 2])> {
+    let list: Structs<'_> = root_as(arena)?;
+    let largest = list.iter().map(|element| element.get_word(0)).max();
+    Ok((
+        largest,
+        [list.try_get(2).is_some(), list.try_get(3).is_some()],
+    ))
+}
+
+// The same of numbers.
+fn numbers_of(arena: &Arena<'_>) -> Result<(Option<u8>, [bool; 2])> {
+    let list: NumberList<'_, u8> = root_as(arena)?;
+    let largest = list.iter().max();
+    Ok((
+        largest,
+        [list.try_get(2).is_some(), list.try_get(3).is_some()],
+    ))
+}
+
+// The same of pointers: whether all are null.
+fn pointers_of(arena: &Arena<'_>) -> Result<(bool, [bool; 2])> {
+    let list: Pointers<'_> = root_as(arena)?;
+    let null = list.iter().all(|pointer| pointer.is_null());
+    Ok((null, [list.try_get(2).is_some(), list.try_get(3).is_some()]))
+}
+
+// The same of texts: whether all are read, and whether the second is "b".
+fn texts_of(arena: &Arena<'_>) -> Result<(bool, bool, [bool; 2])> {
+    let list: Texts<'_> = root_as(arena)?;
+    if list.len() != 3 {
+        return Ok((false, false, [false, false]));
+    }
+    let read = list.iter().all(|text| text.is_ok());
+    let second = list.get(1)?.as_bytes() == b"b".as_slice();
+    let found = [list.try_get(2).is_some(), list.try_get(3).is_some()];
+    Ok((read, second, found))
+}
+
 #[test]
 fn upgraded_elements_one_by_one(rt: HostRuntime) -> Result<()> {
     let segments = [BOTH];
     let arena = arena_of(&segments, None, 64);
-    let structs: Structs<'_> = root_as(&arena)?;
-    let numbers: NumberList<'_, u8> = root_as(&arena)?;
-    let pointers: Pointers<'_> = root_as(&arena)?;
-    let texts: Texts<'_> = root_as(&arena)?;
-    let words = structs.iter().map(|element| element.get_word(0)).max();
-    let null = pointers.iter().all(|pointer| pointer.is_null());
-    let read = texts.iter().all(|text| text.is_ok());
-    let elements = (words, numbers.iter().max(), null, read);
-    expect(&rt, "one by one", elements, (Some(9), Some(9), false, true));
-    assert!(rt; texts.len() == 3);
-    expect(&rt, "a text", texts.get(1)?.as_bytes(), b"b".as_slice());
-    let found = [
-        structs.try_get(2).is_some(),
-        numbers.try_get(2).is_some(),
-        pointers.try_get(2).is_some(),
-        texts.try_get(2).is_some(),
-        structs.try_get(3).is_some(),
-        numbers.try_get(3).is_some(),
-        pointers.try_get(3).is_some(),
-        texts.try_get(3).is_some(),
-    ];
-    let wanted = [true, true, true, true, false, false, false, false];
-    expect(&rt, "by index", found, wanted);
+    expect(
+        &rt,
+        "structs",
+        structs_of(&arena)?,
+        (Some(9), [true, false]),
+    );
+    expect(
+        &rt,
+        "numbers",
+        numbers_of(&arena)?,
+        (Some(9), [true, false]),
+    );
+    expect(
+        &rt,
+        "pointers",
+        pointers_of(&arena)?,
+        (false, [true, false]),
+    );
+    expect(&rt, "texts", texts_of(&arena)?, (true, true, [true, false]));
     Ok(())
 }

@@ -16,15 +16,21 @@ fn a_person_is_built(rt: HostRuntime) -> Result<()> {
     objects.add_root(&person)?;
     let message = Reader::new(&objects, DEFAULT_READER_OPTIONS);
     serialize::write_message(alloc, &mut stream, &objects)?;
-    assert_eq!(rt; stream.len(), 8 * 6);
+    assert!(rt; stream.len() == 8 * 6);
     let root: any_struct::StructReader<'_, &Orphanage> = message.get_root()?;
-    assert_eq!(rt; root.get_data_field::<u32>(0), 123);
+    assert!(rt; root.get_data_field::<u32>(0) == 123);
+    Ok(())
+}
+
+#[test]
+fn a_list_of_phones_is_built(rt: HostRuntime) -> Result<()> {
+    let mut objects = Orphanage::new(rt.alloc())?;
     let mut phone = StructDraft::<any_struct::Owned, 1, 1>::new();
     phone.set_data_field::<u16>(0, 1);
     phone.adopt(0, objects.text("555-1212")?);
     let phones = objects.struct_list(&[phone])?;
     objects.set_root(phones);
-    assert_eq!(rt; objects.bytes().len(), 8 * 10);
+    assert!(rt; objects.bytes().len() == 8 * 6);
     Ok(())
 }
 
@@ -35,6 +41,6 @@ fn names_are_built_in_a_region(rt: HostRuntime) -> Result<()> {
     let names = [objects.text("Alice")?, Orphan::null()];
     let list = objects.pointer_list(&names)?;
     objects.set_root(list);
-    assert_eq!(rt; objects.bytes().len(), 8 * 4);
+    assert!(rt; objects.bytes().len() == 8 * 4);
     Ok(())
 }

@@ -103,15 +103,20 @@ fn drafts_of(alloc: Global, names: &[Orphan<text::Owned>]) -> Result<Vec<Named>>
 }
 
 #[test]
-fn long_lists_of_objects(rt: HostRuntime) -> Result<()> {
+fn long_lists_of_texts(rt: HostRuntime) -> Result<()> {
+    let segment = list_of_texts(rt.alloc(), Texts::Before, MANY)?;
     let mut objects = empty(&rt)?;
     let names = add_texts(rt.alloc(), &mut objects)?;
     let list = objects.pointer_list(&names)?;
     objects.set_root(list);
-    let segment = list_of_texts(rt.alloc(), Texts::Before, MANY)?;
     expect(&rt, "texts", objects.bytes() == segment.as_slice(), true);
+    Ok(())
+}
+
+#[test]
+fn long_lists_of_objects(rt: HostRuntime) -> Result<()> {
     let segment = list_of_structs(rt.alloc(), Texts::Before, MANY)?;
-    objects.clear();
+    let mut objects = empty(&rt)?;
     let names = add_texts(rt.alloc(), &mut objects)?;
     let drafts = drafts_of(rt.alloc(), &names)?;
     let list = objects.struct_list(&drafts)?;

@@ -8,9 +8,9 @@ use crate::calls::schema_types::read::FILLED;
 use crate::calls::schema_types::shown::{
     has_title_and_label, made_counts, message_in, message_of, sample_of,
 };
-use crate::sample_capnp::{point, sample, shape};
+use crate::sample_capnp::{sample, shape};
 use capnp::message::ReaderSegments;
-use capnp_frame::{ErrorKind, Result};
+use capnp_frame::Result;
 use capnp_frame_tests::retried;
 use capnp_orphans::{GrowingSegment, Orphanage};
 use std::alloc::Global;
@@ -128,50 +128,6 @@ fn what_an_older_writer_left_out_is_zero(rt: HostRuntime) -> Result<()> {
         "payload, ratio",
         !made.has_payload() && made.get_ratio() == 0.5,
     );
-    Ok(())
-}
-
-// The first data word of `FILLED` is a point, and the rest is left out.
-#[test]
-fn what_a_newer_writer_had_is_left_out(rt: HostRuntime) -> Result<()> {
-    let segments = [FILLED];
-    let message = message_of(&segments);
-    let read: point::Reader<'_, _> = message.get_root()?;
-    let mut objects = retried!(Orphanage::new(rt.alloc()))?;
-    let made = point::Builder::from_reader(&read, &mut objects)?;
-    expect(&rt, "x, y", (made.get_x(), made.get_y()), (65543, -9));
-    expect(&rt, "bytes", objects.bytes().len(), 8);
-    Ok(())
-}
-
-#[test]
-fn pointers_may_be_left_out(rt: HostRuntime) -> Result<()> {
-    let segments = [FILLED];
-    let message = message_of(&segments);
-    let made = sample::Builder::from_data_section(&sample_of(&message)?);
-    expect(&rt, "count, balance", made_counts(&made), (7, 12));
-    expect(
-        &rt,
-        "title, label",
-        has_title_and_label(&made),
-        (false, false),
-    );
-    expect_that(&rt, "origin", !made.has_origin());
-    Ok(())
-}
-
-// The copies would take 11 words, and the region has room for three.
-#[test]
-fn a_copy_without_room(rt: HostRuntime) -> Result<()> {
-    let segments = [FILLED];
-    let message = message_of(&segments);
-    let read = sample_of(&message)?;
-    let mut region = [1u8; 8 * 4];
-    let mut objects = Orphanage::in_region(&mut region)?;
-    let failed = copy(&read, &mut objects);
-    let has_failed = matches!(failed, Err(error) if error.kind == ErrorKind::AllocationTooLarge(3));
-    expect_that(&rt, "error", has_failed);
-    expect(&rt, "bytes", objects.bytes().len(), 8 * 3);
     Ok(())
 }
 

@@ -7,6 +7,7 @@ use capnp::message::{Reader, ReaderSegments};
 use capnp_frame::Result;
 use capnp_wire::constant::OrDefault;
 use capnp_wire::upgraded::EnumList;
+use std::process::Abort;
 
 // (colors = [green, deepBlue, red], names = ["leaf"]), with 7 as the number of the second color
 #[rattlefmt::skip]
@@ -97,13 +98,16 @@ fn first_name<'a, S: ReaderSegments>(read: &palette::Reader<'a, S>) -> Result<&'
     }
 }
 
+fn expect_first_name(rt: &impl Abort, words: &[u8], wanted: &[u8]) -> Result<()> {
+    let segments = [words];
+    let message = message_of(&segments);
+    let found = first_name(&palette_of(&message)?)?;
+    expect_bytes(rt, "the first name", found, wanted);
+    Ok(())
+}
+
 #[test]
 fn names_are_stored_or_the_default(rt: HostRuntime) -> Result<()> {
-    for (words, wanted) in [(LEAF, b"leaf".as_slice()), (PLAIN, b"none".as_slice())] {
-        let segments = [words];
-        let message = message_of(&segments);
-        let found = first_name(&palette_of(&message)?)?;
-        expect_bytes(&rt, "the first name", found, wanted);
-    }
-    Ok(())
+    expect_first_name(&rt, LEAF, b"leaf")?;
+    expect_first_name(&rt, PLAIN, b"none")
 }

@@ -1,5 +1,6 @@
 //! Structs as text, by the method that the schema compiler writes with `print`. The lines are as
 //! `capnp decode --short` writes them, and where it has none, as docs/COMPILER.md says.
+use crate::calls::schema_types::assertions::expect;
 use crate::calls::schema_types::shown::message_of;
 use crate::printed_capnp::printed;
 use capnp_frame::message::SegmentArray;
@@ -102,9 +103,9 @@ fn shown_of(alloc: Global, segment: &[u8], depth: u32) -> Result<String, Fail> {
 
 #[test]
 fn structs_are_printed(rt: HostRuntime) -> Result<(), Fail> {
-    for (segment, depth, line) in LINES {
-        let shown = shown_of(rt.alloc(), segment, depth)?;
-        assert_eq!(rt; shown.as_str(), line);
+    for (segment, depth, line) in &LINES {
+        let shown = shown_of(rt.alloc(), segment, *depth)?;
+        expect(&rt, "a line", shown.as_str(), *line);
     }
     Ok(())
 }
