@@ -1,11 +1,11 @@
 //! Messages that are written and read, each call in a function of its own.
 use crate::messages::has_segments;
 use capnp_frame::Result;
-use capnp_frame::io::{Read, Write};
+use capnp_frame::io::Write;
 use capnp_frame::message::{DEFAULT_READER_OPTIONS, ReaderSegments, SegmentArray};
 use capnp_frame::serialize::{
     OwnedSegments, Padding, TableRules, is_writable, segments_to_words, try_read_segments,
-    try_read_segments_into, try_read_segments_reusing, write_segments,
+    try_read_segments_reusing, write_segments,
 };
 use capnp_pack::PackedWrite;
 use capnp_pack::stream::try_read_packed_segments;
@@ -68,12 +68,6 @@ pub fn read_by(
 pub fn read_packed(alloc: Global, source: &mut &[u8], segments: &[&[u8]]) -> Result<Found> {
     let rules = TableRules::new(Padding::Zero, DEFAULT_READER_OPTIONS);
     let returned = try_read_packed_segments(source, rules, OwnedSegments::empty(alloc));
-    compared(returned, segments)
-}
-
-/// Reads a message into a caller-provided buffer.
-pub fn read_into<R: Read>(source: &mut R, room: &mut [u8], segments: &[&[u8]]) -> Result<Found> {
-    let returned = try_read_segments_into(source, room, DEFAULT_READER_OPTIONS);
     compared(returned, segments)
 }
 

@@ -43,10 +43,8 @@ mod sink_errors;
 pub mod sinks;
 #[cfg(test)]
 mod skipping;
+#[cfg(test)]
+mod slices;
 pub mod sources;
-#[cfg(test)]
-mod tables;
-#[cfg(test)]
-mod values;
 #[cfg(test)]
 mod words;

@@ -1,16 +1,11 @@
 //! Calls that take no memory: they succeed whichever allocation fails, and none is made twice.
 use crate::assertions::{At, assert_bytes, assert_count, assert_fails, assert_holds};
-use crate::framing::{Found, read_into, read_packed, write, write_packed};
+use crate::framing::{Found, read_packed, write, write_packed};
 use crate::limits::STRICT;
 use crate::messages::has_segments;
-use crate::packing::{pack, unpack, unpack_some};
-use capnp_frame::message::{DEFAULT_READER_OPTIONS, ReaderSegments, SegmentArray};
-use capnp_frame::serialize::{
-    BufferSegments, NoAllocBufferSegments, NoAllocSliceSegments, is_writable,
-    serialized_size_in_words, take_segments, try_read_framed_into,
-};
+use capnp_frame::message::{DEFAULT_READER_OPTIONS, ReaderSegments};
+use capnp_frame::serialize::{BufferSegments, take_segments, try_read_framed_into};
 use capnp_frame::{ErrorKind, Result};
-use capnp_pack::PackedRead;
 use capnp_pack::stream::try_read_packed_framed_into;
 
 // Segments of 1, 0 and 1 words.
@@ -35,101 +30,6 @@ fn segments_are_written(rt: HostRuntime) -> Result<()> {
     write_packed(&rt, &mut left, &SEGMENTS)?;
     assert_holds(&rt, left.is_empty(), at);
     assert_bytes(&rt, &packed, &PACKED, at);
-    Ok(())
-}
-
-#[test]
-fn segments_are_shown(rt: HostRuntime) -> Result<()> {
-    let array = SegmentArray::new(&SEGMENTS);
-    assert!(rt; has_segments(&array, &SEGMENTS) && has_segments(&&array, &SEGMENTS));
-    assert!(rt; array.len() == 3 && !array.is_empty());
-    assert!(rt; is_writable(&array));
-    assert!(rt; serialized_size_in_words(&array)? == 4);
-    assert!(rt; SegmentArray::new(&[]).is_empty());
-    Ok(())
-}
-
-#[test]
-fn messages_are_found(rt: HostRuntime) -> Result<()> {
-    let mut slice = FRAMED.as_slice();
-    let found = NoAllocSliceSegments::from_slice(&mut slice, DEFAULT_READER_OPTIONS)?;
-    assert!(rt; has_segments(&found, &SEGMENTS) && found.len() == 3);
-    assert!(rt; slice.is_empty());
-    let found = NoAllocBufferSegments::from_buffer(FRAMED.as_slice(), DEFAULT_READER_OPTIONS)?;
-    assert!(rt; has_segments(&found, &SEGMENTS));
-    let cut = NoAllocBufferSegments::from_buffer(&FRAMED[..31], DEFAULT_READER_OPTIONS);
-    assert_fails(
-        &rt,
-        cut,
-        ErrorKind::MessageEndsPrematurely(2, 1),
-        At::case("31 bytes of 32"),
-    );
-    Ok(())
-}
-
-#[test]
-fn messages_are_read_into_a_buffer(rt: HostRuntime) -> Result<()> {
-    let mut room = [9; 32];
-    let mut source = FRAMED.as_slice();
-    let found = read_into(&mut source, &mut room, &SEGMENTS)?;
-    let ended = read_into(&mut source, &mut room, &SEGMENTS)?;
-    assert!(rt; found == Found::Wanted && ended == Found::End);
-    Ok(())
-}
-
-#[test]
-fn packed_messages_are_read_into_a_buffer(rt: HostRuntime) -> Result<()> {
-    let mut room = [9; 32];
-    let mut source = PACKED.as_slice();
-    let found = read_into(&mut PackedRead::new(&mut source), &mut room, &SEGMENTS)?;
-    assert!(rt; found == Found::Wanted);
-    Ok(())
-}
-
-#[test]
-fn a_buffer_that_is_a_byte_short(rt: HostRuntime) {
-    let mut room = [9; 31];
-    let mut source = FRAMED.as_slice();
-    let short = read_into(&mut source, &mut room, &SEGMENTS);
-    assert_fails(
-        &rt,
-        short,
-        ErrorKind::BufferNotLargeEnough,
-        At::case("room for 31 bytes"),
-    );
-}
-
-const WORDS: [u8; 16] = [0, 0, 12, 0, 0, 34, 0, 0, 1, 2, 3, 4, 5, 6, 7, 8];
-
-const PACKED_WORDS: [u8; 13] = [0x24, 12, 34, 0xff, 1, 2, 3, 4, 5, 6, 7, 8, 0];
-
-#[test]
-fn chunks_are_packed(rt: HostRuntime) -> Result<()> {
-    let at = At::case("two words");
-    let mut encoding = [9; 13];
-    let mut left: &mut [u8] = &mut encoding;
-    pack(&mut left, &[&WORDS])?;
-    assert_holds(&rt, left.is_empty(), at);
-    assert_fails(
-        &rt,
-        pack(&mut left, &[&WORDS]),
-        ErrorKind::BufferNotLargeEnough,
-        at,
-    );
-    assert_bytes(&rt, &encoding, &PACKED_WORDS, at);
-    Ok(())
-}
-
-#[test]
-fn chunks_are_unpacked(rt: HostRuntime) -> Result<()> {
-    let at = At::case("two words");
-    let mut back = [9; 16];
-    let mut source = PACKED_WORDS.as_slice();
-    unpack(&mut source, &mut back)?;
-    assert_bytes(&rt, &back, &WORDS, at);
-    assert_count(&rt, unpack_some(&mut source, &mut back)?, 0, at);
-    let cut = unpack(&mut &PACKED_WORDS[..5], &mut back);
-    assert_fails(&rt, cut, ErrorKind::PrematureEndOfPackedInput, at);
     Ok(())
 }
 

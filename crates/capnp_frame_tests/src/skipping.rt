@@ -1,11 +1,12 @@
-//! Packed messages that are skipped, and segment tables that are read by themselves.
+//! Packed messages that are skipped.
 use crate::assertions::{At, assert_count, assert_holds, assert_kind};
-use crate::limits::{NO_LIMIT, STRICT};
+use crate::errors::kind_of;
+use crate::limits::STRICT;
 use crate::messages::{MESSAGES, Message};
 use crate::retried;
 use crate::sources::{Failing, Trickle};
 use capnp_frame::io::BufRead;
-use capnp_frame::serialize::{Padding, SegmentLengthsBuilder, TableRules, read_table};
+use capnp_frame::serialize::{Padding, SegmentLengthsBuilder, TableRules};
 use capnp_frame::{Error, ErrorKind, Result};
 use capnp_pack::stream::try_skip_packed_segments;
 use std::alloc::Global;
@@ -75,98 +76,59 @@ fn skip_again(rt: &(impl Abort + AllocGlobal), message: &Message, most: usize) -
     Ok(())
 }
 
-// What a message fails by, and how many of its bytes stay unread.
+// What a message fails by, and how many of its bytes stay unread. Where packed bytes are wrong, no
+// clause says how many.
 #[rattlefmt::skip]
-const FAILING: [(&str, &[u8], Option<usize>, ErrorKind, usize); 20] = [
-    ("a tag", &[0x10], NO_LIMIT, ErrorKind::PrematureEndOfPackedInput, 0),
-    ("a run past the table's first word", &[0, 1, 7], NO_LIMIT,
+const FAILING: [(&str, &[u8], ErrorKind, usize); 16] = [
+    ("a tag", &[0x10], ErrorKind::PrematureEndOfPackedInput, 0),
+    ("a run past the table's first word", &[0, 1, 7],
      ErrorKind::PackedInputDidNotEndCleanlyOnASegmentBoundary, 1),
-    ("no segment counted", &[0x0f, 255, 255, 255, 255, 7], NO_LIMIT,
-     ErrorKind::InvalidNumberOfSegments(0), 1),
-    ("512 segments", &[3, 255, 1, 7, 7], NO_LIMIT, ErrorKind::InvalidNumberOfSegments(512), 2),
-    ("the table's second word is missing", &[1, 1], NO_LIMIT,
+    ("the table's second word is missing", &[1, 1], ErrorKind::FailedToFillTheWholeBuffer, 0),
+    ("the table's second word is cut", &[1, 1, 0x11, 1], ErrorKind::PrematureEndOfPackedInput, 0),
+    ("a run past the table's second word", &[1, 1, 0, 3, 7],
+     ErrorKind::PackedInputDidNotEndCleanlyOnASegmentBoundary, 1),
+    ("two words, none there", &[0x10, 2], ErrorKind::FailedToFillTheWholeBuffer, 0),
+    ("two words, one there", &[0x10, 2, 1, 7], ErrorKind::PrematureEndOfPackedInput, 0),
+    ("two words, the second cut", &[0x10, 2, 1, 7, 3, 5], ErrorKind::PrematureEndOfPackedInput, 0),
+    ("no count of zero words", &[0x10, 2, 0], ErrorKind::PrematureEndOfPackedInput, 0),
+    ("no count of literal words", &[0x10, 2, 0xff, 1, 2, 3, 4, 5, 6, 7, 8],
+     ErrorKind::PrematureEndOfPackedInput, 0),
+    ("a literal run that is cut", &[0x10, 2, 0xff, 1, 2, 3, 4, 5, 6, 7, 8, 1, 9, 10],
      ErrorKind::FailedToFillTheWholeBuffer, 0),
-    ("the table's second word is cut", &[1, 1, 0x11, 1], NO_LIMIT,
-     ErrorKind::PrematureEndOfPackedInput, 0),
-    ("a run past the table's second word", &[1, 1, 0, 3, 7], NO_LIMIT,
+    ("a zero run past the end", &[0x10, 2, 0, 2, 7],
      ErrorKind::PackedInputDidNotEndCleanlyOnASegmentBoundary, 1),
-    ("three words of two", &[0x10, 3, 1, 7, 1, 8, 1, 9], Some(2), ErrorKind::MessageTooLarge(3), 6),
-    ("a padding that isn't zero", &[1, 1, 0x11, 1, 9, 1, 7], NO_LIMIT, ErrorKind::NonZeroPadding, 2),
-    ("two words, none there", &[0x10, 2], NO_LIMIT, ErrorKind::FailedToFillTheWholeBuffer, 0),
-    ("two words, one there", &[0x10, 2, 1, 7], NO_LIMIT, ErrorKind::PrematureEndOfPackedInput, 0),
-    ("two words, the second cut", &[0x10, 2, 1, 7, 3, 5], NO_LIMIT,
-     ErrorKind::PrematureEndOfPackedInput, 0),
-    ("no count of zero words", &[0x10, 2, 0], NO_LIMIT, ErrorKind::PrematureEndOfPackedInput, 0),
-    ("no count of literal words", &[0x10, 2, 0xff, 1, 2, 3, 4, 5, 6, 7, 8], NO_LIMIT,
-     ErrorKind::PrematureEndOfPackedInput, 0),
-    ("a literal run that is cut", &[0x10, 2, 0xff, 1, 2, 3, 4, 5, 6, 7, 8, 1, 9, 10], NO_LIMIT,
-     ErrorKind::FailedToFillTheWholeBuffer, 0),
-    ("a zero run past the end", &[0x10, 2, 0, 2, 7], NO_LIMIT,
-     ErrorKind::PackedInputDidNotEndCleanlyOnASegmentBoundary, 1),
-    ("a zero run past the end, after a word", &[0x10, 2, 1, 7, 0, 1, 5, 5], NO_LIMIT,
+    ("a zero run past the end, after a word", &[0x10, 2, 1, 7, 0, 1, 5, 5],
      ErrorKind::PackedInputDidNotEndCleanlyOnASegmentBoundary, 2),
-    ("a literal run past the end", &[0x10, 2, 0xff, 1, 2, 3, 4, 5, 6, 7, 8, 2, 9, 9, 9], NO_LIMIT,
+    ("a literal run past the end", &[0x10, 2, 0xff, 1, 2, 3, 4, 5, 6, 7, 8, 2, 9, 9, 9],
      ErrorKind::PackedInputDidNotEndCleanlyOnASegmentBoundary, 3),
-    ("a cut zero run that goes past the end", &[0x10, 1, 0, 255], NO_LIMIT,
+    ("a cut zero run that goes past the end", &[0x10, 1, 0, 255],
      ErrorKind::PackedInputDidNotEndCleanlyOnASegmentBoundary, 0),
-    ("a cut literal run that goes past the end", &[0x10, 1, 0xff, 1, 2, 3, 4, 5, 6, 7, 8, 1], NO_LIMIT,
+    ("a cut literal run that goes past the end", &[0x10, 1, 0xff, 1, 2, 3, 4, 5, 6, 7, 8, 1],
      ErrorKind::PackedInputDidNotEndCleanlyOnASegmentBoundary, 0),
 ];
 
 #[test]
-fn messages_fail(rt: HostRuntime) {
-    for &(name, encoding, limit, kind, unread) in &FAILING {
+fn messages_fail(rt: HostRuntime) -> Result<()> {
+    for &(name, encoding, kind, unread) in &FAILING {
         for most in 1..=24 {
-            assert_failure(&rt, (encoding, limit), kind, unread, At::new(name, most));
+            retried!(skip_failing(&rt, encoding, kind, unread, At::new(name, most)))?;
         }
     }
+    Ok(())
 }
 
-fn assert_failure(
+fn skip_failing(
     rt: &(impl Abort + AllocGlobal),
-    (encoding, limit): (&[u8], Option<usize>),
+    encoding: &[u8],
     kind: ErrorKind,
     unread: usize,
     at: At<'_>,
-) {
+) -> Result<()> {
     let mut source = Trickle::new(encoding, at.number as usize);
-    let mut found = error_of(rt.alloc(), &mut source, limit);
-    if found == Some(ErrorKind::OutOfMemory) {
-        source = Trickle::new(encoding, at.number as usize);
-        found = error_of(rt.alloc(), &mut source, limit);
-    }
-    assert_kind(rt, found, Some(kind), at);
-    assert_count(rt, source.bytes.len(), unread, at);
-}
-
-fn error_of(alloc: Global, source: &mut Trickle<'_>, limit: Option<usize>) -> Option<ErrorKind> {
-    let rules = TableRules {
-        limit_in_words: limit,
-        ..STRICT
-    };
-    skip(source, rules, SegmentLengthsBuilder::empty(alloc))
-        .err()
-        .map(|error| error.kind)
-}
-
-// Two segments, of 0 words and of 1, whose table has a padding of 9.
-const PADDED: &[u8] = &[1, 1, 0x11, 1, 9, 1, 7];
-
-// The message is accepted by its rule alone, and nothing is unread after it.
-#[test]
-fn a_padding_is_skipped_by_its_rule(rt: HostRuntime) -> Result<()> {
-    let at = At::case("a padding of 9");
-    let mut source = PADDED;
-    let lengths = retried!({
-        source = PADDED;
-        let lengths = SegmentLengthsBuilder::empty(rt.alloc());
-        try_skip_packed_segments(&mut source, ANY_PADDING, lengths)
-    })?;
-    assert_holds(&rt, has_lengths(&needed(lengths)?, &[&[], &[0; 8]]), at);
-    assert_count(&rt, source.len(), 0, at);
     let lengths = SegmentLengthsBuilder::empty(rt.alloc());
-    let none = try_skip_packed_segments(&mut source, ANY_PADDING, lengths)?;
-    assert_holds(&rt, none.is_none(), at);
+    let returned = kind_of(skip(&mut source, STRICT, lengths))?;
+    assert_kind(rt, returned, Some(kind), at);
+    assert_count(rt, source.bytes.len(), unread, at);
     Ok(())
 }
 
@@ -241,26 +203,6 @@ fn blame(rt: &(impl Abort + AllocGlobal), message: &Message, fails_at: u64) -> R
             assert_kind(rt, Some(error.kind), Some(ErrorKind::DeviceFailed), at);
             assert_holds(rt, source.failures == 1, at);
         }
-    }
-    Ok(())
-}
-
-// A table that is read by itself leaves the segments unread.
-#[test]
-fn tables_are_read_by_themselves(rt: HostRuntime) -> Result<()> {
-    for message in &MESSAGES {
-        let at = At::case(message.name);
-        let mut source = message.table;
-        let lengths = retried!({
-            source = message.table;
-            let lengths = SegmentLengthsBuilder::empty(rt.alloc());
-            read_table(&mut source, STRICT, lengths)
-        })?;
-        assert_holds(&rt, has_lengths(&needed(lengths)?, message.segments), at);
-        assert_count(&rt, source.len(), 0, at);
-        let lengths = SegmentLengthsBuilder::empty(rt.alloc());
-        let none = read_table(&mut source, STRICT, lengths)?;
-        assert_holds(&rt, none.is_none(), at);
     }
     Ok(())
 }

@@ -1,17 +1,15 @@
 //! Messages that are written one after the other and read back.
-use crate::assertions::{At, assert_bytes, assert_calls, assert_count, assert_holds, assert_kind};
+use crate::assertions::{At, assert_bytes, assert_calls, assert_holds, assert_kind};
 use crate::failures::FORMATS;
-use crate::readers::with_limit;
 use crate::samples::{ONE_AND_TWO, TWO};
 use crate::streams::{PACKED_THREE, THREE};
 use capnp::message::Reader;
 use capnp::streams::{Format, read_messages, write_messages};
 use capnp_frame::io::Write;
-use capnp_frame::message::SegmentArray;
+use capnp_frame::message::{DEFAULT_READER_OPTIONS, SegmentArray};
 use capnp_frame::serialize::{OwnedSegments, is_writable};
 use capnp_frame::{ErrorKind, Result};
 use capnp_frame_tests::errors::kind_of;
-use capnp_frame_tests::limits::{DEFAULT_LIMIT, NO_LIMIT};
 use capnp_frame_tests::messages::has_segments;
 use capnp_frame_tests::retried;
 use capnp_frame_tests::sinks::FailingSink;
@@ -57,30 +55,12 @@ fn read(
     format: Format,
     source: &mut &[u8],
     count: usize,
-    limit: Option<usize>,
 ) -> Result<Vec<Reader<OwnedSegments>>> {
-    read_messages(rt.alloc(), source, format, count, with_limit(limit))
+    read_messages(rt.alloc(), source, format, count, DEFAULT_READER_OPTIONS)
 }
 
-/// Writes two messages and reads them back, under no limit of words.
-pub fn read_back(
-    rt: &(impl Abort + AllocGlobal),
-    format: Format,
-    first: &[&[u8]],
-    second: &[&[u8]],
-) -> Result<Vec<Reader<OwnedSegments>>> {
-    let messages = [SegmentArray::new(first), SegmentArray::new(second)];
-    assert!(rt; is_writable(&messages[0]) && is_writable(&messages[1]));
-    let mut encoding: Vec<u8> = Vec::new(rt.alloc());
-    write_messages(rt.alloc(), &mut encoding, format, &messages)?;
-    let mut source = encoding.as_slice();
-    let readers = read(rt, format, &mut source, 2, NO_LIMIT)?;
-    assert!(rt; source.is_empty());
-    Ok(readers)
-}
-
-/// Whether these are the messages.
-pub fn are_read(readers: &[Reader<OwnedSegments>], messages: &[&[&[u8]]]) -> bool {
+// Whether these are the messages.
+fn are_read(readers: &[Reader<OwnedSegments>], messages: &[&[&[u8]]]) -> bool {
     for (reader, segments) in readers.iter().zip(messages) {
         if !has_segments(reader.get_segments(), segments) {
             return false;
@@ -105,9 +85,9 @@ fn write_and_read(rt: &(impl Abort + AllocGlobal), format: Format) -> Result<()>
     write_three(rt, format, &mut encoding)?;
     assert_bytes(rt, encoding.as_slice(), encoding_of(format), at);
     let mut source = encoding_of(format);
-    let two = read(rt, format, &mut source, 2, DEFAULT_LIMIT)?;
+    let two = read(rt, format, &mut source, 2)?;
     assert_holds(rt, are_read(&two, &[ONE_AND_TWO, TWO]), at);
-    let one = read(rt, format, &mut source, 1, DEFAULT_LIMIT)?;
+    let one = read(rt, format, &mut source, 1)?;
     assert_holds(rt, are_read(&one, &[EMPTY]) && source.is_empty(), at);
     Ok(())
 }
@@ -119,49 +99,9 @@ fn write_none(rt: &(impl Abort + AllocGlobal), format: Format) -> Result<()> {
     let mut sink: Vec<u8> = Vec::new(rt.alloc());
     write_messages(rt.alloc(), &mut sink, format, &none)?;
     let mut source = encoding_of(format);
-    let read = read(rt, format, &mut source, 0, DEFAULT_LIMIT)?;
+    let read = read(rt, format, &mut source, 0)?;
     assert_holds(rt, sink.is_empty() && read.is_empty(), at);
     assert_bytes(rt, source, encoding_of(format), at);
-    Ok(())
-}
-
-// A limit, how many messages are asked for, and the error with what is unread then, framed and
-// packed.
-type Failure = (Option<usize>, usize, ErrorKind, usize, usize);
-
-#[rattlefmt::skip]
-const ERRORS: [Failure; 4] = [
-    (Some(2), 3, ErrorKind::MessageTooLarge(3), 56, 22),
-    (Some(0), 1, ErrorKind::MessageTooLarge(3), 56, 22),
-    (NO_LIMIT, 4, ErrorKind::PrematureEndOfFile, 0, 0),
-    (Some(3), usize::MAX, ErrorKind::PrematureEndOfFile, 0, 0),
-];
-
-#[test]
-fn messages_that_are_not_there(rt: HostRuntime) -> Result<()> {
-    for (number, case) in (0..).zip(&ERRORS) {
-        for format in &FORMATS {
-            let at = At::new(name_of(*format).case, number);
-            retried!(read_too_many(&rt, *format, case, at))?;
-        }
-    }
-    Ok(())
-}
-
-fn read_too_many(
-    rt: &(impl Abort + AllocGlobal),
-    format: Format,
-    &(limit, count, kind, framed, packed): &Failure,
-    at: At<'_>,
-) -> Result<()> {
-    let unread = match format {
-        Format::Framed => framed,
-        Format::Packed => packed,
-    };
-    let mut source = encoding_of(format);
-    let returned = kind_of(read(rt, format, &mut source, count, limit))?;
-    assert_kind(rt, returned, Some(kind), at);
-    assert_count(rt, source.len(), unread, at);
     Ok(())
 }
 

@@ -1,70 +1,15 @@
-//! Messages that are built, written and read back.
+//! Messages of more segments than a reader accepts, which are built, written and read back.
 use crate::assertions::{At, assert_bytes, assert_count, assert_kind};
 use crate::built_messages::{size_of, words_of, write};
 use crate::failures::FORMATS;
-use capnp::any_struct::{self, StructBuilder, StructReader};
-use capnp::message::{
-    AllocationStrategy, Builder, DEFAULT_READER_OPTIONS, HeapAllocator, ReaderSegments,
-    TypedBuilder, TypedReader,
-};
+use capnp::message::{AllocationStrategy, Builder, DEFAULT_READER_OPTIONS, HeapAllocator};
 use capnp::streams::{Format, read_messages};
-use capnp::{primitive_list, serialize, serialize_packed, text};
+use capnp::text;
 use capnp_frame::{ErrorKind, Result};
 use capnp_frame_tests::errors::kind_of;
 use capnp_frame_tests::retried;
 use std::alloc::Global;
 use std::process::Abort;
-
-#[test]
-fn a_list_of_numbers(rt: HostRuntime) -> Result<()> {
-    retried!(build_list(&rt))
-}
-
-fn build_list(rt: &(impl Abort + AllocGlobal)) -> Result<()> {
-    let mut message = Builder::new_default(rt.alloc());
-    message.initn_root::<primitive_list::Owned<u64>>(5)?;
-    assert_count(rt, size_of(rt, &message)?, 7, At::case("five numbers"));
-    Ok(())
-}
-
-const PACKED_WORDS: [u8; 8] = [0x10, 3, 0x10, 2, 1, 10, 1, 20];
-
-#[test]
-fn a_struct_through_typed_wrappers(rt: HostRuntime) -> Result<()> {
-    retried!(build_struct(&rt))?;
-    retried!(read_struct(&rt))
-}
-
-fn build_struct(rt: &(impl Abort + AllocGlobal)) -> Result<()> {
-    let mut message: TypedBuilder<any_struct::Owned, HeapAllocator> = TypedBuilder::new_default(
-        rt.alloc(),
-    );
-    {
-        let mut fields: StructBuilder<'_, TypedBuilder<any_struct::Owned, HeapAllocator>> =
-            message.initn_root(2)?;
-        fields.set_word(0, 10);
-        fields.set_word(1, 20);
-    }
-    let mut sink: Vec<u8> = Vec::new(rt.alloc());
-    write(rt, Format::Packed, &mut sink, &message.into_inner())?;
-    assert_bytes(
-        rt,
-        sink.as_slice(),
-        &PACKED_WORDS,
-        At::case("a struct of two words"),
-    );
-    Ok(())
-}
-
-fn read_struct(rt: &(impl Abort + AllocGlobal)) -> Result<()> {
-    let mut source = PACKED_WORDS.as_slice();
-    let options = DEFAULT_READER_OPTIONS;
-    let reader = serialize_packed::read_message(rt.alloc(), &mut source, options)?;
-    let typed: TypedReader<serialize::OwnedSegments, any_struct::Owned> = TypedReader::new(reader);
-    let fields: StructReader<'_, serialize::OwnedSegments> = typed.get()?;
-    assert!(rt; fields.get_word(0) == 10 && fields.get_word(1) == 20);
-    Ok(())
-}
 
 // A segment of one word for the root, and one more for each text that is set: 511 are written and
 // read back, 512 fail for their number.

@@ -19,8 +19,6 @@ mod canonical_encodings;
 #[cfg(test)]
 mod devices;
 #[cfg(test)]
-mod each_message;
-#[cfg(test)]
 mod failures;
 #[cfg(test)]
 mod flat;
@@ -34,8 +32,6 @@ mod requests;
 mod roots;
 #[cfg(test)]
 mod samples;
-#[cfg(test)]
-mod segment_counts;
 #[cfg(test)]
 mod skipping;
 #[cfg(test)]

@@ -5,12 +5,8 @@ use capnp::message::{Reader, ReaderOptions, ReaderSegments};
 use capnp::{ErrorKind, Result, data, serialize, text};
 use std::process::Abort;
 
-/// The root is this text.
-pub fn assert_text<S: ReaderSegments>(
-    rt: &impl Abort,
-    reader: &Reader<S>,
-    text: &[u8],
-) -> Result<()> {
+// The root is this text.
+fn assert_text<S: ReaderSegments>(rt: &impl Abort, reader: &Reader<S>, text: &[u8]) -> Result<()> {
     let root: text::Reader = reader.get_root()?;
     assert!(rt; root.as_bytes() == text);
     Ok(())

@@ -12,10 +12,10 @@ use capnp_frame_tests::sources::{Failing, Trickle};
 use std::alloc::Global;
 use std::process::Abort;
 
-pub const WAYS: [Way; 2] = [Way::Pack, Way::Unpack];
+const WAYS: [Way; 2] = [Way::Pack, Way::Unpack];
 
-/// The error, where there is one. An `OutOfMemory` is handed back.
-pub fn transcoded<R: BufRead, W: Write>(
+// The error, where there is one. An `OutOfMemory` is handed back.
+fn transcoded<R: BufRead, W: Write>(
     rt: &impl AllocGlobal,
     way: Way,
     source: &mut R,
