@@ -3,47 +3,17 @@
 //   node --experimental-wasm-memory64 wasm.js LINSJOAR.WASM FRAMED [PACKED]
 //
 // It reads the message from the file FRAMED, writes the packed text to the file PACKED where one is
-// named, and prints one line. The status is 1 where what is unpacked differs, else the number of the
-// refusal, 0 without one. The flag lets node 20 have a memory of 64 bits.
+// named, and prints one line. The status is 1 where what is unpacked differs, else the number of an
+// error, 0 without one. The flag lets node 20 have a memory of 64 bits.
 "use strict";
 const fs = require("fs");
+const { load, accept } = require("./module.js");
 
-const PAGE_BYTES = 65536;
 // Of n words a packed text has at most 10 n bytes.
 const MOST_PACKED = 10 / 8;
 
 const [modulePath, framedPath, packedPath] = process.argv.slice(2);
-const library = new WebAssembly.Instance(new WebAssembly.Module(fs.readFileSync(modulePath))).exports;
-
-// Grows the memory by a block of so many bytes, which only the caller uses, and returns its address.
-function newBlock(bytes) {
-  const pages = Math.ceil(bytes / PAGE_BYTES);
-  let before;
-  try {
-    before = library.memory.grow(pages);
-  } catch (error) {
-    // An engine may count the pages of such a memory by integers of 64 bits.
-    before = library.memory.grow(BigInt(pages));
-  }
-  return BigInt(before) * BigInt(PAGE_BYTES);
-}
-
-// The bytes of a block as they stand now: growing the memory moves it.
-function bytesAt(address, length) {
-  return new Uint8Array(library.memory.buffer, Number(address), length);
-}
-
-// A size that the library told.
-function sizeAt(address) {
-  return Number(new DataView(library.memory.buffer).getBigUint64(Number(address), true));
-}
-
-function accept(refusal) {
-  if (refusal !== 0) {
-    console.error(`refused: ${refusal}`);
-    process.exit(refusal);
-  }
-}
+const { library, newBlock, bytesAt, sizeAt } = load(modulePath);
 
 const message = fs.readFileSync(framedPath);
 const packedRoom = Math.ceil(message.length * MOST_PACKED);

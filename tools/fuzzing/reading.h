@@ -22,8 +22,10 @@ protected:
     const Message &message;
     Walk walk;
     Library &library;
+    bool limited;
 
-    Reading(const Message &message, uint64_t limit, Library &library) : message(message), walk{message}, library(library) {
+    Reading(const Message &message, uint64_t limit, Library &library)
+        : message(message), walk{message}, library(library), limited(limit != 0) {
         walk.limit = limit ? limit : UINT64_MAX / 16;
     }
 
@@ -119,4 +121,7 @@ protected:
 
 public:
     Bytes log;
+
+    // How many words may still be read; the largest number where there is no limit.
+    uint64_t words_left() const { return limited ? walk.limit - walk.charged : UINT64_MAX; }
 };
