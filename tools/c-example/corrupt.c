@@ -1,12 +1,12 @@
-/* Gives the calls of crates/capnp_c that read in place numbers that no call wrote: readers, places, structs and lists of
- * which some bytes are others, and other bytes than those of the message.
+/* Gives the calls of crates/capnp_c that read in place numbers that no call wrote: readers, places, structs and lists
+ * of which some bytes are others, and other bytes than those of the message.
  *
  *   corrupt SEED [heap] < INPUTS
  *
  * INPUTS has, of each message, its length and a number that is left out here in four bytes each, and the message, as
- * tools/fuzzing/views.cc writes them. The bytes end where a page begins that can't be read, or with `heap` are a block from
- * malloc. A call may return any number. What it finds has to lie within the bytes, and what it writes has to be 0 after
- * an error, and then the reader is as before. It prints how many calls there were, and the status is 1 where one is wrong. */
+ * tools/fuzzing/views.cc writes them. The bytes end where a page begins that can't be read, or with `heap` are a block
+ * from malloc. Any call may fail. What it finds has to lie within the bytes; after an error what it writes has to be 0,
+ * and the reader as before. It prints how many calls there were, and the status is 1 where one is wrong. */
 #define _DEFAULT_SOURCE
 #include "capnp_c.h"
 
@@ -62,7 +62,8 @@ static int is_blank(const struct linsjoar_place *found) {
 
 static uint8_t read_struct(void) {
     uint8_t number = linsjoar_struct(bytes, len, &reader, &place, &fields);
-    check(!number || !(fields.start || fields.data_len || fields.pointers || !is_blank(&fields.first)), "a struct is not 0");
+    check(!number || !(fields.start || fields.data_len || fields.pointers || !is_blank(&fields.first)),
+          "a struct is not 0");
     touch(fields.start, fields.data_len);
     return number;
 }
@@ -133,7 +134,7 @@ static uint8_t call_one(void) {
     }
 }
 
-/* Calls of one message. The bytes that are passed begin with the message, as often as not, or after some bytes of it. */
+/* Calls of one message. The bytes that are passed begin with it, or in one call of four after some bytes of it. */
 static void try_message(const uint8_t *message, size_t message_len) {
     linsjoar_open(message, message_len, &reader);
     linsjoar_root(message, message_len, &reader, &place);

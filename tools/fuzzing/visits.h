@@ -43,7 +43,8 @@ static void note_numbers(const struct linsjoar_place *pointer, opening *open) {
     }
 }
 
-/* A list of pointers: how many it has, and what a view reads of the first ones, or without one whether they are null. */
+/* A list of pointers: how many it has, and what a view reads of the first ones. Without a view, whether these are
+ * null. */
 static void note_pointers(const struct linsjoar_place *pointer, opening *open, view *read, uint32_t most) {
     struct linsjoar_list list;
     uint64_t sum = empty_sum;
@@ -55,9 +56,9 @@ static void note_pointers(const struct linsjoar_place *pointer, opening *open, v
         uint64_t inner = sum;
         expect(linsjoar_list_pointer(&list, index, &element));
         add(&inner, read ? 0 : (uint64_t)is_null(&element));
-        uint8_t no = read ? read(&element, &inner) : 0;
-        if (no)
-            add(&sum, no);
+        uint8_t failed = read ? read(&element, &inner) : 0;
+        if (failed)
+            add(&sum, failed);
         else
             sum = inner;
     }
