@@ -45,6 +45,18 @@ fn has_written(segments: &OwnedSegments) -> bool {
 }
 
 #[test]
+fn no_lengths_make_no_segments(rt: HostRuntime) -> Result<()> {
+    retried!(make_no_segments(&rt))
+}
+
+fn make_no_segments(rt: &(impl Abort + AllocGlobal)) -> Result<()> {
+    let lengths = SegmentLengthsBuilder::with_capacity(rt.alloc(), 0)?;
+    let segments = lengths.into_owned_segments()?;
+    assert!(rt; segments.is_empty());
+    Ok(())
+}
+
+#[test]
 fn a_failed_length_is_not_added(rt: HostRuntime) -> Result<()> {
     retried!(push_after_three(&rt))
 }
