@@ -67,6 +67,24 @@ impl<S: ReaderSegments> ReaderArena<S> {
         })
     }
 
+    /// The pointer at a place, below which as many objects may follow one another; null where there
+    /// is no place. Nothing is read.
+    pub fn pointer_at(&self, place: Option<Place>, nesting: u32) -> any_pointer::Reader<'_, S>
+        ensures { pointer_of S.segments result ≡ record {
+          message = message_of (S.segments self.now.segments);
+          place = place;
+          nesting = nesting;
+          limit = self.now.limiter.limit;
+        } }
+    {
+        any_pointer::Reader {
+            segments: &self.segments,
+            limiter: Some(&self.limiter),
+            place,
+            nesting,
+        }
+    }
+
     /// Whether the message is in canonical form: one segment, whose words are the canonical form of
     /// its root tree.
     ///
