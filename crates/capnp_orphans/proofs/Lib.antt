@@ -8,3 +8,6 @@ pub mod ObjectAppendLemmas
 pub mod PointerCopyWordsAndErrorLemmas
 pub mod PointersCopiedUntilErrorLemmas
 pub mod ResizedDataFieldLemmas
+pub mod RegionContinuedAfterAppendLemmas
+pub mod StructElementsAsDraftsLemmas
+pub mod NumbersInBytesAsOrphanLemmas

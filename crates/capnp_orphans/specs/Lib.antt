@@ -4,4 +4,6 @@ pub mod Segments
 pub mod Holds
 pub mod Adding
 pub mod Copied
+pub mod Regions
+pub mod Sized
 pub mod OrphanLaws

@@ -1,7 +1,7 @@
 -- Objects of one segment that no pointer points to yet (src/orphan.rt). Each is written once, when everything
 -- below it is written, and no word of it changes after that. Only the first word of the segment, the root's,
 -- may change. The words after it are called the body of the segment here.
-use Rattle.std.specs.Prelude.{◌≡◌, ℕ, ◌+◌, ◌-◌, ◌*◌, ◌/◌, ◌%◌, ◌^◌, ◌<◌, ◌==◌, if◌then◌else◌, List, [], ◌∷◌, ◌++◌, Some, slice_get}
+use Rattle.std.specs.Prelude.{◌≡◌, ℕ, ◌+◌, ◌^◌, ◌<◌, List, [], ◌∷◌, ◌++◌, Some, slice_get}
 pub use Rattle.capnp_layout.specs.Prelude.{link}
 use Rattle.capnp_layout.specs.Prelude.{Form, Trees, none, tree, At}
 

@@ -12,6 +12,7 @@
 //! [encoding document]: https://capnproto.org/encoding.html
 #![tactic(auto)]
 
+pub mod continued;
 mod copied;
 mod draft;
 mod draft_source;
@@ -19,6 +20,7 @@ mod drafts;
 mod heap;
 pub mod laws;
 mod object;
+pub mod objects;
 mod orphan;
 mod orphanage;
 mod pointer_list;

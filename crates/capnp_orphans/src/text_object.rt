@@ -57,9 +57,9 @@ impl<'a> Object for TextObject<'a> {
     }
 }
 
-// Puts the bytes of a text into a block of exactly its words, and zeros after them.
+/// Puts the bytes of a text into a block of exactly its words, and zeros after them.
 #[inline(always)]
-fn put_text(bytes: &[u8], block: &mut [u8])
+pub(crate) fn put_text(bytes: &[u8], block: &mut [u8])
     requires whole { length block.old % 8 ≡ 0 }
     requires room { length bytes.now < length block.old }
     requires last { length block.old ≤ length bytes.now + 8 }

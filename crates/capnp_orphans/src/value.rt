@@ -8,15 +8,20 @@ use capnp_wire::traits::SetterInput;
 use std::marker::PhantomData;
 
 /// A value that a pointer can be set to, as an object.
+///
+/// ```
+/// let value = Value::<text::Owned, &str>::new(&"hi");
+/// assert_eq!(rt; value.measure()?, 1);
+/// ```
 #[derive(Drop)]
-pub(crate) struct Value<'a, T, V> {
+pub struct Value<'a, T, V> {
     value: &'a V,
     schema: PhantomData<T>,
 }
 
 impl<'a, T, V> Value<'a, T, V> {
     /// The object of a value.
-    pub(crate) fn new(value: &'a V) -> Value<'a, T, V>
+    pub fn new(value: &'a V) -> Value<'a, T, V>
         ensures { result.value.now ≡ value.now }
     {
         Value {

@@ -57,9 +57,9 @@ pub(crate) fn draft_fits<T, const D: usize, const P: usize>(draft: &StructDraft<
     words_fit(&draft.words);
 }
 
-// The orphan's word for a struct that begins at this word of the segment.
+/// The orphan's word for a struct that begins at this word of the segment.
 #[inline(always)]
-fn struct_orphan(start: u32, words: usize, pointers: usize) -> u64
+pub(crate) fn struct_orphan(start: u32, words: usize, pointers: usize) -> u64
     requires start { start < 2 ^ 29 }
     requires words { words < 2 ^ 16 }
     requires pointers { pointers < 2 ^ 16 }

@@ -1,5 +1,5 @@
 -- The object comes after the used bytes.
-use Rattle.std.proofs.Common.{◌≡◌, ◌+◌, ◌*◌, ◌≤◌, ◌<◌, ℕ, length, take, refl, ap, arith, length-take}
+use Rattle.std.proofs.Common.{length, refl, ap, arith, length-take}
 use Rattle.capnp_orphans.specs.Segments.{Segment}
 use Rattle.capnp_orphans.proofs.ObjectAppendLemmas.{heap_appended}
 use Rattle.capnp_orphans.proofs.heap.HeapGrowingSegment.append_within.Goals as goal

@@ -1,5 +1,5 @@
 -- The object comes after the used bytes.
-use Rattle.std.proofs.Common.{◌≡◌, ◌+◌, ◌*◌, ◌≤◌, ◌<◌, ℕ, length, ap, arith, length-take}
+use Rattle.std.proofs.Common.{length, ap, arith, length-take}
 use Rattle.capnp_orphans.specs.Segments.{Segment}
 use Rattle.capnp_orphans.proofs.ObjectAppendLemmas.{region_appended}
 use Rattle.capnp_orphans.proofs.region.RegionGrowingSegment.append_within.Goals as goal
