@@ -11,6 +11,7 @@
 
 #include <stddef.h>
 #include <stdint.h>
+#include <string.h>
 
 #ifdef __cplusplus
 extern "C" {
@@ -73,8 +74,9 @@ enum linsjoar_error {
     LINSJOAR_NOT_ONE_SEGMENT = 25,
     /* The padding of a segment table is not zero. */
     LINSJOAR_NON_ZERO_PADDING = 26,
-    /* A reader is not one of the bytes, no call wrote a struct or a list, or no list has such a code. The calls
-     * that read in place alone return it. */
+    /* A reader is not one of the bytes, a builder is not one of the region, no call wrote a struct or a list, no
+     * list has such a code, or an array has another length. The calls that read in place and those that build
+     * alone return it. */
     LINSJOAR_INVALID_ARGUMENT = 27
 };
 
@@ -149,9 +151,9 @@ struct linsjoar_options {
      * no limit. */
     size_t traversal_limit_in_words;
     /* How deep objects may be nested where a canonical form is measured or written, or objects are read in
-     * place (else 19 is returned); a number below 0 is as 0. The walk for a canonical form calls itself at
-     * each, so a larger limit may take more of the stack. The other calls look at no object, and don't read
-     * this. */
+     * place or copied (else 19 is returned); a number below 0 is as 0. The walk for a canonical form or a copy
+     * calls itself at each, so a larger limit may take more of the stack. The other calls look at no object,
+     * and don't read this. */
     int32_t nesting_limit;
 };
 
@@ -354,21 +356,130 @@ uint8_t linsjoar_list_number(const uint8_t *bytes, size_t len, const struct lins
 uint8_t linsjoar_list_struct(const struct linsjoar_list *list, uint32_t index, struct linsjoar_struct *fields);
 uint8_t linsjoar_list_pointer(const struct linsjoar_list *list, uint32_t index, struct linsjoar_place *pointer);
 
+/* Messages that are built, from the bottom up.
+ *
+ * A message is built in a region, memory of the caller's: at its front are the message's table and its one segment,
+ * in the form that linsjoar_open and linsjoar_pack_message read. Each object is written once, after all that it
+ * points to, and is an orphan until a pointer points to it: a pointer of another object that is added later, or the
+ * root. So a tree is added from its leaves up, and the root is set last.
+ *
+ * A builder and an orphan are numbers that the caller keeps, and may copy. They hold no pointer, so the region may be
+ * moved: where a call returns 2, a larger region with the same bytes at its front (realloc) goes on with the same
+ * builder, and the orphans stay as good. A copy of a builder that is put back forgets what was added since.
+ * `region` and `room` are the block that the message is built in; no call reads or changes a byte past `room`.
+ *
+ * An orphan is one word. 0 is null. An orphan that several pointers point to is in the message once, and is counted
+ * by readers once for each of them. One to which none points stays in the message, and no reader finds it.
+ *
+ * Each call takes any bytes, and any numbers. An orphan that no call wrote for this region does no harm: readers
+ * find another object, or fail. A builder that no call wrote for this region, as one of zeros, makes a call return 27.
+ * After an error the builder and the bytes of the region are as they were, and what the call had to write is 0.
+ *
+ * The calls that add an object return, in this order: 27 where the builder is not one of the region, or an argument
+ * is wrong, as each says; 15 where no segment has room for the object, since with it the segment would have 2^29
+ * words or more, or since no pointer can say its size; 2 where the region has no room for it. So 0 is returned exactly
+ * where the object has room. linsjoar_add_copy alone returns other numbers. */
+
+/* What is known of a message that is being built. */
+struct linsjoar_builder {
+    size_t used; /* how many bytes at the front of the region are the message's, its table among them */
+};
+
+/* The orphan of no object. */
+#define LINSJOAR_NULL_ORPHAN UINT64_C(0)
+
+/* Begins a message, whose root is null: it takes 16 bytes, whatever is there. It returns 2 where there is no room for
+ * them; then the builder is of no region. */
+uint8_t linsjoar_begin(struct linsjoar_builder *builder, uint8_t *region, size_t room);
+
+/* Adds a Text of these bytes, which are to be UTF-8 (no call tests it), and a zero byte after them: (len + 8) / 8
+ * words. */
+uint8_t linsjoar_add_text(struct linsjoar_builder *builder, uint8_t *region, size_t room, const uint8_t *text,
+                          size_t len, uint64_t *orphan);
+
+/* Adds a Data of these bytes: (len + 7) / 8 words. */
+uint8_t linsjoar_add_data(struct linsjoar_builder *builder, uint8_t *region, size_t room, const uint8_t *data,
+                          size_t len, uint64_t *orphan);
+
+/* Adds a list of `count` numbers of an enum linsjoar_code from LINSJOAR_VOID to LINSJOAR_EIGHT_BYTES. `elements` are
+ * the numbers as the message has them: little-endian, one after the other; bits from the lowest of each byte on, and
+ * what is left of the last byte doesn't matter. So on a little-endian machine an array of integers or of floats is
+ * passed as it is. `len` is how many bytes these are: the bits of all, rounded up to whole bytes; else 27 is
+ * returned, and for other codes. */
+uint8_t linsjoar_add_numbers(struct linsjoar_builder *builder, uint8_t *region, size_t room, uint8_t code,
+                             size_t count, const uint8_t *elements, size_t len, uint64_t *orphan);
+
+/* Adds a struct of these data words, numbers whose lowest byte comes first in the message, and of pointers to these
+ * orphans. It returns 15 for 65536 or more of either. */
+uint8_t linsjoar_add_struct(struct linsjoar_builder *builder, uint8_t *region, size_t room, const uint64_t *words,
+                            size_t data_words, const uint64_t *orphans, size_t pointers, uint64_t *orphan);
+
+/* Adds a list of pointers to these orphans: of texts, of data, of lists, or of structs that are added one by one. */
+uint8_t linsjoar_add_pointers(struct linsjoar_builder *builder, uint8_t *region, size_t room,
+                              const uint64_t *orphans, size_t count, uint64_t *orphan);
+
+/* Adds a list of `count` structs that have `data_words` data words and `pointers` pointers each. `elements` has each
+ * struct in order: its data words, and then its orphans. So an array of structs of C that hold uint64_t words[..] and
+ * then uint64_t orphans[..] is passed as it is. It returns 27 where `elements_len`, the number of words, is not
+ * count * (data_words + pointers). */
+uint8_t linsjoar_add_structs(struct linsjoar_builder *builder, uint8_t *region, size_t room, const uint64_t *elements,
+                             size_t elements_len, size_t count, uint16_t data_words, uint16_t pointers,
+                             uint64_t *orphan);
+
+/* Adds a copy of what a pointer of another message points to, with all below it, untrimmed. `bytes`, `len`, the reader
+ * and the place are as linsjoar_kind takes them, and the bytes are not the region's. Null makes the orphan of no
+ * object. It takes nothing from words_left. The walk over these objects calls itself as deep as they are nested, as
+ * linsjoar_canonical does. Before 15 it returns 27 where the reader is not one of these bytes, or its nesting limit
+ * is below the nesting of the place; and then the number of the error with which the walk stops, 20 among them
+ * where the objects have more words than are left. */
+uint8_t linsjoar_add_copy(struct linsjoar_builder *builder, uint8_t *region, size_t room, const uint8_t *bytes,
+                          size_t len, const struct linsjoar_reader *reader, const struct linsjoar_place *pointer,
+                          uint64_t *orphan);
+
+/* Makes the root point to an orphan, or null. It returns 0, or 27 where the builder is not one of the region. It may be
+ * called again, before and after other objects are added. */
+uint8_t linsjoar_set_root(const struct linsjoar_builder *builder, uint8_t *region, size_t room,
+                          uint64_t orphan);
+
+/* Writes the table, so that the first `message_len` bytes of the region are the framed message, to be sent, opened by
+ * linsjoar_open, or packed by linsjoar_pack_message. message_len is builder->used. It returns 0, or 27 where the
+ * builder is not one of the region. More may be added after it; then it is called again. */
+uint8_t linsjoar_finish(const struct linsjoar_builder *builder, uint8_t *region, size_t room, size_t *message_len);
+
 /* The rest is C, and no proof covers it. It takes structs that a call wrote for these bytes, so that their data lie
  * within these, and tests nothing. */
 
 /* The address of what this many bytes of the message are before. */
 static inline const uint8_t *linsjoar_at(const uint8_t *bytes, size_t start) { return bytes + start; }
 
+/* Whether a number in memory has its lowest byte first, as in a message. */
+#if defined(__BYTE_ORDER__) && __BYTE_ORDER__ == __ORDER_LITTLE_ENDIAN__
+#define LINSJOAR_LITTLE_ENDIAN 1
+#else
+#define LINSJOAR_LITTLE_ENDIAN 0
+#endif
+
+/* The little-endian number of these bytes, at most 8. */
+static inline uint64_t linsjoar_number(const uint8_t *bytes, size_t size) {
+    uint64_t number = 0;
+    if (LINSJOAR_LITTLE_ENDIAN)
+        memcpy(&number, bytes, size);
+    else
+        for (size_t i = 0; i < size; i++)
+            number |= (uint64_t)bytes[i] << 8 * i;
+    return number;
+}
+
 /* The little-endian number of `size` bytes, at most 8, that are `at` bytes after the begin of a struct's data; 0 past
  * its end. */
 static inline uint64_t linsjoar_field(const uint8_t *bytes, const struct linsjoar_struct *fields, size_t at,
                                       size_t size) {
     const uint8_t *data = bytes + fields->start;
-    uint64_t number = 0;
-    for (size_t i = 0; i < size && at + i < fields->data_len; i++)
-        number |= (uint64_t)data[at + i] << 8 * i;
-    return number;
+    if (at >= fields->data_len)
+        return 0;
+    if (size > fields->data_len - at)
+        return linsjoar_number(data + at, fields->data_len - at);
+    return linsjoar_number(data + at, size);
 }
 
 /* A field of a struct by its index in the schema's layout: how many fields of its size are before it. */
@@ -386,6 +497,60 @@ static inline uint64_t linsjoar_u64(const uint8_t *bytes, const struct linsjoar_
 }
 static inline int linsjoar_bool(const uint8_t *bytes, const struct linsjoar_struct *fields, size_t index) {
     return (int)(linsjoar_field(bytes, fields, index / 8, 1) >> index % 8 & 1);
+}
+
+/* The pointer of a struct that linsjoar_struct_pointer finds, for an index below fields->pointers. */
+static inline struct linsjoar_place linsjoar_pointer_at(const struct linsjoar_struct *fields, uint16_t index) {
+    struct linsjoar_place pointer = fields->first;
+    pointer.word += index;
+    pointer.is_there = 1;
+    return pointer;
+}
+
+/* The struct that linsjoar_list_struct finds, for a list that is read as structs and an index below list->count. */
+static inline struct linsjoar_struct linsjoar_struct_at(const struct linsjoar_list *list, uint32_t index) {
+    struct linsjoar_struct fields;
+    fields.start = list->start + (size_t)index * (list->step / 8);
+    fields.data_len = list->data_len;
+    fields.first = list->first;
+    fields.first.word += (size_t)index * (list->step / 64);
+    fields.first.is_there = 1;
+    fields.pointers = list->pointers;
+    return fields;
+}
+
+/* The next ones set fields of the data words of a struct that is to be added. The words have to have the field; a
+ * field that has a default is XORed with it. */
+
+/* A byte of these words, by how many bytes are before it in the message. */
+static inline uint8_t *linsjoar_byte(uint64_t *words, size_t index) {
+    return (uint8_t *)words + (LINSJOAR_LITTLE_ENDIAN ? index : index ^ 7);
+}
+
+/* Sets a field of `size` bytes to the lowest ones of a number; `index` is how many fields of its size are before it. */
+static inline void linsjoar_set_bytes(uint64_t *words, size_t index, size_t size, uint64_t value) {
+    if (LINSJOAR_LITTLE_ENDIAN)
+        memcpy(linsjoar_byte(words, index * size), &value, size);
+    else
+        for (size_t i = 0; i < size; i++)
+            *linsjoar_byte(words, index * size + i) = (uint8_t)(value >> 8 * i);
+}
+
+/* Sets a field by its index in the schema's layout: how many fields of its size are before it. */
+static inline void linsjoar_set_u8(uint64_t *words, size_t index, uint8_t value) {
+    linsjoar_set_bytes(words, index, 1, value);
+}
+static inline void linsjoar_set_u16(uint64_t *words, size_t index, uint16_t value) {
+    linsjoar_set_bytes(words, index, 2, value);
+}
+static inline void linsjoar_set_u32(uint64_t *words, size_t index, uint32_t value) {
+    linsjoar_set_bytes(words, index, 4, value);
+}
+static inline void linsjoar_set_u64(uint64_t *words, size_t index, uint64_t value) { words[index] = value; }
+static inline void linsjoar_set_bool(uint64_t *words, size_t index, int value) {
+    uint8_t *byte = linsjoar_byte(words, index / 8);
+    unsigned bit = 1u << index % 8;
+    *byte = (uint8_t)(value ? *byte | bit : *byte & ~bit);
 }
 
 #ifdef __cplusplus

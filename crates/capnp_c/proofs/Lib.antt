@@ -6,3 +6,6 @@ pub mod PackWordsIntoBufferLemmas
 pub mod PackChunkCallSequenceLemmas
 pub mod UnpackMessageIntoBufferLemmas
 pub mod in_place
+pub mod ObjectAddedToMessageLemmas
+pub mod RegionAfterTableLemmas
+pub mod ListArgumentsAddedLemmas

@@ -7,3 +7,4 @@ pub mod Reading
 pub mod Entering
 pub mod ReadingExports
 pub mod ReadingLists
+pub mod Building

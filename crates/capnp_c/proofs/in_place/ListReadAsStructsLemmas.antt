@@ -1,7 +1,7 @@
 -- A list of structs or of pointers is read as structs.
 use Rattle.std.proofs.Common.{◌≡◌, ℕ, ◌+◌, ◌-◌, ◌*◌, ◌/◌, List, Option, refl, ap, ◌∙◌, suc, ◌≤◌, sym, subst, arith}
 use Rattle.std.proofs.Math.Nat.{mul-le-mul_left}
-use Rattle.capnp_layout.specs.Prelude.{words_of, room_of, words_in, elements, elements_from, pointer_places}
+use Rattle.capnp_layout.specs.Prelude.{words_of, room_of, words_in, elements_from, pointer_places}
 use Rattle.capnp_layout.specs.declared.object.Body.TheVariants.{Pointers, Structs}
 use Rattle.capnp_layout.specs.declared.place.Place.{Place}
 use Rattle.capnp_layout.specs.declared.pointer.Elements.{Elements}

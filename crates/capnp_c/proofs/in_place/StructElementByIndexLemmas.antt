@@ -1,5 +1,5 @@
 -- An element of a list of structs by its index: where its data and its pointers are; past the last one it has none.
-use Rattle.std.proofs.Common.{◌≡◌, ℕ, zero, suc, ◌+◌, ◌-◌, ◌*◌, ◌/◌, ◌<◌, ◌≤◌, List, Option, [], length, take, drop, slice_index_or, refl, sym, ap, ◌∙◌, arith, ◌++◌, length-append}
+use Rattle.std.proofs.Common.{◌≡◌, ℕ, zero, suc, ◌+◌, ◌*◌, ◌/◌, ◌<◌, ◌≤◌, List, Option, [], length, take, drop, slice_index_or, refl, sym, ap, ◌∙◌, arith, ◌++◌, length-append}
 use Rattle.std.proofs.lemmas.List.{drop_all, get_or_past}
 use Rattle.std.proofs.Math.Nat.{mul-le-mul_left}
 use Rattle.std.proofs.Math.Seq.{take-nil, take-append_seam, drop-append-add}

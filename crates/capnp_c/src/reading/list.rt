@@ -1,5 +1,5 @@
 //! Lists, also as older and newer writers have them.
-ghost use Rattle.std.specs.Prelude.{◌≡◌, MatchOption, MatchResult};
+ghost use Rattle.std.specs.Prelude.{◌≡◌, IfSome, MatchOption, MatchResult};
 ghost use Rattle.capnp_wire.specs.Prelude.{Pointer};
 ghost use Rattle.capnp_c.specs.Entering.{pointer_among, Enters};
 ghost use Rattle.capnp_c.specs.Reading.{ReadError, TakesOff};
@@ -8,6 +8,7 @@ ghost use Rattle.capnp_c.specs.ReadingLists.{FollowsList, ShowsList, ListFormErr
 use crate::reading::INVALID_ARGUMENT;
 use crate::reading::element_kind::ElementKind;
 use crate::reading::entered::enter;
+use crate::reading::fast_path::{ObjectKind, enter_local};
 use crate::reading::list_kinds::elements_of;
 use crate::reading::place::LinsjoarPlace;
 use crate::reading::reader::LinsjoarReader;
@@ -94,6 +95,11 @@ pub extern "C" fn linsjoar_list(
     let Some(segments) = reader.segments_in(bytes) else {
         return INVALID_ARGUMENT;
     };
+    if let Some(found) = local_list_at(&segments, bytes, reader, pointer, wanted) {
+        *list = LinsjoarList { code, ..found.list };
+        reader.words_left = found.words_left;
+        return 0;
+    }
     match list_at(&segments, bytes, reader, pointer, wanted) {
         Ok(found) => {
             *list = LinsjoarList { code, ..found.list };
@@ -104,6 +110,32 @@ pub extern "C" fn linsjoar_list(
     }
 }
 
+// The list, if structs are wanted, and it is one of structs in the segment of its pointer. `None`
+// says nothing about what is there.
+#[inline(always)]
+fn local_list_at(
+    segments: &MessageSegments,
+    bytes: &[u8],
+    reader: &LinsjoarReader,
+    pointer: &LinsjoarPlace,
+    wanted: ElementKind,
+) -> Option<ReadList>
+    requires { segments.now.bytes.now ≡ bytes.now }
+    ensures { let place = pointer_among segments.now reader.now pointer.now in IfSome result
+        (λ found. ShowsList wanted place bytes.now found.list × TakesOff place found.words_left) }
+{
+    let ElementKind::Structs = wanted else {
+        return None;
+    };
+    let entered = enter_local(segments, reader, pointer, ObjectKind::Structs)?;
+    let list = elements_of(&entered, bytes, wanted)?;
+    Some(ReadList {
+        list,
+        words_left: entered.words_left,
+    })
+}
+
+#[inline(never)]
 fn list_at(
     segments: &MessageSegments,
     bytes: &[u8],

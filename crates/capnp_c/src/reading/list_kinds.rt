@@ -18,6 +18,7 @@ use capnp_layout::place::Place;
 use capnp_layout::pointer::Elements;
 
 /// The elements as this kind; `None` where they are not read like that.
+#[inline(always)]
 pub(crate) fn elements_of(
     entered: &Entered,
     bytes: &[u8],
@@ -90,6 +91,7 @@ fn as_pointers(entered: &Entered, bytes: &[u8]) -> Option<LinsjoarList>
 }
 
 // Structs, numbers that are not bits, and pointers.
+#[inline(always)]
 fn as_structs(entered: &Entered, bytes: &[u8]) -> Option<LinsjoarList>
     requires { (place : Pointer) × Enters place bytes.now entered.now }
     ensures { (place : Pointer) → Enters place bytes.now entered.now → MatchOption result

@@ -117,8 +117,19 @@ impl LinsjoarReader {
         MessageSegments::new(bytes, self.segments)
     }
 
-    // The longest chain of objects that may be followed from the root.
-    fn nesting(&self) -> u32
+    /// What a reader of the same message accepts, within what is left of this one's limits.
+    pub(crate) fn options(&self) -> ReaderOptions
+        ensures { result.traversal_limit_in_words ≡ limit_of_number self.now.words_left }
+    {
+        let left = LinsjoarOptions {
+            traversal_limit_in_words: self.words_left,
+            nesting_limit: self.nesting_limit,
+        };
+        left.reader_options()
+    }
+
+    /// The longest chain of objects that may be followed from the root.
+    pub(crate) fn nesting(&self) -> u32
         ensures { result ≡ nesting_of self.now.nesting_limit }
     {
         self.nesting_limit.max(0) as u32

@@ -1,5 +1,5 @@
 //! Structs, and their pointers.
-ghost use Rattle.std.specs.Prelude.{◌≡◌, ◌+◌, ◌*◌, ◌/◌, ◌≤◌, length, MatchOption, MatchResult};
+ghost use Rattle.std.specs.Prelude.{◌≡◌, ◌+◌, ◌*◌, ◌/◌, ◌≤◌, length, IfSome, MatchOption, MatchResult};
 ghost use Rattle.capnp_layout.specs.Prelude.{room_of};
 ghost use Rattle.capnp_layout.specs.declared.pointer.StructSize.{StructSize};
 ghost use Rattle.capnp_wire.specs.Prelude.{TakesStruct, StructFormError};
@@ -9,6 +9,7 @@ ghost use Rattle.capnp_c.specs.ReadingExports.{Follows, FindsPointer, no_struct}
 
 use crate::reading::INVALID_ARGUMENT;
 use crate::reading::entered::{Entered, enter};
+use crate::reading::fast_path::{ObjectKind, enter_local};
 use crate::reading::place::LinsjoarPlace;
 use crate::reading::reader::LinsjoarReader;
 use crate::reading::segments::MessageSegments;
@@ -72,6 +73,11 @@ pub extern "C" fn linsjoar_struct(
     let Some(segments) = reader.segments_in(bytes) else {
         return INVALID_ARGUMENT;
     };
+    if let Some(found) = local_struct_at(&segments, reader, pointer) {
+        *fields = found.fields;
+        reader.words_left = found.words_left;
+        return 0;
+    }
     match struct_at(&segments, reader, pointer) {
         Ok(found) => {
             *fields = found.fields;
@@ -82,7 +88,26 @@ pub extern "C" fn linsjoar_struct(
     }
 }
 
+// The struct, if it is in the segment of its pointer. `None` says nothing about what is there.
 #[inline(always)]
+fn local_struct_at(
+    segments: &MessageSegments,
+    reader: &LinsjoarReader,
+    pointer: &LinsjoarPlace,
+) -> Option<ReadStruct>
+    ensures { let place = pointer_among segments.now reader.now pointer.now in IfSome result
+        (λ found. ShowsStruct place segments.now.bytes.now found.fields
+        × TakesOff place found.words_left) }
+{
+    let entered = enter_local(segments, reader, pointer, ObjectKind::Struct)?;
+    let fields = fields_of(&entered)?;
+    Some(ReadStruct {
+        fields,
+        words_left: entered.words_left,
+    })
+}
+
+#[inline(never)]
 fn struct_at(
     segments: &MessageSegments,
     reader: &LinsjoarReader,

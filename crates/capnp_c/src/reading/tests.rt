@@ -29,11 +29,11 @@ const TWO_SEGMENTS: [u8; 40] = [
     205, 171, 0, 0, 0, 0, 0, 0,
 ];
 
-fn nowhere() -> LinsjoarPlace {
+pub(crate) fn nowhere() -> LinsjoarPlace {
     LinsjoarPlace::nowhere(0)
 }
 
-fn no_list() -> LinsjoarList {
+pub(crate) fn no_list() -> LinsjoarList {
     LinsjoarList::empty(nowhere())
 }
 
@@ -47,7 +47,7 @@ fn no_reader() -> LinsjoarReader {
 }
 
 // A message that is opened: its reader, and its root pointer.
-fn opened(rt: &impl Abort, bytes: &[u8]) -> (LinsjoarReader, LinsjoarPlace) {
+pub(crate) fn opened(rt: &impl Abort, bytes: &[u8]) -> (LinsjoarReader, LinsjoarPlace) {
     let mut reader = no_reader();
     let mut root = nowhere();
     assert_eq!(rt; linsjoar_open(bytes, &mut reader), 0);
@@ -55,23 +55,23 @@ fn opened(rt: &impl Abort, bytes: &[u8]) -> (LinsjoarReader, LinsjoarPlace) {
     (reader, root)
 }
 
-// A pointer of the root struct.
-fn pointer_of_root(
+// A pointer of a struct.
+pub(crate) fn pointer_of_struct(
     rt: &impl Abort,
     bytes: &[u8],
     reader: &mut LinsjoarReader,
-    root: &LinsjoarPlace,
+    place: &LinsjoarPlace,
     index: u16,
 ) -> LinsjoarPlace {
     let mut fields = LinsjoarStruct::empty(nowhere());
     let mut pointer = nowhere();
-    assert_eq!(rt; linsjoar_struct(bytes, reader, root, &mut fields), 0);
+    assert_eq!(rt; linsjoar_struct(bytes, reader, place, &mut fields), 0);
     assert_eq!(rt; linsjoar_struct_pointer(&fields, index, &mut pointer), 0);
     pointer
 }
 
 // The pointer is of a text: where it begins in the message, and its length.
-fn expect_text(
+pub(crate) fn expect_text(
     rt: &impl Abort,
     bytes: &[u8],
     reader: &mut LinsjoarReader,
@@ -105,9 +105,9 @@ fn structs_and_blobs(rt: HostRuntime) {
     let mut pointer = nowhere();
     assert_eq!(rt; linsjoar_struct_pointer(&fields, 3, &mut pointer), 0);
     assert_eq!(rt; pointer.is_there, 0);
-    let pointer = pointer_of_root(&rt, bytes, &mut reader, &root, 2);
+    let pointer = pointer_of_struct(&rt, bytes, &mut reader, &root, 2);
     expect_text(&rt, bytes, &mut reader, &pointer, (96, 2));
-    let pointer = pointer_of_root(&rt, bytes, &mut reader, &root, 0);
+    let pointer = pointer_of_struct(&rt, bytes, &mut reader, &root, 0);
     let left = reader.words_left;
     let mut start = 7;
     let mut len = 7;
@@ -138,7 +138,7 @@ fn kinds(rt: HostRuntime) {
     );
     assert_eq!(rt; (kind, code), (1, 0));
     for (index, want) in [(0, (2, 2)), (1, (2, 7)), (3, (0, 0))] {
-        let pointer = pointer_of_root(&rt, bytes, &mut reader, &root, index);
+        let pointer = pointer_of_struct(&rt, bytes, &mut reader, &root, index);
         let left = reader.words_left;
         assert_eq!(rt;
             linsjoar_kind(bytes, &reader, &pointer, &mut kind, &mut code),

@@ -5,7 +5,9 @@ use crate::reading::list_elements::{
     linsjoar_list_number, linsjoar_list_pointer, linsjoar_list_struct,
 };
 use crate::reading::structs::{LinsjoarStruct, linsjoar_struct_pointer};
-use crate::reading::tests::{ONE_SEGMENT, expect_text, no_list, nowhere, opened, pointer_of_root};
+use crate::reading::tests::{
+    ONE_SEGMENT, expect_text, no_list, nowhere, opened, pointer_of_struct,
+};
 
 // A struct of two pointers, to the bits 0, 1, 1, 0 and 1, and to a list of two pointers: to "hi", and null.
 const BITS_AND_POINTERS: [u8; 64] = [
@@ -18,7 +20,7 @@ const BITS_AND_POINTERS: [u8; 64] = [
 fn bytes_as_lists(rt: HostRuntime) {
     let bytes = ONE_SEGMENT.as_slice();
     let (mut reader, root) = opened(&rt, bytes);
-    let pointer = pointer_of_root(&rt, bytes, &mut reader, &root, 0);
+    let pointer = pointer_of_struct(&rt, bytes, &mut reader, &root, 0);
     let mut list = no_list();
     let mut number = 7;
     assert_eq!(rt;
@@ -58,7 +60,7 @@ fn bytes_as_lists(rt: HostRuntime) {
 fn structs_as_lists(rt: HostRuntime) {
     let bytes = ONE_SEGMENT.as_slice();
     let (mut reader, root) = opened(&rt, bytes);
-    let pointer = pointer_of_root(&rt, bytes, &mut reader, &root, 1);
+    let pointer = pointer_of_struct(&rt, bytes, &mut reader, &root, 1);
     let mut list = no_list();
     let mut number = 7;
     assert_eq!(rt;
@@ -94,7 +96,7 @@ fn structs_as_lists(rt: HostRuntime) {
 fn bits(rt: HostRuntime) {
     let bytes = BITS_AND_POINTERS.as_slice();
     let (mut reader, root) = opened(&rt, bytes);
-    let pointer = pointer_of_root(&rt, bytes, &mut reader, &root, 0);
+    let pointer = pointer_of_struct(&rt, bytes, &mut reader, &root, 0);
     let mut list = no_list();
     let mut number = 7;
     assert_eq!(rt;
@@ -119,7 +121,7 @@ fn bits(rt: HostRuntime) {
 fn pointers(rt: HostRuntime) {
     let bytes = BITS_AND_POINTERS.as_slice();
     let (mut reader, root) = opened(&rt, bytes);
-    let pointer = pointer_of_root(&rt, bytes, &mut reader, &root, 1);
+    let pointer = pointer_of_struct(&rt, bytes, &mut reader, &root, 1);
     let mut list = no_list();
     let mut found = nowhere();
     assert_eq!(rt;

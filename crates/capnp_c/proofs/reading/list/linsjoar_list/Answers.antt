@@ -11,6 +11,21 @@ use Rattle.capnp_c.proofs.reading.list.linsjoar_list.Goals as goal
 abbrev empty : LinsjoarPlace → LinsjoarList
 empty place = record { start = 0; first = place; count = 0; step = 0; data_len = 0; pointers = 0; code = 0 }
 
+pub returns-in-Some-local_list_at : goal.returns-in-Some-local_list_at
+returns-in-Some-local_list_at c =
+    let bytes = c.args.bytes.now in
+    let known = c.in-Some-segments_in.ensures in
+    let wanted = c.in-Some.wanted in
+    let list = c.in-Some-local_list_at.found.list in
+    let code = c.args.code in
+    let q = pointer_among c.in-Some-segments_in.segments c.args.reader.now c.args.pointer.now in
+    let same = same_pointer c.in-Some-segments_in.segments c.args.reader.now bytes c.args.pointer.now known.1 known.2 in
+    let shown = c.in-Some-local_list_at.ensures.0 in
+    subst (λ kind. FollowsKind kind c.args.reader.now (record c.args.reader.now { words_left = c.in-Some-local_list_at.found.words_left }) bytes c.args.pointer.now code (record list { code = code }) 0)
+    c.in-Some.ensures
+    (follows_object _ _ _ _ _ _ _ c.in-Some-local_list_at.found.words_left q (list_decides wanted) same known.0 (shown_with_code wanted q bytes list code shown, refl) c.in-Some-local_list_at.ensures.1
+    (list_taken wanted q bytes list shown))
+
 pub returns-in-Ok : goal.returns-in-Ok
 returns-in-Ok c =
     let bytes = c.args.bytes.now in

@@ -15,6 +15,16 @@ empty place = record { start = 0; data_len = 0; first = place; pointers = 0 }
 pub returns-in_default : goal.returns-in_default
 returns-in_default c = follows_none _ _ _ _ _ _ _ c.in_default.ensures (c.empty.ensures ∙ ap empty c.nowhere.ensures)
 
+pub returns-in-Some-local_struct_at : goal.returns-in-Some-local_struct_at
+returns-in-Some-local_struct_at c =
+    let segments = c.in-Some.segments in
+    let known = c.in-Some.ensures in
+    let q = pointer_among segments c.args.reader.now c.args.pointer.now in
+    let same = same_pointer segments c.args.reader.now c.args.bytes.now c.args.pointer.now known.1 known.2 in
+    let shown = subst (λ b. ShowsStruct q b c.in-Some-local_struct_at.found.fields) known.2 c.in-Some-local_struct_at.ensures.0 in
+    let read = shown.0 in
+    follows_object _ _ _ _ _ _ _ c.in-Some-local_struct_at.found.words_left q struct_decides same known.0 shown c.in-Some-local_struct_at.ensures.1 (readable q TakesStruct read.shown.0 (struct_accepted q _ read) read.shown.1 read.shown.2.2)
+
 pub returns-in-Ok : goal.returns-in-Ok
 returns-in-Ok c =
     let segments = c.in-Some.segments in

@@ -1,0 +1,68 @@
+//! Fast paths to structs, and to lists of structs, in the segments of their pointers.
+ghost use Rattle.std.specs.Prelude.{◌≡◌, ◌<◌, ℕ, List, IfSome, Some, slice_get};
+ghost use Rattle.capnp_layout.specs.Prelude.{words_of, IsObject};
+ghost use Rattle.capnp_c.specs.Entering.{Enters, pointer_among};
+
+use crate::reading::entered::Entered;
+use crate::reading::place::LinsjoarPlace;
+use crate::reading::reader::LinsjoarReader;
+use crate::reading::segments::MessageSegments;
+use capnp_frame::message::ReaderSegments;
+use capnp_layout::fast_path::{local_struct, local_structs};
+use capnp_layout::object::Object;
+use capnp_layout::place::Place;
+
+/// What a call asks for in the segment of the pointer.
+#[derive(Clone, Copy)]
+pub(crate) enum ObjectKind {
+    Struct,
+    Structs,
+}
+
+/// The object of this kind that the pointer at a place points to without a landing pad, within the
+/// words that are left. `None` says nothing about what is there; then `enter` is asked.
+// Speed: where this is inlined the kind of the object is known, so nothing of it is kept in memory
+// (`tools/time classic`).
+#[inline(always)]
+pub(crate) fn enter_local<'a>(
+    segments: &'a MessageSegments<'a>,
+    reader: &LinsjoarReader,
+    pointer: &LinsjoarPlace,
+    kind: ObjectKind,
+) -> Option<Entered<'a>>
+    ensures { let place = pointer_among segments.now reader.now pointer.now in
+        IfSome result (λ entered. Enters place segments.now.bytes.now entered) }
+{
+    let place = pointer.in_message()?;
+    let segment = segments.get_segment(place.segment)?;
+    let object = local_object(segment, place, pointer.nesting, kind)?;
+    let Ok(words_left) = reader.words_left_after(object.traversed) else {
+        return None;
+    };
+    let start = segments.begin_of(&object);
+    Some(Entered {
+        object,
+        start,
+        words_left,
+        nesting: pointer.nesting.saturating_sub(1),
+    })
+}
+
+// The object of this kind that the pointer at a place of this segment points to without a landing
+// pad.
+#[inline(always)]
+fn local_object(segment: &[u8], place: Place, nesting: u32, kind: ObjectKind) -> Option<Object<'_>>
+    ensures { (m : List (List ℕ)) → slice_get m place.segment ≡ Some (words_of segment.now) →
+        IfSome result (λ object. IsObject m place object × (0 < nesting)) }
+{
+    match kind {
+        ObjectKind::Struct => {
+            let found = local_struct(segment, place, nesting)?;
+            Some(found.object())
+        }
+        ObjectKind::Structs => {
+            let list = local_structs(segment, place, nesting)?;
+            Some(list.object())
+        }
+    }
+}
