@@ -1,5 +1,6 @@
 //! Checks of a schema before code is written for it: the nodes that its types name have to be
 //! there, and no two names of one scope may become one.
+use crate::c::checked::check_names;
 use crate::cleared::{group_name, group_of};
 use crate::getters::Site;
 use crate::names::{constant, default_name, enum_type, module, pointer_name, snake, variant};
@@ -35,10 +36,13 @@ fn check_node(alloc: Global, request: &Request, node: &Node, left: &mut Vec<u64>
     left.extend_from_slice(node.nested.as_slice())?;
     if let Body::Struct(body) = &node.body {
         check_fields(request, node, body)?;
-        if request.wanted.builders && !body.is_group {
+        push_groups(left, body)?;
+        if request.wanted.builders && !request.wanted.for_c && !body.is_group {
             check_setters(alloc, request, node.id)?;
         }
-        push_groups(left, body)?;
+    }
+    if request.wanted.for_c {
+        return check_names(node);
     }
     check_scope(alloc, request, node)?;
     check_variants(alloc, node)
@@ -173,8 +177,8 @@ fn add_fields(
     Ok(())
 }
 
-// Fails for what is not a name, which an annotation may have given.
-fn expect_name(name: &str) -> Result<()> {
+/// Fails for what is not a name, which an annotation may have given.
+pub fn expect_name(name: &str) -> Result<()> {
     if name.starts_with(is_letter) && name.chars().all(is_letter_of_name) {
         return Ok(());
     }

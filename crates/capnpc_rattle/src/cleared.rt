@@ -12,11 +12,11 @@ use std::fmt::Write;
 
 /// The fields and pointers that a group has of its struct, each once.
 #[derive(Drop)]
-struct Cleared {
+pub struct Cleared {
     /// Fields of the data section: how many bits each has, and its offset in units of these.
-    fields: Vec<(u32, u32)>,
+    pub fields: Vec<(u32, u32)>,
     /// Pointers, by their indices.
-    pointers: Vec<u32>,
+    pub pointers: Vec<u32>,
 }
 
 impl Cleared {
@@ -129,8 +129,8 @@ fn push_line(lines: &mut String) -> Result<(), AllocError> {
     lines.push('\n')
 }
 
-// The fields and pointers of the group of a site, and of the groups in it.
-fn cleared_by(alloc: Global, site: Site<'_>) -> Result<Cleared, AllocError> {
+/// The fields and pointers of the group of a site, and of the groups in it.
+pub fn cleared_by(alloc: Global, site: Site<'_>) -> Result<Cleared, AllocError> {
     let mut cleared = Cleared {
         fields: Vec::new(alloc),
         pointers: Vec::new(alloc),

@@ -2,7 +2,7 @@
 use crate::wanted::Wanted;
 
 /// What the program takes.
-pub const USAGE: &str = "usage: capnpc-rattle [FOLDER [builders | readers | print]..]\n";
+pub const USAGE: &str = "usage: capnpc-rattle [FOLDER [builders | readers | print | c]..]\n";
 
 /// The version of the program.
 pub const VERSION: &str = "capnpc-rattle 0.1.0\n";
@@ -17,16 +17,18 @@ pub const HELP: &str =
 
   capnp compile -o rattle note.capnp          writes note_capnp.rt
   CAPNPC_RATTLE=readers,print capnp compile -o rattle note.capnp
+  CAPNPC_RATTLE=c capnp compile -o rattle note.capnp      writes note_capnp.h
 
 The tool runs it without arguments. It reads a CodeGeneratorRequest from standard
 input, and writes NAME_capnp.rt for each NAME.capnp into the folder in which it runs.
 
-usage: capnpc-rattle [FOLDER [builders | readers | print]..]
+usage: capnpc-rattle [FOLDER [builders | readers | print | c]..]
 
   FOLDER           where to write; - is standard output
   builders         readers and builders: this is the default
   readers          no builders
   print            a method of each reader that prints the struct
+  c                headers for C, and no types in Rattle; without print
   -h, --help       prints this
   -V, --version    prints the version
 

@@ -202,8 +202,8 @@ fn push_enumerant(
     push_line(alloc, code, name.as_str(), path.as_str(), value.as_str())
 }
 
-// The name of the enumerant of this number.
-fn enumerant_of(request: &Request, id: u64, number: u64) -> Option<&str> {
+/// The name of the enumerant of this number.
+pub fn enumerant_of(request: &Request, id: u64, number: u64) -> Option<&str> {
     match &request.find(id)?.body {
         Body::Enum(names) => match names.get((number % 65536) as usize) {
             Some(name) => Some(name.as_str()),

@@ -6,7 +6,8 @@
 //! argument, or to standard output if that is `-`. Nothing is written before everything is made.
 //! Its other arguments, or else the words of the environment's `CAPNPC_RATTLE`, with commas between
 //! them, say what it writes. With `readers` it writes only readers, and otherwise builders, too.
-//! With `print` it also writes a method for each struct that prints it. Other words are rejected.
+//! With `print` it also writes a method for each struct that prints it. With `c` it writes headers for
+//! C, `NAME_capnp.h`, and nothing in Rattle. Other words are rejected.
 #![tactic(auto)]
 
 mod annotations;
@@ -16,6 +17,7 @@ mod broken_heads;
 mod builder_getters;
 mod builder_templates;
 mod builders;
+mod c;
 mod checked;
 mod cleared;
 mod code;

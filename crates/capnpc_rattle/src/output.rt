@@ -1,4 +1,6 @@
 //! The files that are written.
+use crate::c::checked::check_header;
+use crate::c::header::header_of;
 use crate::checked::check_file;
 use crate::file::code_of;
 use crate::names::{base_name, file_module};
@@ -24,19 +26,33 @@ pub fn outputs_of(alloc: Global, request: &Request) -> Result<Vec<Output>> {
     for file in request.files.as_slice() {
         let schema = file.name.as_str();
         check_file(alloc, request, file.id).context(format_args!("{}", base_name(schema)))?;
-        let name = output_name(alloc, schema)?;
+        let name = output_name(alloc, request, schema)?;
         expect_new(outputs.as_slice(), name.as_str())?;
-        let code = code_of(alloc, request, file.id)?;
+        let code = output_code(alloc, request, file.id).context(format_args!(
+            "{}",
+            base_name(schema)
+        ))?;
         outputs.push(Output { name, code })?;
     }
     Ok(outputs)
 }
 
 // The name of the file that is written for a schema.
-fn output_name(alloc: Global, schema: &str) -> Result<String, AllocError> {
+fn output_name(alloc: Global, request: &Request, schema: &str) -> Result<String, AllocError> {
     let module = file_module(alloc, schema)?;
     let module = module.as_str();
-    format!(in alloc; "{module}.rt")
+    let suffix = if request.wanted.for_c { "h" } else { "rt" };
+    format!(in alloc; "{module}.{suffix}")
+}
+
+// What is written for a file.
+fn output_code(alloc: Global, request: &Request, file: u64) -> Result<String> {
+    if !request.wanted.for_c {
+        return Ok(code_of(alloc, request, file)?);
+    }
+    let header = header_of(alloc, request, file)?;
+    check_header(alloc, header.as_str())?;
+    Ok(header)
 }
 
 // Fails for the name of a file that is written already.

@@ -83,9 +83,12 @@ fn read_node<S: ReaderSegments>(alloc: Global, read: &node::Reader<'_, S>) -> Re
     })
 }
 
-// The name of a node within the node in which it is declared.
+// The name of a node within the node in which it is declared; of a file its path.
 fn read_name<S: ReaderSegments>(alloc: Global, read: &node::Reader<'_, S>) -> Result<String> {
     let shown = read_text(alloc, read.get_display_name()?)?;
+    if read.get_scope_id() == 0 {
+        return Ok(shown);
+    }
     let shown = shown.as_str();
     let prefix = read.get_display_name_prefix_length() as usize;
     let name = shown.get(prefix..).unwrap_or(shown);

@@ -8,7 +8,7 @@ pub struct Node {
     pub id: u64,
     /// The node in which it is declared; 0 for a file.
     pub scope: u64,
-    /// The name within that node, or the one that an annotation gives instead.
+    /// The name within that node, or the one that an annotation gives instead; of a file its path.
     pub name: String,
     /// Its comment; empty if it has none.
     pub comment: String,

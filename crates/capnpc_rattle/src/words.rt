@@ -84,8 +84,8 @@ pub fn push_words(
     code.add(WORDS, &holes)
 }
 
-// The bytes of words as code has them, a line for each word.
-fn lines_of(alloc: Global, bytes: &[u8]) -> Result<String, AllocError> {
+/// The bytes of words as code has them, a line for each word.
+pub fn lines_of(alloc: Global, bytes: &[u8]) -> Result<String, AllocError> {
     let mut lines = String::new(alloc);
     for word in bytes.chunks(8) {
         if !lines.is_empty() {

@@ -1,0 +1,123 @@
+//! Numbers, bools and enums in C.
+use crate::numbers::{Number, NumberKind, Stored, literal};
+use std::alloc::{AllocError, Global};
+
+/// The type of a number.
+pub fn number_type(number: Number) -> &'static str {
+    match (number.kind, number.width) {
+        (NumberKind::Bool, _) => "bool",
+        (NumberKind::Unsigned, 8) => "uint8_t",
+        (NumberKind::Unsigned, 16) => "uint16_t",
+        (NumberKind::Unsigned, 32) => "uint32_t",
+        (NumberKind::Unsigned, _) => "uint64_t",
+        (NumberKind::Signed, 8) => "int8_t",
+        (NumberKind::Signed, 16) => "int16_t",
+        (NumberKind::Signed, 32) => "int32_t",
+        (NumberKind::Signed, _) => "int64_t",
+        (NumberKind::Float, 32) => "float",
+        (NumberKind::Float, _) => "double",
+    }
+}
+
+/// The code that reads a number of the struct `read`.
+pub fn read_number(alloc: Global, stored: &Stored) -> Result<String, AllocError> {
+    let offset = stored.offset;
+    let default = stored.default;
+    if stored.number.kind == NumberKind::Bool {
+        let sign = if default == 0 { "" } else { "!" };
+        return format!(in alloc; "{sign}linsjoar_get_bool(&read->fields, {offset})");
+    }
+    let width = stored.number.width;
+    if default == 0 {
+        let bits = format!(in alloc; "linsjoar_get_u{width}(&read->fields, {offset})")?;
+        return of_bits(alloc, stored.number, bits.as_str());
+    }
+    let bits = format!(in alloc;
+        "linsjoar_get_u{width}(&read->fields, {offset}) ^ UINT{width}_C({default})"
+    )?;
+    match stored.number.kind {
+        NumberKind::Float => of_bits(alloc, stored.number, bits.as_str()),
+        _ => {
+            let (type_name, bits) = (number_type(stored.number), bits.as_str());
+            format!(in alloc; "({type_name})({bits})")
+        }
+    }
+}
+
+// The code of a number by its bits.
+fn of_bits(alloc: Global, number: Number, bits: &str) -> Result<String, AllocError> {
+    match (number.kind, number.width) {
+        (NumberKind::Float, 32) => format!(in alloc; "linsjoar_float_of_bits({bits})"),
+        (NumberKind::Float, _) => format!(in alloc; "linsjoar_double_of_bits({bits})"),
+        (NumberKind::Signed, _) => {
+            let type_name = number_type(number);
+            format!(in alloc; "({type_name}){bits}")
+        }
+        _ => String::from_str(alloc, bits),
+    }
+}
+
+/// The code that sets a number of `draft` to `value`.
+pub fn set_number(alloc: Global, stored: &Stored) -> Result<String, AllocError> {
+    let offset = stored.offset;
+    let default = stored.default;
+    let width = stored.number.width;
+    if stored.number.kind == NumberKind::Bool {
+        let sign = if default == 0 { "" } else { "!" };
+        return format!(in alloc; "linsjoar_set_bool(draft->words, {offset}, {sign}value);");
+    }
+    let bits = match stored.number.kind {
+        NumberKind::Signed => format!(in alloc; "(uint{width}_t)value")?,
+        NumberKind::Float if width == 32 => {
+            String::from_str(alloc, "linsjoar_bits_of_float(value)")?
+        }
+        NumberKind::Float => String::from_str(alloc, "linsjoar_bits_of_double(value)")?,
+        _ => String::from_str(alloc, "value")?,
+    };
+    let bits = bits.as_str();
+    if default == 0 {
+        return format!(in alloc; "linsjoar_set_u{width}(draft->words, {offset}, {bits});");
+    }
+    format!(in alloc;
+        "linsjoar_set_u{width}(draft->words, {offset}, {bits} ^ UINT{width}_C({default}));"
+    )
+}
+
+/// A number as it is written in C, by its bits.
+pub fn number_literal(alloc: Global, number: Number, bits: u64) -> Result<String, AllocError> {
+    let plain = literal(alloc, number, bits)?;
+    let plain = plain.as_str();
+    match (number.kind, number.width) {
+        (NumberKind::Unsigned, 32) => format!(in alloc; "UINT32_C({plain})"),
+        (NumberKind::Unsigned, 64) => format!(in alloc; "UINT64_C({plain})"),
+        (NumberKind::Signed, 64) => wide_literal(alloc, plain),
+        (NumberKind::Float, width) => float_literal(alloc, width, plain),
+        _ => String::from_str(alloc, plain),
+    }
+}
+
+// A number with a sign, of 64 bits, by how Rattle writes it.
+fn wide_literal(alloc: Global, plain: &str) -> Result<String, AllocError> {
+    if plain == "-9223372036854775808" {
+        return String::from_str(alloc, "INT64_MIN");
+    }
+    match plain.strip_prefix('-') {
+        Some(digits) => format!(in alloc; "-INT64_C({digits})"),
+        None => format!(in alloc; "INT64_C({plain})"),
+    }
+}
+
+// A float of this many bits, by how Rattle writes it.
+fn float_literal(alloc: Global, width: u32, plain: &str) -> Result<String, AllocError> {
+    if plain.ends_with("NEG_INFINITY") {
+        return String::from_str(alloc, "-INFINITY");
+    }
+    if plain.ends_with("INFINITY") {
+        return String::from_str(alloc, "INFINITY");
+    }
+    if plain.ends_with("NAN") {
+        return String::from_str(alloc, "NAN");
+    }
+    let suffix = if width == 32 { "f" } else { "" };
+    format!(in alloc; "{plain}{suffix}")
+}
