@@ -7,4 +7,3 @@ mod asked;
 mod builders;
 mod given_back;
 mod long_lists;
-mod views;

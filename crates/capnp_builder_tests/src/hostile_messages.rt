@@ -1,5 +1,4 @@
 //! Canonical words of hostile messages, and new messages whose root is set to theirs.
-use crate::building::expect_segments;
 use crate::fixtures::expect;
 use capnp_build::allocator::Allocator;
 use capnp_frame::message::{ReaderSegments, SegmentArray};
@@ -8,8 +7,8 @@ use capnp_frame_tests::limits::{DEFAULT_LIMIT, NO_LIMIT};
 use capnp_frame_tests::messages::has_segments;
 use capnp_frame_tests::retried;
 use capnp_message::{Builder, HeapAllocator};
-use capnp_object_tests::messages::{Source, canonical_bytes_of, reader_of};
-use capnp_object_tests::trees::{chain, doublings, shared_lists, trimmed_chain};
+use capnp_object_tests::messages::{Source, reader_of};
+use capnp_object_tests::trees::{doublings, shared_lists};
 use capnp_wire::any_pointer;
 use std::process::Abort;
 
@@ -65,52 +64,7 @@ fn assert_failure(
 
 const LIMITED: ErrorKind = ErrorKind::ReadLimitExceeded;
 
-const DEEP: ErrorKind = ErrorKind::NestingLimitExceeded;
-
 const TOO_LARGE: ErrorKind = ErrorKind::CanonicalTooLarge;
-
-const NOTHINGS: &[u8] = b"\x01\0\0\0\xf8\xff\xff\xff";
-
-const EMPTY_STRUCTS: &[u8] = b"\x01\0\0\0\x07\0\0\0\0\0\0\x04\0\0\0\0";
-
-// Without a limit both lists are canonical, and are their own canonical words.
-#[test]
-fn many_elements_of_no_words(rt: HostRuntime) -> Result<()> {
-    retried!(make_list(&rt, NOTHINGS))?;
-    retried!(make_list(&rt, EMPTY_STRUCTS))
-}
-
-fn make_list(rt: &(impl Abort + AllocGlobal), bytes: &[u8]) -> Result<()> {
-    let segments = [bytes];
-    let reader = reader_of(&segments, NO_LIMIT);
-    assert!(rt; reader.is_canonical()?);
-    let words = canonical_bytes_of(rt.alloc(), &reader)?;
-    expect(rt, "canonical words", words.as_slice(), bytes);
-    let mut message: Builder<HeapAllocator> = Builder::new_default(rt.alloc());
-    set(&mut message, &reader)?;
-    expect_segments(rt, "untrimmed", &message, &segments);
-    Ok(())
-}
-
-// 64 structs, each in the one before, are as deep as the nesting limit: the last of them, which is
-// empty when it is trimmed, needs none for its null pointer. One more is too deep.
-#[test]
-fn chains_of_structs(rt: HostRuntime) -> Result<()> {
-    retried!(follow_chains(&rt))
-}
-
-fn follow_chains(rt: &(impl Abort + AllocGlobal)) -> Result<()> {
-    let alloc = rt.alloc();
-    let bytes = chain(alloc, 64)?;
-    let segments = [bytes.as_slice()];
-    let reader = reader_of(&segments, DEFAULT_LIMIT);
-    let words = canonical_bytes_of(alloc, &reader)?;
-    let wanted = trimmed_chain(alloc)?;
-    expect(rt, "canonical words", words.as_slice(), wanted.as_slice());
-    assert!(rt; !reader.is_canonical()?);
-    let bytes = chain(alloc, 65)?;
-    assert_failure(rt, &[bytes.as_slice()], DEFAULT_LIMIT, [DEEP; 3])
-}
 
 // A tree of 2^40 - 1 structs in 81 words ends at the limit. At the default one, of 8,388,608 words,
 // it does in a fraction of a second (tools/fuzz), but takes a minute in a build with checks: there

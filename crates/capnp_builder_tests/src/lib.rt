@@ -21,6 +21,4 @@ mod read_lists;
 #[cfg(test)]
 mod regions;
 #[cfg(test)]
-mod value_lists;
-#[cfg(test)]
 mod values;

@@ -22,19 +22,12 @@ const PHONES: &[u8] = b"\x01\0\0\0\x37\0\0\0\x0c\0\0\0\x01\0\x01\0\
 const NO_NUMBERS: &[u8] = b"\x01\0\0\0\x17\0\0\0\x08\0\0\0\0\0\x01\0\
     \x05\0\0\0\x22\0\0\0\x05\0\0\0\x1a\0\0\0Ann\0\0\0\0\0Bo\0\0\0\0\0\0";
 
-// No structs of a word and a pointer, and in canonical form of no size.
-const NO_PHONES: &[u8] = b"\x01\0\0\0\x07\0\0\0\0\0\0\0\x01\0\x01\0";
-
-const NO_STRUCTS: &[u8] = b"\x01\0\0\0\x07\0\0\0\0\0\0\0\0\0\0\0";
-
 // Three pointers, each over those after it and the texts before its own: of four bytes, of nine,
 // which take two words, and of the zero byte alone.
 #[rattlefmt::skip]
 const NAMES: &[u8] = b"\x01\0\0\0\x1e\0\0\0\
     \x09\0\0\0\x22\0\0\0\x09\0\0\0\x4a\0\0\0\x0d\0\0\0\x0a\0\0\0\
     Ann\0\0\0\0\0ab cd ef\0\0\0\0\0\0\0\0\0\0\0\0\0\0\0\0";
-
-const NO_POINTERS: &[u8] = b"\x01\0\0\0\x06\0\0\0";
 
 // A struct of a number, of a list of two texts and of a list of a struct.
 #[rattlefmt::skip]
@@ -141,12 +134,7 @@ fn made_lists_of_structs_are_at_the_root(rt: HostRuntime) -> Result<()> {
     compare_canonical::<struct_list::Owned, Phones<'_>>(&rt, &list, PHONES)?;
     let zeros = [entry("Ann", 0), entry("Bo", 0)];
     let list = LazyStructList::new(Entries { entries: &zeros });
-    compare_canonical::<struct_list::Owned, Phones<'_>>(&rt, &list, NO_NUMBERS)?;
-    let none = LazyStructList::new(Entries {
-        entries: &zeros[..0],
-    });
-    compare_by_each::<struct_list::Owned, Phones<'_>>(&rt, &none, NO_PHONES)?;
-    compare_canonical::<struct_list::Owned, Phones<'_>>(&rt, &none, NO_STRUCTS)
+    compare_canonical::<struct_list::Owned, Phones<'_>>(&rt, &list, NO_NUMBERS)
 }
 
 #[test]
@@ -154,9 +142,7 @@ fn made_lists_of_pointers_are_at_the_root(rt: HostRuntime) -> Result<()> {
     let names = ["Ann", "ab cd ef", ""];
     let list = LazyPointerList::new(Names { names: &names });
     compare_by_each::<text_list::Owned, Texts<'_>>(&rt, &list, NAMES)?;
-    compare_canonical::<text_list::Owned, Texts<'_>>(&rt, &list, NAMES)?;
-    let none = LazyPointerList::new(Names { names: &names[..0] });
-    compare_by_each::<text_list::Owned, Texts<'_>>(&rt, &none, NO_POINTERS)
+    compare_canonical::<text_list::Owned, Texts<'_>>(&rt, &list, NAMES)
 }
 
 // Both as fields of a struct.

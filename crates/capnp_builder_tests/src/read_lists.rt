@@ -1,21 +1,45 @@
 //! Lists that were read from one message and are set in another, by hand-computed bytes: what no
 //! contract says, above all that they succeed.
-use crate::fixtures::expect;
-use crate::value_lists::{LISTS, NARROW, PHONES, WIDE};
-use crate::values::{GROUP, NAMES, compare_by_each, compare_canonical, measured};
+use crate::values::{compare_by_each, compare_canonical};
+use capnp_frame::Result;
 use capnp_frame::message::{ReaderSegments, SegmentArray};
-use capnp_frame::{ErrorKind, Result};
-use capnp_object_tests::arenas::{Walked, arena_of, plain_arena, root_as};
-use capnp_values::{Field, NoFields, StructValue};
+use capnp_object_tests::arenas::{plain_arena, root_as};
 use capnp_wire::arena::ReaderArena;
 use capnp_wire::traits::{FromPointerReader, SetterInput};
-use capnp_wire::{any_pointer_list, any_struct, list_list, primitive_list, struct_list, text_list};
+use capnp_wire::{any_pointer_list, list_list, primitive_list, struct_list, text_list};
 use std::process::Abort;
 
-// A list of two texts.
+// A tag for two structs of a data word and a pointer, the two structs, and their texts: the first
+// pointer points past the struct after it, the second past the text before its own.
 #[rattlefmt::skip]
-const TWO_NAMES: &[u8] = b"\x01\0\0\0\x16\0\0\0\
-    \x05\0\0\0\x22\0\0\0\x05\0\0\0\x1a\0\0\0Ann\0\0\0\0\0Bo\0\0\0\0\0\0";
+const PHONES: &[u8] = b"\x01\0\0\0\x27\0\0\0\x08\0\0\0\x01\0\x01\0\
+    \x01\0\0\0\0\0\0\0\x09\0\0\0\x22\0\0\0\x02\0\0\0\0\0\0\0\x05\0\0\0\x42\0\0\0\
+    123\0\0\0\0\04567890\0";
+
+// Two structs of two data words and two pointers, where no second word or pointer is used.
+#[rattlefmt::skip]
+const WIDE: &[u8] = b"\x01\0\0\0\x47\0\0\0\x08\0\0\0\x02\0\x02\0\
+    \x07\0\0\0\0\0\0\0\0\0\0\0\0\0\0\0\x15\0\0\0\x22\0\0\0\0\0\0\0\0\0\0\0\
+    \0\0\0\0\0\0\0\0\0\0\0\0\0\0\0\0\x09\0\0\0\x0a\0\0\0\0\0\0\0\0\0\0\0\
+    Ann\0\0\0\0\0\0\0\0\0\0\0\0\0";
+
+// The same in canonical form, each of one word and one pointer.
+#[rattlefmt::skip]
+const NARROW: &[u8] = b"\x01\0\0\0\x27\0\0\0\x08\0\0\0\x01\0\x01\0\
+    \x07\0\0\0\0\0\0\0\x09\0\0\0\x22\0\0\0\0\0\0\0\0\0\0\0\x05\0\0\0\x0a\0\0\0\
+    Ann\0\0\0\0\0\0\0\0\0\0\0\0\0";
+
+// A list of two lists of numbers of two bytes.
+#[rattlefmt::skip]
+const LISTS: &[u8] = b"\x01\0\0\0\x16\0\0\0\x05\0\0\0\x13\0\0\0\x05\0\0\0\x0b\0\0\0\
+    \x01\0\x02\0\0\0\0\0\x03\0\0\0\0\0\0\0";
+
+// A list of three pointers, each over those after it and the texts before its own: of four bytes,
+// of the zero byte alone, and of three.
+#[rattlefmt::skip]
+const NAMES: &[u8] = b"\x01\0\0\0\x1e\0\0\0\
+    \x09\0\0\0\x22\0\0\0\x09\0\0\0\x0a\0\0\0\x09\0\0\0\x1a\0\0\0\
+    Ann\0\0\0\0\0\0\0\0\0\0\0\0\0Bo\0\0\0\0\0\0";
 
 // A far pointer, and in its segment the pointer to a list of one struct, which everything else
 // follows.
@@ -24,11 +48,6 @@ const FAR: &[u8] = b"\x02\0\0\0\x01\0\0\0";
 #[rattlefmt::skip]
 const ONE_PHONE: &[u8] = b"\x01\0\0\0\x17\0\0\0\x04\0\0\0\x01\0\x01\0\
     \x05\0\0\0\0\0\0\0\x01\0\0\0\x22\0\0\0123\0\0\0\0\0";
-
-// A list of one pointer, to a text of two words.
-#[rattlefmt::skip]
-const LONG_NAME: &[u8] = b"\x01\0\0\0\x0e\0\0\0\
-    \x01\0\0\0\x4a\0\0\0Dorothea\0\0\0\0\0\0\0\0";
 
 type Structs<'a> = struct_list::Reader<'a, SegmentArray<'a>>;
 
@@ -69,34 +88,4 @@ fn lists_of_pointers_are_set_again(rt: HostRuntime) -> Result<()> {
     compare_canonical::<text_list::Owned, Texts<'_>>(&rt, &list, NAMES)?;
     let lists = plain_arena(&[LISTS]);
     compare_read::<_, list_list::Owned<primitive_list::Owned<u16>>, Lists<'_>>(&rt, &lists, LISTS)
-}
-
-// A struct of a number and of a list that was read.
-#[test]
-fn a_list_that_was_read_is_a_part_of_a_value(rt: HostRuntime) -> Result<()> {
-    let names = plain_arena(&[TWO_NAMES]);
-    let list: Texts<'_> = root_as(&names)?;
-    let group = StructValue::new([7], Field::new(list, NoFields));
-    compare_by_each::<any_struct::Owned, Group<'_>>(&rt, &group, GROUP)
-}
-
-type Group<'a> = StructValue<1, Field<text_list::Owned, Texts<'a>, NoFields>>;
-
-// The words of a list that is read with limits.
-fn measured_within(limit: usize, nesting: i32) -> Result<Walked<u32>> {
-    let segments = [LONG_NAME];
-    let arena = arena_of(&segments, Some(limit), nesting);
-    let list: Pointers<'_> = root_as(&arena)?;
-    Ok(measured::<any_pointer_list::Owned, Pointers<'_>>(&list, false))
-}
-
-// What its pointers point to is counted against the limits of its message.
-#[test]
-fn lists_are_measured_within_their_limits(rt: HostRuntime) -> Result<()> {
-    expect(&rt, "two words", measured_within(2, 2)?, Ok(3));
-    let failed = Err(ErrorKind::ReadLimitExceeded);
-    expect(&rt, "one word", measured_within(1, 2)?, failed);
-    let failed = Err(ErrorKind::NestingLimitExceeded);
-    expect(&rt, "no depth", measured_within(2, 1)?, failed);
-    Ok(())
 }

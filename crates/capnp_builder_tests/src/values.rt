@@ -7,14 +7,10 @@ use capnp_frame::Result;
 use capnp_frame::message::ReaderSegments;
 use capnp_frame_tests::retried;
 use capnp_message::{Builder, HeapAllocator, ScratchSpaceHeapAllocator, SingleSegmentAllocator};
-use capnp_object_tests::arenas::Walked;
-use capnp_values::{Borrowed, Field, NoFields, Null, PointerList, StructValue};
+use capnp_values::{Borrowed, Field, NoFields, Null, NumberList, PointerList, StructValue};
 use capnp_wire::traits::SetterInput;
-use capnp_wire::{any_struct, data, text, text_list};
+use capnp_wire::{any_struct, data, list_list, primitive_list, text};
 use std::process::Abort;
-
-// A number and a name: the root's pointer, the number, the pointer to four bytes, and the bytes.
-const NAMED: &[u8] = b"\0\0\0\0\x01\0\x01\0\x07\0\0\0\0\0\0\0\x01\0\0\0\x22\0\0\0Ann\0\0\0\0\0";
 
 // A number, and pointers to such a struct, to nothing and to a text: the first points past the two
 // after it, the last past the struct with its name.
@@ -23,28 +19,11 @@ const NESTED: &[u8] = b"\0\0\0\0\x01\0\x03\0\x09\0\0\0\0\0\0\0\
     \x08\0\0\0\x01\0\x01\0\0\0\0\0\0\0\0\0\x0d\0\0\0\x1a\0\0\0\
     \x07\0\0\0\0\0\0\0\x01\0\0\0\x22\0\0\0Ann\0\0\0\0\0Bo\0\0\0\0\0\0";
 
-// Two data words and pointers to a struct of a zero and a null, to a text and to nothing.
-#[rattlefmt::skip]
-const LOOSE: &[u8] = b"\0\0\0\0\x02\0\x03\0\x07\0\0\0\0\0\0\0\0\0\0\0\0\0\0\0\
-    \x08\0\0\0\x01\0\x01\0\x0d\0\0\0\x22\0\0\0\0\0\0\0\0\0\0\0\
-    \0\0\0\0\0\0\0\0\0\0\0\0\0\0\0\0Ann\0\0\0\0\0";
-
-// The same in canonical form: a data word and two pointers, the first to an empty struct.
+// Two data words and pointers to a struct of a zero and a null, to a text and to nothing, in
+// canonical form: a data word and two pointers, the first to an empty struct.
 #[rattlefmt::skip]
 const TIGHT: &[u8] = b"\0\0\0\0\x01\0\x02\0\x07\0\0\0\0\0\0\0\
     \xfc\xff\xff\xff\0\0\0\0\x01\0\0\0\x22\0\0\0Ann\0\0\0\0\0";
-
-/// A list of three pointers, each over those after it and the texts before its own: of four bytes,
-/// of the zero byte alone, and of three.
-#[rattlefmt::skip]
-pub(crate) const NAMES: &[u8] = b"\x01\0\0\0\x1e\0\0\0\
-    \x09\0\0\0\x22\0\0\0\x09\0\0\0\x0a\0\0\0\x09\0\0\0\x1a\0\0\0\
-    Ann\0\0\0\0\0\0\0\0\0\0\0\0\0Bo\0\0\0\0\0\0";
-
-/// A struct of a number and of a list of two texts.
-#[rattlefmt::skip]
-pub(crate) const GROUP: &[u8] = b"\0\0\0\0\x01\0\x01\0\x07\0\0\0\0\0\0\0\x01\0\0\0\x16\0\0\0\
-    \x05\0\0\0\x22\0\0\0\x05\0\0\0\x1a\0\0\0Ann\0\0\0\0\0Bo\0\0\0\0\0\0";
 
 const EMPTY: &[u8] = b"\xfc\xff\xff\xff\0\0\0\0";
 
@@ -61,10 +40,6 @@ type Hollow = StructValue<1, Field<text::Owned, Null, NoFields>>;
 type AfterHollow<'a> = Field<text::Owned, &'a str, Field<data::Owned, Null, NoFields>>;
 
 type Loose<'a> = StructValue<2, Field<any_struct::Owned, Hollow, AfterHollow<'a>>>;
-
-type Texts<'a> = PointerList<'a, text::Owned, &'a str>;
-
-type Group<'a> = StructValue<1, Field<text_list::Owned, Texts<'a>, NoFields>>;
 
 fn named<'a>(number: u64, name: &'a str) -> Named<'a> {
     StructValue::new([number], Field::new(name, NoFields))
@@ -141,23 +116,10 @@ fn compare_in_regions<T, V: SetterInput<T>>(
 
 #[test]
 fn values_are_at_the_root(rt: HostRuntime) -> Result<()> {
-    compare_by_each::<any_struct::Owned, Named<'_>>(&rt, &named(7, "Ann"), NAMED)?;
     compare_by_each::<any_struct::Owned, Nested<'_>>(&rt, &nested(), NESTED)?;
-    compare_by_each::<any_struct::Owned, Loose<'_>>(&rt, &loose(), LOOSE)?;
     let empty = StructValue::new([], NoFields);
     compare_by_each::<any_struct::Owned, StructValue<0, NoFields>>(&rt, &empty, EMPTY)?;
     compare_by_each::<text::Owned, Null>(&rt, &Null, NULL)
-}
-
-#[test]
-fn lists_of_pointers_are_at_the_root(rt: HostRuntime) -> Result<()> {
-    let names = ["Ann", "", "Bo"];
-    let list = PointerList::new(&names);
-    compare_by_each::<text_list::Owned, Texts<'_>>(&rt, &list, NAMES)?;
-    let two = ["Ann", "Bo"];
-    let group = StructValue::new([7], Field::new(PointerList::new(&two), NoFields));
-    compare_by_each::<any_struct::Owned, Group<'_>>(&rt, &group, GROUP)?;
-    compare_canonical::<any_struct::Owned, Group<'_>>(&rt, &group, GROUP)
 }
 
 // Makes a value the root in canonical form, and compares the one segment.
@@ -181,18 +143,22 @@ fn set_canonical<T, V: SetterInput<T>>(
 
 #[test]
 fn canonical_forms_are_trimmed(rt: HostRuntime) -> Result<()> {
-    compare_canonical::<any_struct::Owned, Loose<'_>>(&rt, &loose(), TIGHT)?;
-    compare_canonical::<any_struct::Owned, Nested<'_>>(&rt, &nested(), NESTED)?;
-    let zeros = StructValue::new([0, 0], Field::new(Null, NoFields));
-    compare_canonical::<any_struct::Owned, StructValue<2, Field<text::Owned, Null, NoFields>>>(
-        &rt, &zeros, EMPTY,
-    )
+    compare_canonical::<any_struct::Owned, Loose<'_>>(&rt, &loose(), TIGHT)
 }
 
-/// The words that are measured, or why there are none.
-pub(crate) fn measured<T, V: SetterInput<T>>(value: &V, canonical: bool) -> Walked<u32> {
-    match value.measure(canonical) {
-        Ok(words) => Ok(words),
-        Err(error) => Err(error.kind),
-    }
+// A list of two lists of numbers of two bytes.
+#[rattlefmt::skip]
+const LISTS: &[u8] = b"\x01\0\0\0\x16\0\0\0\x05\0\0\0\x13\0\0\0\x05\0\0\0\x0b\0\0\0\
+    \x01\0\x02\0\0\0\0\0\x03\0\0\0\0\0\0\0";
+
+type Numbers<'a> = NumberList<'a, u16>;
+
+#[test]
+fn lists_of_lists_are_at_the_root(rt: HostRuntime) -> Result<()> {
+    let lists = [NumberList::new(&[1, 2]), NumberList::new(&[3])];
+    let list = PointerList::new(&lists);
+    compare_by_each::<
+        list_list::Owned<primitive_list::Owned<u16>>,
+        PointerList<'_, primitive_list::Owned<u16>, Numbers<'_>>,
+    >(&rt, &list, LISTS)
 }

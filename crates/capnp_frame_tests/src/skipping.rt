@@ -135,22 +135,22 @@ fn skip_failing(
 // A segment of 600 words without a zero byte, in literal groups of 256 words, of 256 and of 88, and
 // a byte after it.
 fn large_message(alloc: Global) -> Result<Vec<u8>> {
-    let mut encoding = Vec::new(alloc);
-    for byte in [0x30, 0x58, 2] {
-        encoding.push(byte)?;
-    }
-    for words in [256, 256, 88usize] {
-        encoding.push(0xff)?;
-        for _ in 0..8 {
-            encoding.push(7)?;
-        }
-        encoding.push((words - 1) as u8)?;
-        for _ in 0..8 * (words - 1) {
-            encoding.push(7)?;
-        }
-    }
+    let mut encoding = [0x30, 0x58, 2].to_vec(alloc)?;
+    append_group(&mut encoding, 255)?;
+    append_group(&mut encoding, 255)?;
+    append_group(&mut encoding, 87)?;
     encoding.push(9)?;
     Ok(encoding)
+}
+
+const SEVENS: [u8; 2040] = [7; 2040];
+
+// A word of sevens, and further ones, at most 255.
+fn append_group(encoding: &mut Vec<u8>, further: u8) -> Result<()> {
+    let length = usize::from(further).saturating_mul(8).min(2040);
+    encoding.extend_from_slice(&[0xff, 7, 7, 7, 7, 7, 7, 7, 7, further])?;
+    encoding.extend_from_slice(&SEVENS[..length])?;
+    Ok(())
 }
 
 #[test]

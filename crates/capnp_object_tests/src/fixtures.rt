@@ -38,10 +38,6 @@ pub fn root_as_text<S: ReaderSegments>(arena: &ReaderArena<S>) -> Result<&[u8]> 
     Ok(text.as_bytes())
 }
 
-pub fn root_as_data<S: ReaderSegments>(arena: &ReaderArena<S>) -> Result<&[u8]> {
-    root_as(arena)
-}
-
 pub fn root_as_struct<S: ReaderSegments>(arena: &ReaderArena<S>) -> Result<StructReader<'_, S>> {
     root_as(arena)
 }

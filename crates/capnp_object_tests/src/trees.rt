@@ -59,13 +59,3 @@ pub fn shared_lists(alloc: Global) -> Result<Vec<u8>> {
     }
     Ok(bytes)
 }
-
-/// 63 structs of one pointer, each to the next, and an empty one: the canonical form of 64.
-pub fn trimmed_chain(alloc: Global) -> Result<Vec<u8>> {
-    let mut bytes = Vec::new(alloc);
-    for _ in 0..63 {
-        bytes.extend_from_slice(b"\0\0\0\0\0\0\x01\0")?;
-    }
-    bytes.extend_from_slice(b"\xfc\xff\xff\xff\0\0\0\0")?;
-    Ok(bytes)
-}

@@ -33,22 +33,66 @@ pub fn build<S: GrowingSegment>(
 ) -> Result<Orphan<any_pointer::Owned>> {
     match built {
         Built::Null => Ok(Orphan::null()),
-        Built::Text => Ok(objects.text("hi")?.of_type()),
-        Built::Data => Ok(objects.data(&[1, 2, 255])?.of_type()),
-        Built::Voids => Ok(objects.numbers(&[(), (), ()])?.of_type()),
-        Built::Bools => Ok(objects.numbers(&[true, false, true])?.of_type()),
-        Built::Shorts => Ok(objects.numbers::<i16>(&[1, -2, 3])?.of_type()),
-        Built::Doubles => Ok(objects.numbers::<f64>(&[1.0, -2.0])?.of_type()),
-        Built::EmptyStruct => Ok(objects.add(&empty())?.of_type()),
-        Built::Struct => Ok(person(objects)?.of_type()),
-        Built::Masked => Ok(objects.add(&masked())?.of_type()),
+        Built::Text => short_text(objects),
+        Built::Data => three_bytes(objects),
+        Built::Voids => voids(objects),
+        Built::Bools => bools(objects),
+        Built::Shorts => shorts(objects),
+        Built::Doubles => doubles(objects),
+        Built::EmptyStruct => empty_struct(objects),
+        Built::Struct => person(objects),
+        Built::Masked => masked_struct(objects),
         Built::Texts => texts(objects),
         Built::Lists => lists(objects),
         Built::Structs => structs(objects),
-        Built::MadeStructs => Ok(objects.lazy_struct_list(&Squares)?.of_type()),
+        Built::MadeStructs => made_structs(objects),
         Built::NoStructs => no_structs(objects),
         Built::Value => value(objects),
     }
+}
+
+fn short_text<S: GrowingSegment>(objects: &mut Orphanage<S>) -> Result<Orphan<any_pointer::Owned>> {
+    Ok(objects.text("hi")?.of_type())
+}
+
+fn three_bytes<S: GrowingSegment>(
+    objects: &mut Orphanage<S>,
+) -> Result<Orphan<any_pointer::Owned>> {
+    Ok(objects.data(&[1, 2, 255])?.of_type())
+}
+
+fn voids<S: GrowingSegment>(objects: &mut Orphanage<S>) -> Result<Orphan<any_pointer::Owned>> {
+    Ok(objects.numbers(&[(), (), ()])?.of_type())
+}
+
+fn bools<S: GrowingSegment>(objects: &mut Orphanage<S>) -> Result<Orphan<any_pointer::Owned>> {
+    Ok(objects.numbers(&[true, false, true])?.of_type())
+}
+
+fn shorts<S: GrowingSegment>(objects: &mut Orphanage<S>) -> Result<Orphan<any_pointer::Owned>> {
+    Ok(objects.numbers::<i16>(&[1, -2, 3])?.of_type())
+}
+
+fn doubles<S: GrowingSegment>(objects: &mut Orphanage<S>) -> Result<Orphan<any_pointer::Owned>> {
+    Ok(objects.numbers::<f64>(&[1.0, -2.0])?.of_type())
+}
+
+fn empty_struct<S: GrowingSegment>(
+    objects: &mut Orphanage<S>,
+) -> Result<Orphan<any_pointer::Owned>> {
+    Ok(objects.add(&empty())?.of_type())
+}
+
+fn masked_struct<S: GrowingSegment>(
+    objects: &mut Orphanage<S>,
+) -> Result<Orphan<any_pointer::Owned>> {
+    Ok(objects.add(&masked())?.of_type())
+}
+
+fn made_structs<S: GrowingSegment>(
+    objects: &mut Orphanage<S>,
+) -> Result<Orphan<any_pointer::Owned>> {
+    Ok(objects.lazy_struct_list(&Squares)?.of_type())
 }
 
 fn empty() -> StructDraft<any_struct::Owned, 0, 0> {
@@ -56,13 +100,13 @@ fn empty() -> StructDraft<any_struct::Owned, 0, 0> {
 }
 
 // The second pointer stays null.
-fn person<S: GrowingSegment>(objects: &mut Orphanage<S>) -> Result<Orphan<any_struct::Owned>> {
+fn person<S: GrowingSegment>(objects: &mut Orphanage<S>) -> Result<Orphan<any_pointer::Owned>> {
     let name = objects.text("hi")?;
     let mut draft = StructDraft::<any_struct::Owned, 1, 2>::new();
     draft.set_data_field::<u32>(1, 123);
     draft.set_data_field(0, true);
     draft.adopt(0, name);
-    objects.add(&draft)
+    Ok(objects.add(&draft)?.of_type())
 }
 
 // 5 where 4 is the default, and the default itself.

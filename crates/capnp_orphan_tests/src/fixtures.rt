@@ -1,20 +1,12 @@
 //! What these tests share: messages of an orphanage, and what is expected at a case.
-use capnp::any_struct::StructReader;
 use capnp::message::{DEFAULT_READER_OPTIONS, Reader};
 use capnp_frame::Result;
 use capnp_orphans::Orphanage;
-use capnp_wire::any_pointer;
 use std::fmt::Debug;
 use std::process::Abort;
 
 /// The message of an orphanage.
 pub type Message<'a> = Reader<&'a Orphanage>;
-
-/// A struct of such a message.
-pub type Fields<'a, 'b> = StructReader<'a, &'b Orphanage>;
-
-/// A pointer of such a message.
-pub type Pointer<'a, 'b> = any_pointer::Reader<'a, &'b Orphanage>;
 
 /// What is found at a case is what is wanted there.
 pub fn expect<R: Debug + Drop, T: PartialEq + Debug + Drop>(
@@ -33,9 +25,4 @@ pub fn empty(rt: &impl AllocGlobal) -> Result<Orphanage> {
 
 pub fn message_of(objects: &Orphanage) -> Message<'_> {
     Reader::new(objects, DEFAULT_READER_OPTIONS)
-}
-
-/// The struct at a pointer.
-pub fn fields_at<'a, 'b>(pointer: &Pointer<'a, 'b>) -> Result<Fields<'a, 'b>> {
-    pointer.get_as()
 }

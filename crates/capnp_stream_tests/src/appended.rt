@@ -1,16 +1,14 @@
-//! Messages that are written one after the other and read back.
+//! Messages that are written one after the other.
 use crate::assertions::{At, assert_bytes, assert_calls, assert_holds, assert_kind};
 use crate::failures::FORMATS;
 use crate::samples::{ONE_AND_TWO, TWO};
 use crate::streams::{PACKED_THREE, THREE};
-use capnp::message::Reader;
-use capnp::streams::{Format, read_messages, write_messages};
+use capnp::streams::{Format, write_messages};
 use capnp_frame::io::Write;
-use capnp_frame::message::{DEFAULT_READER_OPTIONS, SegmentArray};
-use capnp_frame::serialize::{OwnedSegments, is_writable};
+use capnp_frame::message::SegmentArray;
+use capnp_frame::serialize::is_writable;
 use capnp_frame::{ErrorKind, Result};
 use capnp_frame_tests::errors::kind_of;
-use capnp_frame_tests::messages::has_segments;
 use capnp_frame_tests::retried;
 use capnp_frame_tests::sinks::FailingSink;
 use std::process::Abort;
@@ -47,62 +45,6 @@ fn write_three<W: Write>(
         is_writable(&messages[0]) && is_writable(&messages[1]) && is_writable(&messages[2])
     );
     write_messages(rt.alloc(), sink, format, &messages)
-}
-
-// Reads a number of messages from what is unread of the three encodings.
-fn read(
-    rt: &impl AllocGlobal,
-    format: Format,
-    source: &mut &[u8],
-    count: usize,
-) -> Result<Vec<Reader<OwnedSegments>>> {
-    read_messages(rt.alloc(), source, format, count, DEFAULT_READER_OPTIONS)
-}
-
-// Whether these are the messages.
-fn are_read(readers: &[Reader<OwnedSegments>], messages: &[&[&[u8]]]) -> bool {
-    for (reader, segments) in readers.iter().zip(messages) {
-        if !has_segments(reader.get_segments(), segments) {
-            return false;
-        }
-    }
-    readers.len() == messages.len()
-}
-
-#[test]
-fn encodings_after_one_another(rt: HostRuntime) -> Result<()> {
-    for format in &FORMATS {
-        retried!(write_and_read(&rt, *format))?;
-        retried!(write_none(&rt, *format))?;
-    }
-    Ok(())
-}
-
-// Two messages are read, and then one.
-fn write_and_read(rt: &(impl Abort + AllocGlobal), format: Format) -> Result<()> {
-    let at = name_of(format);
-    let mut encoding: Vec<u8> = Vec::new(rt.alloc());
-    write_three(rt, format, &mut encoding)?;
-    assert_bytes(rt, encoding.as_slice(), encoding_of(format), at);
-    let mut source = encoding_of(format);
-    let two = read(rt, format, &mut source, 2)?;
-    assert_holds(rt, are_read(&two, &[ONE_AND_TWO, TWO]), at);
-    let one = read(rt, format, &mut source, 1)?;
-    assert_holds(rt, are_read(&one, &[EMPTY]) && source.is_empty(), at);
-    Ok(())
-}
-
-// No messages have an empty encoding, and none are read.
-fn write_none(rt: &(impl Abort + AllocGlobal), format: Format) -> Result<()> {
-    let at = name_of(format);
-    let none: [SegmentArray<'_>; 0] = [];
-    let mut sink: Vec<u8> = Vec::new(rt.alloc());
-    write_messages(rt.alloc(), &mut sink, format, &none)?;
-    let mut source = encoding_of(format);
-    let read = read(rt, format, &mut source, 0)?;
-    assert_holds(rt, sink.is_empty() && read.is_empty(), at);
-    assert_bytes(rt, source, encoding_of(format), at);
-    Ok(())
 }
 
 // A sink that fails at its nth chunk, and would take the chunks after it, has a front of the

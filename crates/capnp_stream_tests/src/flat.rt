@@ -15,6 +15,7 @@ use capnp_frame::serialize::{
 };
 use capnp_frame_tests::messages::has_segments;
 use capnp_frame_tests::retried;
+use std::alloc::Global;
 use std::process::Abort;
 
 // The calls, over what holds a message.
@@ -51,45 +52,60 @@ fn find(
     wanted: &[&[u8]],
 ) -> Result<(bool, usize)> {
     let alloc = rt.alloc();
-    let options = DEFAULT_READER_OPTIONS;
     let mut slice = bytes;
-    let rules = TableRules::new(rule, options);
-    let found = match (form, rule) {
-        (Form::Take, Padding::Zero) => has_segments(
-            &take_segments(alloc, &mut slice, options)?,
-            wanted,
-        ),
-        (Form::Take, Padding::Any) => has_segments(
-            &take_segments_lenient(alloc, &mut slice, options)?,
-            wanted,
-        ),
-        (Form::New, Padding::Zero) => has_segments(
-            &BufferSegments::new(alloc, bytes, options)?,
-            wanted,
-        ),
-        (Form::New, Padding::Any) => has_segments(
-            &BufferSegments::new_lenient(alloc, bytes, options)?,
-            wanted,
-        ),
-        (Form::NewOfVector, _) => {
-            let vector = bytes.to_vec(alloc)?;
-            has_segments(&BufferSegments::with_rules(alloc, vector, rules)?, wanted)
-        }
-        (Form::FromVector, _) => {
-            let vector = bytes.to_vec(alloc)?;
-            let found = NoAllocBufferSegments::from_buffer_with_rules(vector, rules)?;
-            has_segments(&found, wanted)
-        }
-        (Form::Message, Padding::Zero) => {
-            let read = read_message_from_flat_slice(alloc, &mut slice, options);
-            has_segments(&segments_of(read)?, wanted)
-        }
-        (Form::Message, Padding::Any) => {
-            let read = read_message_from_flat_slice_lenient(alloc, &mut slice, options);
-            has_segments(&segments_of(read)?, wanted)
-        }
+    let found = match form {
+        Form::Take => is_taken(alloc, rule, &mut slice, wanted)?,
+        Form::New => is_new(alloc, rule, bytes, wanted)?,
+        Form::NewOfVector => is_new_of_vector(alloc, rule, bytes, wanted)?,
+        Form::FromVector => is_from_vector(alloc, rule, bytes, wanted)?,
+        Form::Message => is_message(alloc, rule, &mut slice, wanted)?,
     };
     Ok((found, slice.len()))
+}
+
+fn is_taken(alloc: Global, rule: Padding, slice: &mut &[u8], wanted: &[&[u8]]) -> Result<bool> {
+    let options = DEFAULT_READER_OPTIONS;
+    match rule {
+        Padding::Zero => Ok(has_segments(&take_segments(alloc, slice, options)?, wanted)),
+        Padding::Any => Ok(has_segments(&take_segments_lenient(alloc, slice, options)?, wanted)),
+    }
+}
+
+fn is_new(alloc: Global, rule: Padding, bytes: &[u8], wanted: &[&[u8]]) -> Result<bool> {
+    let options = DEFAULT_READER_OPTIONS;
+    match rule {
+        Padding::Zero => Ok(has_segments(&BufferSegments::new(alloc, bytes, options)?, wanted)),
+        Padding::Any => {
+            Ok(has_segments(&BufferSegments::new_lenient(alloc, bytes, options)?, wanted))
+        }
+    }
+}
+
+fn is_new_of_vector(alloc: Global, rule: Padding, bytes: &[u8], wanted: &[&[u8]]) -> Result<bool> {
+    let vector = bytes.to_vec(alloc)?;
+    let rules = TableRules::new(rule, DEFAULT_READER_OPTIONS);
+    Ok(has_segments(&BufferSegments::with_rules(alloc, vector, rules)?, wanted))
+}
+
+fn is_from_vector(alloc: Global, rule: Padding, bytes: &[u8], wanted: &[&[u8]]) -> Result<bool> {
+    let vector = bytes.to_vec(alloc)?;
+    let rules = TableRules::new(rule, DEFAULT_READER_OPTIONS);
+    let found = NoAllocBufferSegments::from_buffer_with_rules(vector, rules)?;
+    Ok(has_segments(&found, wanted))
+}
+
+fn is_message(alloc: Global, rule: Padding, slice: &mut &[u8], wanted: &[&[u8]]) -> Result<bool> {
+    let options = DEFAULT_READER_OPTIONS;
+    match rule {
+        Padding::Zero => {
+            let read = read_message_from_flat_slice(alloc, slice, options);
+            Ok(has_segments(&segments_of(read)?, wanted))
+        }
+        Padding::Any => {
+            let read = read_message_from_flat_slice_lenient(alloc, slice, options);
+            Ok(has_segments(&segments_of(read)?, wanted))
+        }
+    }
 }
 
 // How many bytes a form leaves. The forms that take a slice move it past a message, and in `THREE`

@@ -29,8 +29,6 @@ mod readers;
 #[cfg(test)]
 mod requests;
 #[cfg(test)]
-mod roots;
-#[cfg(test)]
 mod samples;
 #[cfg(test)]
 mod skipping;

@@ -1,17 +1,18 @@
 //! The calls that read the next message of a stream, each by the rule of padding that it has or is
 //! given.
+mod framed;
+mod packed;
+
+pub use crate::readers::framed::is_read;
+use crate::readers::packed::is_unpacked;
 use crate::streams::Wanted;
+use capnp::message;
 use capnp::streams::Format;
-use capnp::{message, serialize, serialize_packed};
-use capnp_frame::io::{BufRead, Read};
+use capnp_frame::io::BufRead;
 use capnp_frame::message::{ReaderOptions, ReaderSegments};
-use capnp_frame::serialize::{
-    OwnedSegments, Padding, TableRules, try_read_segments, try_read_segments_into,
-    try_read_segments_into_lenient, try_read_segments_lenient, try_read_segments_reusing,
-};
+use capnp_frame::serialize::Padding;
 use capnp_frame::{ErrorKind, Result};
 use capnp_frame_tests::messages::has_segments;
-use capnp_pack::stream::{try_read_packed_segments, try_read_packed_segments_into};
 use std::alloc::Global;
 
 /// The calls that read the next message.
@@ -75,129 +76,6 @@ fn room_of(reader: Reader) -> usize {
         Reader::Lending(room) | Reader::ProvidedMessage(room) | Reader::ProvidedNeeded(room) =>
             room,
         Reader::Copying | Reader::Reusing | Reader::Message | Reader::Needed => 0,
-    }
-}
-
-/// Whether the framed calls read this source as expected; it need not show bytes.
-pub fn is_read<R: Read>(
-    alloc: Global,
-    (rule, reader): (Padding, Reader),
-    source: &mut R,
-    limit: Option<usize>,
-    wanted: Wanted<'_>,
-) -> Result<bool> {
-    let options = with_limit(limit);
-    let rules = TableRules::new(rule, options);
-    let spare = OwnedSegments::empty(alloc);
-    let mut space = [0xaa; 8192];
-    let buffer = &mut space[..room_of(reader).min(8192)];
-    match (reader, rule) {
-        (Reader::Copying, Padding::Zero) => is_wanted(
-            try_read_segments(alloc, source, options),
-            wanted,
-        ),
-        (Reader::Copying, Padding::Any) => is_wanted(
-            try_read_segments_lenient(alloc, source, options),
-            wanted,
-        ),
-        (Reader::Reusing, _) => is_wanted(try_read_segments_reusing(source, rules, spare), wanted),
-        (Reader::Lending(_), Padding::Zero) => is_wanted(
-            try_read_segments_into(source, buffer, options),
-            wanted,
-        ),
-        (Reader::Lending(_), Padding::Any) => is_wanted(
-            try_read_segments_into_lenient(source, buffer, options),
-            wanted,
-        ),
-        (Reader::Message, Padding::Zero) => {
-            let read = serialize::try_read_message(alloc, source, options);
-            is_wanted(segments_of(read), wanted)
-        }
-        (Reader::Message, Padding::Any) => {
-            let read = serialize::try_read_message_lenient(alloc, source, options);
-            is_wanted(segments_of(read), wanted)
-        }
-        (Reader::ProvidedMessage(_), Padding::Zero) => {
-            let read = serialize::try_read_message_no_alloc(source, buffer, options);
-            is_wanted(segments_of(read), wanted)
-        }
-        (Reader::ProvidedMessage(_), Padding::Any) => {
-            let read = serialize::try_read_message_no_alloc_lenient(source, buffer, options);
-            is_wanted(segments_of(read), wanted)
-        }
-        (Reader::Needed, Padding::Zero) => {
-            let read = serialize::read_message(alloc, source, options);
-            is_wanted(needed_segments_of(read), needed(wanted))
-        }
-        (Reader::Needed, Padding::Any) => {
-            let read = serialize::read_message_lenient(alloc, source, options);
-            is_wanted(needed_segments_of(read), needed(wanted))
-        }
-        (Reader::ProvidedNeeded(_), Padding::Zero) => {
-            let read = serialize::read_message_no_alloc(source, buffer, options);
-            is_wanted(needed_segments_of(read), needed(wanted))
-        }
-        (Reader::ProvidedNeeded(_), Padding::Any) => {
-            let read = serialize::read_message_no_alloc_lenient(source, buffer, options);
-            is_wanted(needed_segments_of(read), needed(wanted))
-        }
-    }
-}
-
-// Whether the packed calls read this source as expected.
-fn is_unpacked<R: BufRead>(
-    alloc: Global,
-    (rule, reader): (Padding, Reader),
-    source: &mut R,
-    limit: Option<usize>,
-    wanted: Wanted<'_>,
-) -> Result<bool> {
-    let options = with_limit(limit);
-    let rules = TableRules::new(rule, options);
-    let spare = OwnedSegments::empty(alloc);
-    let mut space = [0xaa; 8192];
-    let buffer = &mut space[..room_of(reader).min(8192)];
-    match (reader, rule) {
-        (Reader::Copying | Reader::Reusing, _) => is_wanted(
-            try_read_packed_segments(source, rules, spare),
-            wanted,
-        ),
-        (Reader::Lending(_), _) => is_wanted(
-            try_read_packed_segments_into(source, rules, buffer),
-            wanted,
-        ),
-        (Reader::Message, Padding::Zero) => {
-            let read = serialize_packed::try_read_message(alloc, source, options);
-            is_wanted(segments_of(read), wanted)
-        }
-        (Reader::Message, Padding::Any) => {
-            let read = serialize_packed::try_read_message_lenient(alloc, source, options);
-            is_wanted(segments_of(read), wanted)
-        }
-        (Reader::ProvidedMessage(_), Padding::Zero) => {
-            let read = serialize_packed::try_read_message_no_alloc(source, buffer, options);
-            is_wanted(segments_of(read), wanted)
-        }
-        (Reader::ProvidedMessage(_), Padding::Any) => {
-            let read = serialize_packed::try_read_message_no_alloc_lenient(source, buffer, options);
-            is_wanted(segments_of(read), wanted)
-        }
-        (Reader::Needed, Padding::Zero) => {
-            let read = serialize_packed::read_message(alloc, source, options);
-            is_wanted(needed_segments_of(read), needed(wanted))
-        }
-        (Reader::Needed, Padding::Any) => {
-            let read = serialize_packed::read_message_lenient(alloc, source, options);
-            is_wanted(needed_segments_of(read), needed(wanted))
-        }
-        (Reader::ProvidedNeeded(_), Padding::Zero) => {
-            let read = serialize_packed::read_message_no_alloc(source, buffer, options);
-            is_wanted(needed_segments_of(read), needed(wanted))
-        }
-        (Reader::ProvidedNeeded(_), Padding::Any) => {
-            let read = serialize_packed::read_message_no_alloc_lenient(source, buffer, options);
-            is_wanted(needed_segments_of(read), needed(wanted))
-        }
     }
 }
 

@@ -1,16 +1,8 @@
-//! Messages after one another, by each call that reads the next one of a stream: they are read where
-//! memory is there. What else the bytes of a stream may be is in `conformance/`.
-use crate::assertions::At;
-use crate::calls_reported::{assert_call, assert_unread};
-use crate::flat::RULES;
-use crate::readers::{Call, READERS, is_returned};
+//! Streams of messages after one another. What else the bytes of a stream may be is in
+//! `conformance/`.
 use crate::samples::{ONE_AND_TWO, TEXT, TEXT_FRAMED, TEXT_PACKED, TWO};
 use capnp::streams::Format;
-use capnp_frame::{ErrorKind, Result};
-use capnp_frame_tests::limits::DEFAULT_LIMIT;
-use capnp_frame_tests::retried;
-use capnp_frame_tests::sources::Trickle;
-use std::process::Abort;
+use capnp_frame::ErrorKind;
 
 /// What a stream reader returns.
 #[derive(Clone, Copy)]
@@ -88,38 +80,3 @@ pub const STREAMS: [Stream; 4] = [
         ],
     },
 ];
-
-// However little a source shows or returns, each call returns the same. No case has a padding that
-// isn't zero, so the lenient calls return the same, too.
-#[test]
-fn messages_after_one_another(rt: HostRuntime) -> Result<()> {
-    for most in [1, 7, 24] {
-        for reader in &READERS {
-            for padding in &RULES {
-                for stream in &STREAMS {
-                    let call = (stream.format, *padding, *reader);
-                    retried!(read_stream(&rt, call, stream, most))?;
-                }
-            }
-        }
-    }
-    Ok(())
-}
-
-// Asks for one message after another, of a source that shows or returns at most a given number of
-// bytes.
-fn read_stream(
-    rt: &(impl Abort + AllocGlobal),
-    call: Call,
-    stream: &Stream,
-    most: usize,
-) -> Result<()> {
-    let at = At::new(stream.name, most as u64);
-    let mut source = Trickle::new(stream.bytes, most);
-    for (wanted, unread) in stream.returns {
-        let returned = is_returned(rt.alloc(), call, &mut source, DEFAULT_LIMIT, *wanted)?;
-        assert_call(rt, returned, call, at);
-        assert_unread(rt, source.bytes.len(), *unread, call, at);
-    }
-    Ok(())
-}

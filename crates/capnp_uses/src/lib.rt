@@ -21,6 +21,4 @@ pub mod regions;
 pub mod roots;
 pub mod setting;
 pub mod streaming;
-#[cfg(test)]
-mod tests;
 pub mod values;

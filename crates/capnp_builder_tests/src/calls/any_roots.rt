@@ -1,4 +1,5 @@
 //! The calls that stand for the root of a message that is built, whatever it points to.
+use crate::building::expect_segments;
 use crate::calls::arenas::{Words, arena_of};
 use crate::fixtures::expect;
 use capnp_build::{any_pointer, any_struct, primitive_list, text};
@@ -49,5 +50,28 @@ fn expect_roots(rt: &impl Abort, arena: &mut Words) -> Result<()> {
     expect(rt, "an empty struct", init_struct(arena)?, 0);
     expect(rt, "a struct", struct_error(arena)?, (15, 65536));
     expect(rt, "null", outline(arena)?, (true, 0));
+    Ok(())
+}
+
+// A list of three words, with 9 as the last one.
+const THIRD_OF_THREE: &[u8] =
+    b"\x01\0\0\0\x1d\0\0\0\0\0\0\0\0\0\0\0\0\0\0\0\0\0\0\0\x09\0\0\0\0\0\0\0";
+
+// A new list of three words at the root, which is then seen as one.
+fn set_new_numbers(arena: &mut Words) -> Result<()> {
+    let mut root = arena.get_root::<any_pointer::Owned>()?;
+    root.set_new::<primitive_list::Owned<u64>>(3)?;
+    let mut list = root.into_view::<primitive_list::Owned<u64>>();
+    if list.len() > 2 {
+        list.set(2, 9);
+    }
+    Ok(())
+}
+
+#[test]
+fn a_new_list_is_the_root(rt: HostRuntime) -> Result<()> {
+    let mut arena = arena_of(rt.alloc(), 1024);
+    set_new_numbers(&mut arena)?;
+    expect_segments(&rt, "a list", &arena, &[THIRD_OF_THREE]);
     Ok(())
 }

@@ -1,17 +1,15 @@
 //! Messages that are built.
 use crate::building::{
-    expect_segments, expect_zeros, far_message, init_error, is_null_word, set_canonical_text,
-    set_text, text_of,
+    expect_segments, far_message, init_error, is_null_word, set_canonical_text, set_text, text_of,
 };
 use crate::fixtures::expect;
 use capnp_build::allocator::Allocator;
-use capnp_build::{any_struct, data, primitive_list, text};
+use capnp_build::{any_struct, data, text};
 use capnp_frame::message::ReaderSegments;
 use capnp_frame::{Error, ErrorKind, Result};
 use capnp_frame_tests::errors::{allocation_error, error_of};
 use capnp_message::builder::Builder;
 use capnp_message::heap_allocator::HeapAllocator;
-use capnp_message::scratch_space::ScratchSpaceHeapAllocator;
 use capnp_message::single_segment::SingleSegmentAllocator;
 use capnp_message::typed_builder::TypedBuilder;
 use capnp_message::typed_reader::TypedReader;
@@ -51,59 +49,6 @@ fn hello_far(rt: HostRuntime) -> Result<()> {
     Ok(())
 }
 
-/// A heap whose second request fails.
-#[derive(Drop)]
-struct SecondFails {
-    heap: HeapAllocator,
-    requests: u32,
-}
-
-impl Allocator for SecondFails {
-    type Segment = Vec<u8>;
-
-    ghost use Rattle.std.specs.Prelude.{⊤, []};
-
-    ghost out = { λ allocator list. ⊤ };
-
-    ghost same = { λ old new. ⊤ };
-
-    ghost grants = { λ allocator asked words. ⊥ };
-
-    ghost fails = { λ allocator asked kind. ⊤ };
-
-    ghost returns = { λ old segment words new. ⊤ };
-
-    fn allocate_segment(&mut self, minimum_size: u32) -> Result<Vec<u8>> {
-        self.requests = self.requests.saturating_add(1);
-        if self.requests == 2 {
-            return Err(Error::from_kind(ErrorKind::OutOfMemory));
-        }
-        self.heap.allocate_segment(minimum_size)
-    }
-
-    fn deallocate_segment(&mut self, segment: Vec<u8>, words_used: u32) {
-        self.heap.deallocate_segment(segment, words_used);
-    }
-
-    ghost keeps = { record { reflexive = λ s. tt; transitive = λ s t u p q. tt } };
-
-    ghost accounts = { λ s. ([], tt) };
-}
-
-// Where the second segment fails the root is null, and the same call succeeds once it is given.
-#[test]
-fn second_segment_fails(rt: HostRuntime) -> Result<()> {
-    let heap = HeapAllocator::new(rt.alloc()).first_segment_words(1);
-    let allocator = SecondFails { heap, requests: 0 };
-    let mut message = Builder::new(rt.alloc(), allocator);
-    let failed = kind_of(set_text(&mut message, "hello world!"));
-    expect(&rt, "fails", failed, Some(ErrorKind::OutOfMemory));
-    assert!(rt; is_null_word(&message));
-    set_text(&mut message, "hello world!")?;
-    expect_segments(&rt, "given", &message, &[FAR, PADDED]);
-    Ok(())
-}
-
 #[test]
 fn no_room_in_a_single_segment(rt: HostRuntime) {
     let mut region = [7; 16];
@@ -134,43 +79,6 @@ fn single_segment(rt: HostRuntime) -> Result<()> {
     let home = single.allocate_segment(4)?;
     expect(&rt, "home", &home[..], [0; 32].as_slice());
     Ok(())
-}
-
-// A builder that is dropped gives each segment back.
-#[test]
-fn a_segment_comes_home(rt: HostRuntime) -> Result<()> {
-    let mut region = [7; 32];
-    let mut single = SingleSegmentAllocator::new(&mut region);
-    let mut message = Builder::new(rt.alloc(), &mut single);
-    set_text(&mut message, "hello")?;
-    drop(message);
-    let home = single.allocate_segment(4)?;
-    expect(&rt, "home", &home[..], [0; 32].as_slice());
-    Ok(())
-}
-
-#[test]
-fn a_scratch_region_comes_home(rt: HostRuntime) -> Result<()> {
-    let mut region = [7; 32];
-    let mut scratch = ScratchSpaceHeapAllocator::new(rt.alloc(), &mut region);
-    let mut message = Builder::new(rt.alloc(), &mut scratch);
-    set_text(&mut message, "hello")?;
-    drop(message);
-    drop(scratch);
-    expect_zeros(&rt, "the region", &region);
-    Ok(())
-}
-
-#[test]
-fn inits_that_fail(rt: HostRuntime) {
-    let mut message = Builder::new_default(rt.alloc());
-    let found = init_error::<any_struct::Owned, HeapAllocator>(&mut message, 65536);
-    expect(&rt, "a struct", found, (15, 65536));
-    assert!(rt; is_null_word(&message));
-    let found = init_error::<data::Owned, HeapAllocator>(&mut message, 536_870_912);
-    expect(&rt, "data", found, (15, 67_108_864));
-    let found = init_error::<primitive_list::Owned<u64>, HeapAllocator>(&mut message, 536_870_912);
-    expect(&rt, "words", found, (15, 536_870_912));
 }
 
 fn struct_error<A: Allocator>(message: &mut Builder<A>) -> (u8, u32) {
@@ -247,5 +155,58 @@ fn set_seven(message: &mut Builder<HeapAllocator>) -> Result<()> {
     if fields.data_words() > 0 {
         fields.set_word(0, 7);
     }
+    Ok(())
+}
+
+/// A heap whose second request fails.
+#[derive(Drop)]
+struct SecondFails {
+    heap: HeapAllocator,
+    requests: u32,
+}
+
+impl Allocator for SecondFails {
+    type Segment = Vec<u8>;
+
+    ghost use Rattle.std.specs.Prelude.{⊤, []};
+
+    ghost out = { λ allocator list. ⊤ };
+
+    ghost same = { λ old new. ⊤ };
+
+    ghost grants = { λ allocator asked words. ⊥ };
+
+    ghost fails = { λ allocator asked kind. ⊤ };
+
+    ghost returns = { λ old segment words new. ⊤ };
+
+    fn allocate_segment(&mut self, minimum_size: u32) -> Result<Vec<u8>> {
+        self.requests = self.requests.saturating_add(1);
+        if self.requests == 2 {
+            return Err(Error::from_kind(ErrorKind::OutOfMemory));
+        }
+        self.heap.allocate_segment(minimum_size)
+    }
+
+    fn deallocate_segment(&mut self, segment: Vec<u8>, words_used: u32) {
+        self.heap.deallocate_segment(segment, words_used);
+    }
+
+    ghost keeps = { record { reflexive = λ s. tt; transitive = λ s t u p q. tt } };
+
+    ghost accounts = { λ s. ([], tt) };
+}
+
+// Where the second segment fails the root is null, and the same call succeeds once it is given.
+#[test]
+fn second_segment_fails(rt: HostRuntime) -> Result<()> {
+    let heap = HeapAllocator::new(rt.alloc()).first_segment_words(1);
+    let allocator = SecondFails { heap, requests: 0 };
+    let mut message = Builder::new(rt.alloc(), allocator);
+    let failed = kind_of(set_text(&mut message, "hello world!"));
+    expect(&rt, "fails", failed, Some(ErrorKind::OutOfMemory));
+    assert!(rt; is_null_word(&message));
+    set_text(&mut message, "hello world!")?;
+    expect_segments(&rt, "given", &message, &[FAR, PADDED]);
     Ok(())
 }

@@ -1,23 +1,12 @@
 //! Canonical forms of messages, and a root as a type says.
 use crate::fixtures::expect;
-use crate::messages::{canonical_bytes_of, reader_of};
+use crate::messages::reader_of;
 use capnp_frame::Result;
 use capnp_frame::message::{ReaderOptions, SegmentArray};
 use capnp_message::laws::canonicalize_twice;
 use capnp_wire::text;
 
 const HELLO: [&[u8]; 1] = [b"\x01\0\0\0\x72\0\0\0Hello, World!\0\0\0"];
-
-// They are made twice: the walks leave what is read of the message as it was.
-#[test]
-fn canonical_words(rt: HostRuntime) -> Result<()> {
-    let reader = reader_of(&HELLO, Some(3));
-    for _time in 0..2u32 {
-        let words = canonical_bytes_of(rt.alloc(), &reader)?;
-        expect(&rt, "words", words.as_slice(), HELLO[0]);
-    }
-    Ok(())
-}
 
 const HELLO_FAR: [&[u8]; 2] = [
     b"\x02\0\0\0\x01\0\0\0",

@@ -1,10 +1,29 @@
 //! Lists that were read, as values.
-use crate::calls::upgrades::{DATA, PAIRS, POINTERS, Pointers, Structs, Texts};
 use crate::fixtures::{Numbered, expect, plain_arena, root_as};
 use capnp_frame::Result;
+use capnp_frame::message::SegmentArray;
 use capnp_wire::traits::SetterInput;
-use capnp_wire::upgraded::NumberList;
+use capnp_wire::upgraded::{ListList, NumberList, PointerList, StructList};
 use capnp_wire::{any_pointer_list, list_list, primitive_list, struct_list, text};
+
+// Three numbers of two bytes.
+const PAIRS: &[u8] = b"\x01\0\0\0\x1b\0\0\0\x01\0\x02\x03\xff\xff\0\0";
+
+// Three pointers: null, to the text "a", and null.
+const POINTERS: &[u8] = b"\x01\0\0\0\x1e\0\0\0\0\0\0\0\0\0\0\0\
+\x05\0\0\0\x12\0\0\0\0\0\0\0\0\0\0\0a\0\0\0\0\0\0\0";
+
+// Three structs of two data words.
+const DATA: &[u8] = b"\x01\0\0\0\x37\0\0\0\x0c\0\0\0\x02\0\0\0\
+\x01\x02\x03\x04\x05\x06\x07\x08\xee\xee\xee\xee\xee\xee\xee\xee\
+\xf1\xf2\xf3\xf4\xf5\xf6\xf7\xf8\xee\xee\xee\xee\xee\xee\xee\xee\
+\0\0\0\0\0\0\0\x01\xee\xee\xee\xee\xee\xee\xee\xee";
+
+type Structs<'a> = StructList<'a, SegmentArray<'a>>;
+
+type Pointers<'a> = PointerList<'a, SegmentArray<'a>>;
+
+type Texts<'a> = ListList<'a, SegmentArray<'a>, text::Reader<'a>>;
 
 /// A pointer word, and a block of seven words.
 type Written = ([u8; 8], [u8; 56]);

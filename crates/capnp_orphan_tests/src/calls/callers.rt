@@ -1,6 +1,6 @@
 //! What the callers of `uses` build.
-use crate::fixtures::{Fields, empty, expect, fields_at, message_of};
-use crate::uses::{canonical_tree, list_of_texts, tree_message};
+use crate::fixtures::{empty, expect, message_of};
+use crate::uses::{canonical_tree, list_of_texts};
 use capnp::text_list;
 use capnp_frame::{Result, Word};
 use capnp_orphans::Orphanage;
@@ -31,18 +31,6 @@ fn a_list_of_texts_is_read(rt: HostRuntime) -> Result<()> {
     let objects = message_of_texts(&rt, &["one", "", "three"])?;
     let message = message_of(&objects);
     expect_texts(&rt, &message.get_root()?, &[b"one", b"", b"three"])
-}
-
-#[test]
-fn a_tree_is_the_root(rt: HostRuntime) -> Result<()> {
-    let objects = tree_message(rt.alloc(), 1, 7)?;
-    let message = message_of(&objects);
-    let root: Fields<'_, '_> = message.get_root()?;
-    expect(&rt, "the root", root.get_data_field::<u64>(0), 7);
-    let left = fields_at(&root.get_pointer(0))?;
-    expect(&rt, "its left", left.get_data_field::<u64>(0), 7);
-    assert!(rt; left.get_pointer(1).is_null());
-    Ok(())
 }
 
 // A node of one data word and two pointers, each to a word, which has lost its null pointers.

@@ -3,7 +3,6 @@
 use crate::built::{Built, build};
 use crate::errors::error_of;
 use crate::fixtures::{empty, expect};
-use capnp::{serialize, serialize_packed};
 use capnp_frame::{ErrorKind, Result};
 use capnp_orphans::{Orphanage, Region};
 use std::process::Abort;
@@ -78,23 +77,5 @@ fn is_at(rt: &impl Abort, objects: &mut Orphanage, &(built, _, segment): &Case) 
     let root = build(objects, built)?;
     objects.set_root(root);
     expect(rt, built, objects.bytes(), segment);
-    Ok(())
-}
-
-const FRAMED: &[u8] = b"\0\0\0\0\x02\0\0\0\x01\0\0\0\x1a\0\0\0hi\0\0\0\0\0\0";
-
-const PACKED: &[u8] = b"\x10\x02\x11\x01\x1a\x03hi";
-
-#[test]
-fn messages_are_written_framed_and_packed(rt: HostRuntime) -> Result<()> {
-    let mut objects = empty(&rt)?;
-    let root = build(&mut objects, Built::Text)?;
-    objects.set_root(root);
-    let mut framed = Vec::new(rt.alloc());
-    serialize::write_message_segments(rt.alloc(), &mut framed, &objects)?;
-    expect(&rt, "framed", framed.as_slice(), FRAMED);
-    let mut packed = Vec::new(rt.alloc());
-    serialize_packed::write_message_segments(rt.alloc(), &mut packed, &objects)?;
-    expect(&rt, "packed", packed.as_slice(), PACKED);
     Ok(())
 }

@@ -9,6 +9,6 @@ mod fields;
 mod lists;
 mod people;
 mod printed;
-mod read;
+mod samples;
 mod shown;
 mod trees;

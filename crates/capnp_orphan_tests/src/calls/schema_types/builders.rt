@@ -14,10 +14,10 @@ fn a_sample_is_written_and_read_back(rt: HostRuntime) -> Result<()> {
     let mut source = stream.as_slice();
     let message = serialize::read_message(alloc, &mut source, DEFAULT_READER_OPTIONS)?;
     let read: sample::Reader<'_, OwnedSegments> = message.get_root()?;
-    assert_eq!(rt; read.get_count(), 7);
+    assert!(rt; read.get_count() == 7);
     let origin = read.get_origin()?;
-    assert_eq!(rt; read.get_title()?.as_bytes(), b"A title".as_slice());
-    assert_eq!(rt; (origin.get_x(), origin.get_y()), (3, -4));
+    assert!(rt; read.get_title()?.as_bytes() == b"A title".as_slice());
+    assert!(rt; origin.get_x() == 3 && origin.get_y() == -4);
     Ok(())
 }
 

@@ -1,14 +1,12 @@
 //! What was read is changed, and written again.
 use crate::addressbook_capnp::person;
 use crate::addressbook_capnp::person::phone_number;
-use crate::calls::schema_types::address_book::{Job, with_email, with_email_alone};
-use crate::calls::schema_types::assertions::{expect, expect_bytes, expect_that};
-use crate::calls::schema_types::people::{email, has_job, name, person_of};
-use crate::calls::schema_types::read::FILLED;
-use crate::calls::schema_types::shown::{
-    has_title_and_label, made_counts, message_in, message_of, sample_of,
-};
-use crate::sample_capnp::{sample, shape};
+use crate::calls::schema_types::address_book::{with_email, with_email_alone};
+use crate::calls::schema_types::assertions::{expect_bytes, expect_that};
+use crate::calls::schema_types::people::person_of;
+use crate::calls::schema_types::samples::FILLED;
+use crate::calls::schema_types::shown::{message_in, message_of, sample_of};
+use crate::sample_capnp::sample;
 use capnp::message::ReaderSegments;
 use capnp_frame::Result;
 use capnp_frame_tests::retried;
@@ -34,39 +32,13 @@ fn set_phone(made: &mut person::Builder, objects: &mut Orphanage) -> Result<()> 
     Ok(())
 }
 
-// The same with an email, in another message.
+// The person with an email, in another message.
 fn changed(alloc: Global, before: &Orphanage) -> Result<Orphanage> {
     let message = message_in(before);
     let read = person_of(&message)?;
     let mut objects = Orphanage::new(alloc)?;
     with_email(&read, "alice@example.com", &mut objects)?;
     Ok(objects)
-}
-
-#[test]
-fn all_else_stays(rt: HostRuntime) -> Result<()> {
-    let alloc = rt.alloc();
-    let before = retried!(alice(alloc))?;
-    let objects = retried!(changed(alloc, &before))?;
-    let message = message_in(&objects);
-    let read = person_of(&message)?;
-    expect(&rt, "id", read.get_id(), 123);
-    expect_bytes(&rt, "name", name(&read)?, b"Alice");
-    expect_bytes(&rt, "email", email(&read)?, b"alice@example.com");
-    let (count, number) = phones(&read)?;
-    expect(&rt, "phones", count, 1);
-    expect_bytes(&rt, "phone number", number, b"555-1212");
-    expect_that(&rt, "school", has_job(&read, Job::Learns("MIT"))?);
-    Ok(())
-}
-
-// How many phones there are, and the number of the first.
-fn phones<'a, S: ReaderSegments>(read: &person::Reader<'a, S>) -> Result<(u32, &'a [u8])> {
-    let phones = read.get_phones()?;
-    if phones.len() == 0 {
-        return Ok((0, b""));
-    }
-    Ok((phones.len(), phones.get(0).get_number()?.as_bytes()))
 }
 
 // A copy of what a sample shows, in this message.
@@ -98,75 +70,6 @@ fn a_copy_is_what_was_copied(rt: HostRuntime) -> Result<()> {
     let written = retried!(written.canonical_segment(alloc))?;
     expect_bytes(&rt, "copy", copy.as_slice(), written.as_slice());
     Ok(())
-}
-
-// (count = 7, title = "hi"), of one data word and one pointer.
-#[rattlefmt::skip]
-const SHORT: &[u8] = &[
-    0, 0, 0, 0, 1, 0, 1, 0,
-    7, 0, 0, 0, 0, 0, 0, 0,
-    1, 0, 0, 0, 26, 0, 0, 0,
-    104, 105, 0, 0, 0, 0, 0, 0,
-];
-
-#[test]
-fn what_an_older_writer_left_out_is_zero(rt: HostRuntime) -> Result<()> {
-    let segments = [SHORT];
-    let message = message_of(&segments);
-    let read = sample_of(&message)?;
-    let mut objects = retried!(Orphanage::new(rt.alloc()))?;
-    let made = retried!(copy(&read, &mut objects))?;
-    expect(&rt, "count, balance", made_counts(&made), (7, -5));
-    expect(
-        &rt,
-        "title, label",
-        has_title_and_label(&made),
-        (true, false),
-    );
-    expect_that(
-        &rt,
-        "payload, ratio",
-        !made.has_payload() && made.get_ratio() == 0.5,
-    );
-    Ok(())
-}
-
-// A circle that becomes a rectangle in which nothing was set.
-fn rectangle(alloc: Global) -> Result<Orphanage> {
-    let mut objects = Orphanage::new(alloc)?;
-    let mut made = shape::Builder::new();
-    made.set_rectangle_label(objects.text("here")?);
-    made.set_radius(-1.5);
-    made.init_rectangle();
-    made.add_root(&mut objects)?;
-    Ok(objects)
-}
-
-#[test]
-fn a_group_is_cleared(rt: HostRuntime) -> Result<()> {
-    let objects = retried!(rectangle(rt.alloc()))?;
-    let message = message_in(&objects);
-    let read: shape::Reader<'_, &Orphanage> = message.get_root()?;
-    expect_that(
-        &rt,
-        "member",
-        matches!(read.which(), shape::Which::Rectangle(_)),
-    );
-    expect(&rt, "width, height", sides(&read), (0, 0));
-    expect(&rt, "is_filled, label", fills(&read), (false, false));
-    Ok(())
-}
-
-// The `width` and `height` of a shape's rectangle.
-fn sides<S: ReaderSegments>(read: &shape::Reader<'_, S>) -> (u32, u32) {
-    let rectangle = read.get_rectangle();
-    (rectangle.get_width(), rectangle.get_height())
-}
-
-// Whether it is filled, and has a label.
-fn fills<S: ReaderSegments>(read: &shape::Reader<'_, S>) -> (bool, bool) {
-    let rectangle = read.get_rectangle();
-    (rectangle.get_is_filled(), rectangle.has_label())
 }
 
 // A person with an email, and then with another one in its place, with the old one in the bytes or

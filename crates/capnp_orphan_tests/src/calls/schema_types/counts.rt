@@ -3,7 +3,7 @@
 use crate::addressbook_capnp::person::phone_number;
 use crate::addressbook_capnp::{address_book, person};
 use crate::calls::schema_types::people::BOOK;
-use crate::calls::schema_types::read::{EMPTY, FILLED};
+use crate::calls::schema_types::samples::{EMPTY, FILLED};
 use crate::fixtures::expect;
 use crate::sample_capnp::{palette, sample, tree};
 use capnp_frame::message::{ReaderOptions, SegmentArray};

@@ -1,12 +1,11 @@
 //! Lists of the types that the compiler makes, element by element.
 use crate::calls::schema_types::assertions::{expect, expect_bytes};
-use crate::calls::schema_types::read::FILLED;
+use crate::calls::schema_types::samples::FILLED;
 use crate::calls::schema_types::shown::{coordinates, message_of, sample_of};
-use crate::sample_capnp::{Color, palette, point};
+use crate::sample_capnp::{palette, point};
 use capnp::message::{Reader, ReaderSegments};
 use capnp_frame::Result;
 use capnp_wire::constant::OrDefault;
-use capnp_wire::upgraded::EnumList;
 use std::process::Abort;
 
 // (colors = [green, deepBlue, red], names = ["leaf"]), with 7 as the number of the second color
@@ -38,52 +37,17 @@ fn sums<S: ReaderSegments>(points: &point::ListReader<'_, S>) -> (i32, i32) {
     sums
 }
 
-// How many points there are, and the largest `x` of them.
-fn widest<S: ReaderSegments>(points: &point::ListReader<'_, S>) -> (usize, Option<i32>) {
-    let largest = points.iter().map(|point| point.get_x()).max();
-    (points.iter().len(), largest)
-}
-
 #[test]
 fn points_come_one_by_one(rt: HostRuntime) -> Result<()> {
     let segments = [FILLED];
     let message = message_of(&segments);
     let points = sample_of(&message)?.get_points()?;
     expect(&rt, "sums", sums(&points), (4, -2));
-    expect(&rt, "points, the largest x", widest(&points), (2, Some(3)));
     Ok(())
 }
 
 fn palette_of<'a, S: ReaderSegments>(message: &'a Reader<S>) -> Result<palette::Reader<'a, S>> {
     message.get_root()
-}
-
-// How many of some colors are this one.
-fn count(colors: &EnumList<'_, Color>, wanted: Color) -> u32 {
-    let mut found = 0u32;
-    for color in colors.iter() {
-        if color == wanted {
-            found = found.wrapping_add(1);
-        }
-    }
-    found
-}
-
-#[test]
-fn colors_are_read_as_such(rt: HostRuntime) -> Result<()> {
-    let segments = [LEAF];
-    let message = message_of(&segments);
-    let colors = palette_of(&message)?.get_colors()?;
-    expect(&rt, "the first", colors.try_get(0), Some(Color::Green));
-    expect(
-        &rt,
-        "one that the schema doesn't name",
-        colors.try_get(1),
-        Some(Color::NotInSchema(7)),
-    );
-    expect(&rt, "past the end", colors.try_get(3), None);
-    expect(&rt, "red", count(&colors, Color::Red), 1);
-    Ok(())
 }
 
 // The first name, of the default where the message has no names; empty where there is none.

@@ -18,13 +18,22 @@ fn written(objects: &mut Orphanage, branch: &Branch) -> Result<Orphan<tree::Owne
         Branch::Node(left, value, right) => {
             let left = written(objects, left)?;
             let right = written(objects, right)?;
-            let mut node = tree::Builder::new();
-            node.set_value(*value);
-            node.set_left(left);
-            node.set_right(right);
-            node.add(objects)
+            add_node(objects, left, *value, right)
         }
     }
+}
+
+fn add_node(
+    objects: &mut Orphanage,
+    left: Orphan<tree::Owned>,
+    value: i64,
+    right: Orphan<tree::Owned>,
+) -> Result<Orphan<tree::Owned>> {
+    let mut node = tree::Builder::new();
+    node.set_value(value);
+    node.set_left(left);
+    node.set_right(right);
+    node.add(objects)
 }
 
 #[test]
@@ -39,8 +48,8 @@ fn a_tree_is_written(rt: HostRuntime) -> Result<()> {
     objects.set_root(root);
     let message = Reader::new(&objects, DEFAULT_READER_OPTIONS);
     let read: tree::Reader<'_, &Orphanage> = message.get_root()?;
-    assert_eq!(rt; read.get_value(), 5);
+    assert!(rt; read.get_value() == 5);
     assert!(rt; read.has_left() && !read.has_right());
-    assert_eq!(rt; read.get_left()?.get_value(), -1);
+    assert!(rt; read.get_left()?.get_value() == -1);
     Ok(())
 }

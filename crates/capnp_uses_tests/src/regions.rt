@@ -1,15 +1,13 @@
 //! The callers that build over a region, and those that set a root and read it back, by the words
 //! that the segment then has.
-use crate::regions::{region_comes_home, set_in_region};
-use crate::roots::{copy_root, set_text_is_read_back};
-use crate::tests::fixtures::{Message, expect, message_of, roomy_message};
+use crate::fixtures::{Message, expect, message_of, roomy_message};
 use capnp::message::{Allocator, Builder, HeapAllocator, ReaderOptions};
 use capnp::{Result, text};
-use capnp_frame_tests::errors::error_of;
 use capnp_frame_tests::messages::has_segments;
+use capnp_uses::regions::{region_comes_home, set_in_region};
+use capnp_uses::roots::{copy_root, set_text_is_read_back};
 
-// A text of one word has room after the root in two words, and not in one; either way the region is
-// zero once the message is gone.
+// A text of one word has room after the root in two words, which are zero once the message is gone.
 #[test]
 fn in_a_region(rt: HostRuntime) -> Result<()> {
     let mut region = [7; 16];
@@ -23,11 +21,7 @@ fn in_a_region(rt: HostRuntime) -> Result<()> {
 }
 
 #[test]
-fn in_a_region_without_room(rt: HostRuntime) -> Result<()> {
-    let mut region = [7; 8];
-    let full = set_in_region::<text::Owned, &str>(rt.alloc(), &mut region, "hello");
-    expect(&rt, "no room", error_of(full), 15);
-    expect(&rt, "home", region.as_slice(), [0; 8].as_slice());
+fn a_region_comes_home(rt: HostRuntime) -> Result<()> {
     let mut region = [7; 16];
     let mut available = region_comes_home::<text::Owned, &str>(rt.alloc(), &mut region, "hello");
     let segment = available.allocate_segment(2)?;

@@ -1,14 +1,16 @@
 //! Messages that are written and read back: lists of them, and a root that is set.
-use crate::appended;
-use crate::roots::{set_and_read_back, write_and_read_back};
-use crate::tests::fixtures::expect;
+use crate::fixtures::expect;
 use capnp::message::{
-    Builder, DEFAULT_READER_OPTIONS, HeapAllocator, ReaderSegments, SegmentArray,
+    Builder, DEFAULT_READER_OPTIONS, HeapAllocator, Reader, ReaderSegments, SegmentArray,
 };
-use capnp::serialize::is_writable;
+use capnp::serialize::{OwnedSegments, is_writable};
 use capnp::streams::Format;
 use capnp::{Result, text};
 use capnp_frame_tests::messages::has_segments;
+use capnp_uses::appended;
+use capnp_uses::roots::{set_and_read_back, write_and_read_back};
+use std::alloc::Global;
+use std::process::Abort;
 
 const TWO: &[&[u8]] = &[&[], &[1, 2, 3, 4, 5, 6, 7, 8]];
 
@@ -47,23 +49,34 @@ fn a_list_is_read_back(rt: HostRuntime) -> Result<()> {
     Ok(())
 }
 
+type Message = Builder<HeapAllocator>;
+
+// Makes a text the root of a message, which is read back.
+fn set_hello(
+    alloc: Global,
+    format: Format,
+    message: &mut Message,
+) -> Result<Reader<OwnedSegments>> {
+    let options = DEFAULT_READER_OPTIONS;
+    set_and_read_back::<text::Owned, &str, HeapAllocator>(alloc, format, message, "hello", options)
+}
+
+// How many segments are read back of a message.
+fn count_of(rt: &(impl Abort + AllocGlobal), format: Format, message: &Message) -> Result<usize> {
+    assert!(rt; !message.is_empty());
+    let output = message.get_segments_for_output();
+    let again = write_and_read_back(rt.alloc(), format, &output, DEFAULT_READER_OPTIONS)?;
+    Ok(again.get_segments().len())
+}
+
 #[test]
 fn a_root_is_set_and_read_back(rt: HostRuntime) -> Result<()> {
     for format in &[Format::Framed, Format::Packed] {
         let mut message = Builder::new_default(rt.alloc());
-        let reader = set_and_read_back::<text::Owned, &str, HeapAllocator>(
-            rt.alloc(),
-            *format,
-            &mut message,
-            "hello",
-            DEFAULT_READER_OPTIONS,
-        )?;
+        let reader = set_hello(rt.alloc(), *format, &mut message)?;
         let root: text::Reader<'_> = reader.get_root()?;
         expect(&rt, *format, root.as_bytes() == b"hello".as_slice(), true);
-        assert!(rt; !message.is_empty());
-        let output = message.get_segments_for_output();
-        let again = write_and_read_back(rt.alloc(), *format, &output, DEFAULT_READER_OPTIONS)?;
-        expect(&rt, *format, again.get_segments().len(), 1);
+        expect(&rt, *format, count_of(&rt, *format, &message)?, 1);
     }
     Ok(())
 }

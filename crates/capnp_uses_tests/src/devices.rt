@@ -1,11 +1,13 @@
 //! The callers of devices, over slices, cursors, and a stream in two parts.
-use crate::devices::{DeviceRead, all_of_device, all_of_parts, first_of_cursor, first_of_device};
-use crate::streaming::next_message;
-use crate::tests::callers::{both, segments_of};
-use crate::tests::fixtures::expect;
+use crate::callers::{both, segments_of};
+use crate::fixtures::expect;
 use capnp::Result;
 use capnp::message::DEFAULT_READER_OPTIONS;
 use capnp::streams::Format;
+use capnp_uses::devices::{
+    DeviceRead, all_of_device, all_of_parts, first_of_cursor, first_of_device,
+};
+use capnp_uses::streaming::next_message;
 use std::alloc::Global;
 use std::io;
 
@@ -35,18 +37,25 @@ fn first_messages_of_slices(rt: HostRuntime) -> Result<()> {
     Ok(())
 }
 
+// How many segments the second framed message has: it begins at byte 24.
+fn second_of_cursor(alloc: Global) -> Result<Option<usize>> {
+    let mut cursor = io::Cursor::new(both(alloc, Format::Framed)?);
+    cursor.set_position(24);
+    let second = first_of_cursor(alloc, cursor, Format::Framed, DEFAULT_READER_OPTIONS)?;
+    Ok(segments_of(second.read?))
+}
+
+// How many packed messages there are.
+fn count_of_cursor(alloc: Global) -> Result<usize> {
+    let packed = io::Cursor::new(both(alloc, Format::Packed)?);
+    let all = all_of_device(alloc, packed, Format::Packed, DEFAULT_READER_OPTIONS)?;
+    Ok(all.read?.len())
+}
+
 #[test]
 fn messages_of_cursors(rt: HostRuntime) -> Result<()> {
-    let alloc = rt.alloc();
-    let options = DEFAULT_READER_OPTIONS;
-    let mut cursor = io::Cursor::new(both(alloc, Format::Framed)?);
-    // The second message begins at this byte.
-    cursor.set_position(24);
-    let second = first_of_cursor(alloc, cursor, Format::Framed, options)?;
-    expect(&rt, "the second", segments_of(second.read?), Some(1));
-    let packed = io::Cursor::new(both(alloc, Format::Packed)?);
-    let all = all_of_device(alloc, packed, Format::Packed, options)?;
-    expect(&rt, "all", all.read?.len(), 2);
+    expect(&rt, "the second", second_of_cursor(rt.alloc())?, Some(1));
+    expect(&rt, "all", count_of_cursor(rt.alloc())?, 2);
     Ok(())
 }
 
@@ -64,22 +73,6 @@ fn a_stream_in_two_parts(rt: HostRuntime) -> Result<()> {
     for end in 0..57usize {
         let (first, second) = (&stream[..end], &stream[end..]);
         expect(&rt, end, count_of(alloc, first, second)?, 2);
-    }
-    Ok(())
-}
-
-#[test]
-fn a_stream_in_two_parts_that_is_cut(rt: HostRuntime) -> Result<()> {
-    let alloc = rt.alloc();
-    let mut stream = both(alloc, Format::Framed)?;
-    let _ = stream.pop();
-    assert!(rt; stream.len() == 55);
-    for end in 0..56usize {
-        let number = match count_of(alloc, &stream[..end], &stream[end..]) {
-            Ok(_) => 0,
-            Err(error) => error.kind.number(),
-        };
-        expect(&rt, end, number, 1);
     }
     Ok(())
 }

@@ -1,8 +1,8 @@
 //! A list of structs whose fields have a sign and a default, by hand-computed bytes.
-use crate::entries;
-use crate::tests::fixtures::{expect, message_of};
+use crate::fixtures::{expect, message_of};
 use capnp::message::{DEFAULT_READER_OPTIONS, SegmentArray};
 use capnp::{Result, struct_list};
+use capnp_uses::entries;
 use std::process::Abort;
 
 // Two entries of one word and one pointer after the list's tag: -500, not paid, "rent"; and 40,

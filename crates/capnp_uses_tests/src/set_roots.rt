@@ -1,11 +1,10 @@
 //! The callers that set a root to what another message holds, by the words that the segment then
 //! has.
-use crate::setting::{set_canonical, set_tree, set_tree_and_word};
-use crate::tests::fixtures::{Message, Source, expect, message_of, roomy_message};
+use crate::fixtures::{Message, Source, expect, message_of};
 use capnp::Result;
 use capnp::message::{Builder, HeapAllocator, ReaderOptions};
-use capnp_frame_tests::errors::error_of;
 use capnp_frame_tests::messages::has_segments;
+use capnp_uses::setting::{set_canonical, set_tree, set_tree_and_word};
 use std::alloc::Global;
 use std::process::Abort;
 
@@ -79,50 +78,6 @@ fn expect_forms(
         let message = set(rt.alloc(), reader.get_root()?, WAYS[index])?;
         let is_there = has_segments(&message, &[forms[index]]);
         expect(rt, (WAYS[index], forms[index]), is_there, true);
-    }
-    Ok(())
-}
-
-// In a segment of its own a tree is after its landing pad, which is the root pointer that it had.
-#[test]
-fn roots_after_a_landing_pad(rt: HostRuntime) -> Result<()> {
-    for (segments, forms) in &FORMS[..2] {
-        let reader = message_of(segments, ReaderOptions::new());
-        let root: Source<'_> = reader.get_root()?;
-        let mut message = roomy_message(rt.alloc(), 1);
-        set_tree(&mut message, root)?;
-        let wanted = [b"\x02\0\0\0\x01\0\0\0".as_slice(), forms[0]];
-        expect(&rt, *segments, has_segments(&message, &wanted), true);
-    }
-    Ok(())
-}
-
-// Traversal limits of the message after a far pointer, nesting limits, and the errors of all three.
-const LIMITS: [(Option<usize>, i32, u8); 5] = [
-    (Some(5), 2, 0),
-    (Some(4), 64, 20),
-    (Some(0), 64, 20),
-    (None, 1, 19),
-    (None, 2, 0),
-];
-
-fn set_error(alloc: Global, reader: &Message<'_>, way: Way) -> Result<u8> {
-    let root: Source<'_> = reader.get_root()?;
-    Ok(error_of(set(alloc, root, way)))
-}
-
-#[test]
-fn roots_past_a_limit(rt: HostRuntime) -> Result<()> {
-    for (limit, nesting, wanted) in &LIMITS {
-        let mut options = ReaderOptions::new();
-        options
-            .traversal_limit_in_words(*limit)
-            .nesting_limit(*nesting);
-        let reader = message_of(FAR, options);
-        for way in &WAYS {
-            let found = set_error(rt.alloc(), &reader, *way)?;
-            expect(&rt, (*limit, *nesting, *way), found, *wanted);
-        }
     }
     Ok(())
 }

@@ -1,13 +1,14 @@
 //! The callers that read back values that are composed, by hand-computed bytes (encoding document,
 //! "Lists").
-use crate::tests::fixtures::expect;
-use crate::values::{contact_is_read_back, person_is_read_back, phone};
+use crate::fixtures::expect;
 use capnp::Result;
 use capnp::any_struct::StructReader;
-use capnp::message::{Builder, Reader, ReaderOptions};
+use capnp::message::{Builder, HeapAllocator, Reader, ReaderOptions};
 use capnp::serialize::OwnedSegments;
 use capnp::streams::Format;
 use capnp_frame_tests::messages::has_segments;
+use capnp_uses::values::{contact_is_read_back, person_is_read_back, phone};
+use std::alloc::Global;
 
 // A number, pointers to a text and to a struct of no data words, and what these point to.
 #[rattlefmt::skip]
@@ -31,19 +32,24 @@ fn first_word(reader: &Reader<OwnedSegments>) -> Result<u64> {
 
 const FORMATS: [Format; 2] = [Format::Framed, Format::Packed];
 
+type Message = Builder<HeapAllocator>;
+
+fn person(alloc: Global, format: Format, message: &mut Message) -> Result<Reader<OwnedSegments>> {
+    let options = ReaderOptions::new();
+    person_is_read_back(alloc, format, message, 9, "Ann", "Bonn", options)
+}
+
+fn contact(alloc: Global, format: Format, message: &mut Message) -> Result<Reader<OwnedSegments>> {
+    let phones = [phone("123", 1), phone("4567890", 2)];
+    let options = ReaderOptions::new();
+    contact_is_read_back(alloc, format, message, 9, "Ann", "a@b", &phones, options)
+}
+
 #[test]
 fn people_are_read_back(rt: HostRuntime) -> Result<()> {
     for format in &FORMATS {
         let mut message = Builder::new_default(rt.alloc());
-        let reader = person_is_read_back(
-            rt.alloc(),
-            *format,
-            &mut message,
-            9,
-            "Ann",
-            "Bonn",
-            ReaderOptions::new(),
-        )?;
+        let reader = person(rt.alloc(), *format, &mut message)?;
         expect(&rt, *format, first_word(&reader)?, 9);
         assert!(rt; has_segments(&message, &[PERSON]));
     }
@@ -52,19 +58,9 @@ fn people_are_read_back(rt: HostRuntime) -> Result<()> {
 
 #[test]
 fn contacts_are_read_back(rt: HostRuntime) -> Result<()> {
-    let phones = [phone("123", 1), phone("4567890", 2)];
     for format in &FORMATS {
         let mut message = Builder::new_default(rt.alloc());
-        let reader = contact_is_read_back(
-            rt.alloc(),
-            *format,
-            &mut message,
-            9,
-            "Ann",
-            "a@b",
-            &phones,
-            ReaderOptions::new(),
-        )?;
+        let reader = contact(rt.alloc(), *format, &mut message)?;
         expect(&rt, *format, first_word(&reader)?, 9);
         assert!(rt; has_segments(&message, &[CONTACT]));
     }

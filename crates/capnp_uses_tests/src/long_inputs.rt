@@ -1,11 +1,8 @@
-//! Chunks of many bytes, and streams of many messages.
-use crate::tests::callers::{reported_of, reported_of_log};
-use crate::tests::fixtures::{expect, transcoded};
+//! Chunks of many bytes.
+use crate::fixtures::expect;
+use capnp::Result;
 use capnp::io::{Read, Write};
-use capnp::message::DEFAULT_READER_OPTIONS;
 use capnp::serialize_packed::{PackedRead, PackedWrite};
-use capnp::streams::Format;
-use capnp::{Result, Way};
 use capnp_frame_tests::long_lists::list_of_numbers;
 use std::alloc::{AllocError, Global};
 
@@ -100,46 +97,5 @@ fn long_packed_chunks(rt: HostRuntime) -> Result<()> {
         expect(&rt, "left", unpack_into(&encoding, &mut read)?, 0);
         assert!(rt; read == words);
     }
-    Ok(())
-}
-
-fn repeated(
-    alloc: Global,
-    encoding: &[u8],
-    times: usize,
-) -> std::result::Result<Vec<u8>, AllocError> {
-    let mut stream = Vec::new(alloc);
-    for _ in 0..times {
-        stream.extend_from_slice(encoding)?;
-    }
-    Ok(stream)
-}
-
-// A message of a null root, framed and packed.
-const FRAMED: [u8; 16] = [0, 0, 0, 0, 1, 0, 0, 0, 0, 0, 0, 0, 0, 0, 0, 0];
-
-const PACKED: [u8; 4] = [0x10, 1, 0, 0];
-
-// 2,101 such messages.
-#[test]
-fn two_thousand_messages(rt: HostRuntime) -> Result<()> {
-    let framed = repeated(rt.alloc(), &FRAMED, 2101)?;
-    let packed = repeated(rt.alloc(), &PACKED, 2101)?;
-    let options = DEFAULT_READER_OPTIONS;
-    let found = reported_of(rt.alloc(), Format::Framed, &framed, options);
-    expect(&rt, "framed", found, (2101, 33_616, 0));
-    let found = reported_of_log(rt.alloc(), &packed, options);
-    expect(&rt, "packed", found, (2101, 8404, 0));
-    Ok(())
-}
-
-#[test]
-fn two_thousand_messages_are_transcoded(rt: HostRuntime) -> Result<()> {
-    let framed = repeated(rt.alloc(), &FRAMED, 2101)?;
-    let packed = repeated(rt.alloc(), &PACKED, 2101)?;
-    let (encoding, _) = transcoded(rt.alloc(), Way::Pack, &framed)?;
-    assert!(rt; encoding == packed);
-    let (encoding, _) = transcoded(rt.alloc(), Way::Unpack, &packed)?;
-    assert!(rt; encoding == framed);
     Ok(())
 }

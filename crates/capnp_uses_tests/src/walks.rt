@@ -1,6 +1,6 @@
 //! What the traversal limit counts while a message is walked over: views alone, from where they
 //! were.
-use crate::tests::fixtures::{
+use crate::fixtures::{
     Message, Source, canonical_encoding, expect, limited, message_of, set_root, set_root_canonical,
 };
 use capnp::message::Builder;

@@ -1,11 +1,9 @@
 //! Traversal limits of many words: what views and sizes count of them.
-use crate::tests::fixtures::{Message, Source, expect, limited, message_of, set_root};
+use crate::fixtures::{Message, Source, expect, limited, message_of};
 use capnp::any_struct::StructReader;
-use capnp::message::{Builder, DEFAULT_READER_OPTIONS, HeapAllocator, SegmentArray};
-use capnp::{Result, canonical_size, data, text};
+use capnp::message::SegmentArray;
+use capnp::{Result, canonical_size, text};
 use capnp_frame_tests::errors::{error_of, numbered};
-use capnp_frame_tests::messages::has_segments;
-use std::alloc::Global;
 
 // What is viewed as a text, though it is none.
 fn as_text(reader: &Message<'_>) -> u8 {
@@ -92,99 +90,4 @@ fn sizes_of_canonical_forms(rt: HostRuntime) -> Result<()> {
         }
     }
     Ok(())
-}
-
-// Lists of bytes with no zero at their end, and these bytes.
-#[rattlefmt::skip]
-const UNTERMINATED: [(&[u8], &[u8]); 4] = [
-    (b"\x01\0\0\0\x1a\0\0\0abc\0\0\0\0\0", b"abc"),
-    (b"\x01\0\0\0\x42\0\0\0abcdefgh", b"abcdefgh"),
-    (b"\x01\0\0\0\x4a\0\0\0abcdefgh\xff\0\0\0\0\0\0\0", b"abcdefgh\xff"),
-    (b"\x01\0\0\0\x02\0\0\0", b""),
-];
-
-// As data and as text.
-#[test]
-fn data_that_ends_in_no_zero(rt: HostRuntime) -> Result<()> {
-    for (segment, bytes) in &UNTERMINATED {
-        let segments = [*segment];
-        let reader = message_of(&segments, limited(None));
-        let found: data::Reader<'_> = reader.get_root()?;
-        expect(&rt, *segment, found, *bytes);
-        expect(&rt, *segment, as_text(&reader), 23);
-    }
-    Ok(())
-}
-
-fn set_data(message: &mut Builder<HeapAllocator>, bytes: &[u8]) -> Result<()> {
-    message.set_root::<data::Owned, &[u8]>(bytes)
-}
-
-// Whether setting this data makes this segment, and whether the data is viewed as it was set.
-fn is_set_and_viewed(alloc: Global, segment: &[u8], bytes: &[u8]) -> Result<(bool, bool)> {
-    let mut message = Builder::new_default(alloc);
-    set_data(&mut message, bytes)?;
-    let is_there = has_segments(&message, &[segment]);
-    let view = message.get_root::<data::Owned>()?;
-    Ok((is_there, view.as_bytes() == bytes))
-}
-
-#[test]
-fn data_that_is_set(rt: HostRuntime) -> Result<()> {
-    for (segment, bytes) in &UNTERMINATED {
-        let found = is_set_and_viewed(rt.alloc(), segment, bytes)?;
-        expect(&rt, *segment, found, (true, true));
-    }
-    Ok(())
-}
-
-// 40 structs of two pointers, both of them to the next struct: a tree of 2^40 - 1 structs. A walk
-// enters 4,194,304 of them before the default limit of 8,388,608 words is met. In a build with
-// checks (`rt try`) that takes longer than the minute of a test; in one that is proved (`rt test`)
-// it takes a moment.
-fn doublings() -> [u8; 648] {
-    let mut bytes = [0; 648];
-    bytes[6] = 2;
-    for index in 0..39usize {
-        bytes[8 + 16 * index] = 4;
-        bytes[8 + 16 * index + 6] = 2;
-        bytes[16 + 16 * index + 6] = 2;
-    }
-    bytes
-}
-
-fn size_error(reader: &Message<'_>) -> Result<u8> {
-    let root: Source<'_> = reader.get_root()?;
-    Ok(error_of(root.target_size()))
-}
-
-#[test]
-fn doublings_have_no_size_within_the_limit(rt: HostRuntime) -> Result<()> {
-    let bytes = doublings();
-    let segments = [bytes.as_slice()];
-    let reader = message_of(&segments, DEFAULT_READER_OPTIONS);
-    expect(&rt, "doublings", size_error(&reader)?, 20);
-    assert!(rt; !reader.is_canonical()?);
-    Ok(())
-}
-
-#[test]
-fn doublings_are_not_set(rt: HostRuntime) -> Result<()> {
-    let bytes = doublings();
-    let segments = [bytes.as_slice()];
-    let reader = message_of(&segments, DEFAULT_READER_OPTIONS);
-    let mut message = Builder::new_default(rt.alloc());
-    let failed = error_of(set_root(&mut message, reader.get_root()?));
-    let found = (failed, message.size_in_words());
-    expect(&rt, "doublings", found, (20, 1));
-    Ok(())
-}
-
-#[test]
-fn doublings_have_no_canonical_form_within_the_limit(rt: HostRuntime) {
-    let bytes = doublings();
-    let segments = [bytes.as_slice()];
-    let reader = message_of(&segments, DEFAULT_READER_OPTIONS);
-    let failed = error_of(reader.canonicalize(rt.alloc()));
-    expect(&rt, "doublings", failed, 20);
 }

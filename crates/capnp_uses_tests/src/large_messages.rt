@@ -1,5 +1,5 @@
 //! Messages of many words through each call that reads, writes and canonicalizes.
-use crate::tests::fixtures::{
+use crate::fixtures::{
     Message, canonical_encoding, expect, message_of, set_root, set_root_canonical, transcoded,
 };
 use capnp::message::{Builder, DEFAULT_READER_OPTIONS, HeapAllocator, Reader, ReaderSegments};
@@ -99,13 +99,11 @@ fn large_message(alloc: Global) -> Builder<HeapAllocator> {
 fn build_and_write(rt: &(impl Abort + AllocGlobal), segment: &[u8]) -> Result<()> {
     let mut message = large_message(rt.alloc());
     set_data(&mut message, segment.get(8..).unwrap_or(&[]))?;
-    assert!(rt; !message.is_empty());
-    let words = segment.len() / 8;
-    expect(rt, "words", message.size_in_words(), words);
+    expect(rt, "words", message.size_in_words(), segment.len() / 8);
     assert!(rt; message.get_segments_for_output().get_segment(1).is_none());
     let encoding = framed_encoding(rt.alloc(), segment)?;
     assert!(rt; written(rt, &message)? == encoding);
-    assert!(rt; serialize::write_message_to_words(rt.alloc(), &message)? == encoding);
+    assert!(rt; words_of(rt, &message)? == encoding);
     Ok(())
 }
 
@@ -118,6 +116,11 @@ fn written(rt: &(impl Abort + AllocGlobal), message: &Builder<HeapAllocator>) ->
     let mut framed: Vec<u8> = Vec::new(rt.alloc());
     serialize::write_message(rt.alloc(), &mut framed, message)?;
     Ok(framed)
+}
+
+fn words_of(rt: &(impl Abort + AllocGlobal), message: &Builder<HeapAllocator>) -> Result<Vec<u8>> {
+    assert!(rt; !message.is_empty());
+    serialize::write_message_to_words(rt.alloc(), message)
 }
 
 // A framed encoding, and what is packed of it, by each reader.
@@ -246,6 +249,14 @@ fn set_from(rt: &(impl Abort + AllocGlobal), reader: &Message<'_>, segment: &[u8
     let mut message = large_message(rt.alloc());
     set_root(&mut message, reader.get_root()?)?;
     assert!(rt; has_segment(&message, segment));
+    set_form_from(rt, reader, segment)
+}
+
+fn set_form_from(
+    rt: &(impl Abort + AllocGlobal),
+    reader: &Message<'_>,
+    segment: &[u8],
+) -> Result<()> {
     let mut message = large_message(rt.alloc());
     set_root_canonical(&mut message, reader.get_root()?)?;
     assert!(rt; has_segment(&message, segment));

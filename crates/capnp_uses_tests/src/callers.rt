@@ -1,23 +1,20 @@
 //! Each caller once, on bytes of the encoding document and of the C++ tool.
-use crate::building::write_struct;
-use crate::canonical::canonical_words;
-use crate::packed_struct::{a_struct_is_read_packed, packed_encoding, read_packed_words};
-use crate::packing::{pack_words, unpack_words, words_are_unpacked};
-use crate::reading::{borrowed_message, first_message, root_text};
-use crate::record_log::two_records_are_read_back;
-use crate::streaming::next_message;
-use crate::tests::fixtures::{HELLO, PACKED_HELLO, expect};
+use crate::fixtures::{HELLO, PACKED_HELLO, expect};
 use capnp::Result;
-use capnp::message::{
-    Builder, DEFAULT_READER_OPTIONS, Reader, ReaderOptions, ReaderSegments, SegmentArray,
-};
-use capnp::record_log::{append_segments, read_log};
-use capnp::serialize::{OwnedSegments, Padding};
-use capnp::streams::{Format, StreamRead, every_message};
+use capnp::message::{Builder, DEFAULT_READER_OPTIONS, Reader, ReaderSegments, SegmentArray};
+use capnp::serialize::OwnedSegments;
+use capnp::streams::Format;
+use capnp_uses::building::write_struct;
+use capnp_uses::canonical::canonical_words;
+use capnp_uses::packed_struct::{a_struct_is_read_packed, packed_encoding, read_packed_words};
+use capnp_uses::packing::{pack_words, unpack_words, words_are_unpacked};
+use capnp_uses::reading::{borrowed_message, first_message, root_text};
+use capnp_uses::record_log::two_records_are_read_back;
+use capnp_uses::streaming::{next_message, skip_message};
 use std::alloc::{AllocError, Global};
 
 // Segments [] and [1, 2, 3, 4, 5, 6, 7, 8], framed, and packed.
-pub const FRAMED: [u8; 24] = [
+const FRAMED: [u8; 24] = [
     1, 0, 0, 0, 0, 0, 0, 0, 1, 0, 0, 0, 0, 0, 0, 0, 1, 2, 3, 4, 5, 6, 7, 8,
 ];
 
@@ -70,42 +67,6 @@ fn canonical_words_at_hand(rt: HostRuntime) -> Result<()> {
     Ok(())
 }
 
-// How many messages are read, where the last ends, and the error's number, 0 for none.
-fn reported(read: &StreamRead) -> (usize, usize, u8) {
-    let number = match &read.error {
-        Some(error) => error.kind.number(),
-        None => 0,
-    };
-    (read.messages.len(), read.end, number)
-}
-
-/// What is returned for all messages of a stream.
-pub fn reported_of(
-    alloc: Global,
-    format: Format,
-    stream: &[u8],
-    options: ReaderOptions,
-) -> (usize, usize, u8) {
-    reported(&every_message(alloc, stream, format, Padding::Zero, options))
-}
-
-/// What is returned for all records of a log.
-pub fn reported_of_log(alloc: Global, log: &[u8], options: ReaderOptions) -> (usize, usize, u8) {
-    reported(&read_log(alloc, log, options))
-}
-
-#[test]
-fn a_stream_up_to_a_cut(rt: HostRuntime) -> Result<()> {
-    let stream = both(rt.alloc(), Format::Framed)?;
-    let options = DEFAULT_READER_OPTIONS;
-    let whole = reported_of(rt.alloc(), Format::Framed, &stream, options);
-    expect(&rt, "both", whole, (2, 56, 0));
-    let shorter = stream.get(..55).unwrap_or(&[]);
-    let cut = reported_of(rt.alloc(), Format::Framed, shorter, options);
-    expect(&rt, "cut", cut, (1, 24, 1));
-    Ok(())
-}
-
 // How many segments the next packed message has, where there is one, and how many bytes are left.
 fn next_packed(alloc: Global, bytes: &[u8]) -> Result<(Option<usize>, usize)> {
     let mut source = bytes;
@@ -117,6 +78,20 @@ fn next_packed(alloc: Global, bytes: &[u8]) -> Result<(Option<usize>, usize)> {
 fn the_next_message(rt: HostRuntime) -> Result<()> {
     let found = next_packed(rt.alloc(), &PACKED)?;
     expect(&rt, "the next", found, (Some(2), 0));
+    Ok(())
+}
+
+// How many bytes are left after the next framed message, and whether there was one.
+fn skip(alloc: Global, source: &mut &[u8]) -> Result<(bool, usize)> {
+    let skipped = skip_message(alloc, source, Format::Framed, DEFAULT_READER_OPTIONS)?;
+    Ok((skipped, source.len()))
+}
+
+#[test]
+fn messages_are_skipped(rt: HostRuntime) -> Result<()> {
+    let mut source = FRAMED.as_slice();
+    expect(&rt, "a message", skip(rt.alloc(), &mut source)?, (true, 0));
+    expect(&rt, "the end", skip(rt.alloc(), &mut source)?, (false, 0));
     Ok(())
 }
 
@@ -136,31 +111,6 @@ fn words_of_the_document(rt: HostRuntime) -> Result<()> {
     assert!(rt; unpacked(&encoding)? == words);
     let back = words_are_unpacked(rt.alloc(), &words)?;
     expect(&rt, "both ways", back.as_slice(), words.as_slice());
-    Ok(())
-}
-
-// A log of two records.
-fn log_of_two(alloc: Global) -> Result<Vec<u8>> {
-    let slices = [[].as_slice(), &FRAMED[16..]];
-    let record = SegmentArray::new(&slices);
-    let mut log = Vec::new(alloc);
-    append_segments(alloc, &mut log, &record)?;
-    append_segments(alloc, &mut log, &record)?;
-    Ok(log)
-}
-
-#[test]
-fn a_log_that_is_cut(rt: HostRuntime) -> Result<()> {
-    let log = log_of_two(rt.alloc())?;
-    assert!(rt; log.len() == 28);
-    expect(&rt, "first", &log[..14], PACKED.as_slice());
-    expect(&rt, "second", &log[14..], PACKED.as_slice());
-    for end in 14..28usize {
-        let options = DEFAULT_READER_OPTIONS;
-        let read = read_log(rt.alloc(), &log[..end], options);
-        let found = (read.messages.len(), read.end, read.is_cut());
-        expect(&rt, end, found, (1, 14, end > 14));
-    }
     Ok(())
 }
 

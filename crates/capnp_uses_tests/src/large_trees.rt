@@ -1,9 +1,7 @@
 //! Messages of more than 100,000 words, in which no two objects or numbers are equal: read, packed,
 //! copied and made canonical.
-use crate::tests::fixtures::{Source, expect, message_of, set_root, set_root_canonical};
-use crate::tests::large_messages::{
-    framed_encoding, has_segment, pack, read_framed, read_packed, unpack,
-};
+use crate::fixtures::{Message, Source, expect, message_of, set_root, set_root_canonical};
+use crate::large_messages::{framed_encoding, has_segment, pack, read_framed, read_packed, unpack};
 use capnp::Result;
 use capnp::message::{Builder, DEFAULT_READER_OPTIONS, HeapAllocator};
 use capnp_frame_tests::long_lists::{
@@ -66,16 +64,34 @@ fn compare(rt: &(impl Abort + AllocGlobal), segment: &[u8], form: &[u8]) -> Resu
     assert!(rt; segment.len() > 800_000);
     let segments = [segment];
     let reader = message_of(&segments, DEFAULT_READER_OPTIONS);
-    let root: Source<'_> = reader.get_root()?;
-    let words = root.target_size()?.word_count;
-    expect(rt, "words", words, segment.len() as u64 / 8 - 1);
+    expect(
+        rt,
+        "words",
+        words_of(&reader)?,
+        segment.len() as u64 / 8 - 1,
+    );
     expect(rt, "canonical", reader.is_canonical()?, segment == form);
     assert!(rt; reader.canonical_segment(rt.alloc())?.as_slice() == form);
-    let mut message = roomy(rt.alloc());
-    set_root(&mut message, reader.get_root()?)?;
-    assert!(rt; has_segment(&message, form));
-    let mut message = roomy(rt.alloc());
-    set_root_canonical(&mut message, reader.get_root()?)?;
-    assert!(rt; has_segment(&message, form));
+    assert!(rt; has_segment(&copy_of(rt.alloc(), &reader)?, form));
+    assert!(rt; has_segment(&form_of(rt.alloc(), &reader)?, form));
     Ok(())
+}
+
+// How many words the root's tree has.
+fn words_of(reader: &Message<'_>) -> Result<u64> {
+    let root: Source<'_> = reader.get_root()?;
+    Ok(root.target_size()?.word_count)
+}
+
+// A message whose root is set to this one's, and one in canonical form.
+fn copy_of(alloc: Global, reader: &Message<'_>) -> Result<Builder<HeapAllocator>> {
+    let mut message = roomy(alloc);
+    set_root(&mut message, reader.get_root()?)?;
+    Ok(message)
+}
+
+fn form_of(alloc: Global, reader: &Message<'_>) -> Result<Builder<HeapAllocator>> {
+    let mut message = roomy(alloc);
+    set_root_canonical(&mut message, reader.get_root()?)?;
+    Ok(message)
 }

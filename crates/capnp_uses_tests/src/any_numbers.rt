@@ -1,8 +1,8 @@
 //! A view that takes several kinds of objects, read from hand-computed bytes.
-use crate::any_numbers;
-use crate::tests::fixtures::{expect, message_of};
+use crate::fixtures::{expect, message_of};
 use capnp::ErrorKind;
 use capnp::message::DEFAULT_READER_OPTIONS;
+use capnp_uses::any_numbers;
 
 // Lists of two numbers, of 1, 2, 4 and 8 bytes, and of two bits.
 #[rattlefmt::skip]
@@ -35,19 +35,4 @@ fn numbers_of_each_width_are_read(rt: HostRuntime) {
         expect(&rt, *segment, numbers_of(segment), Ok((2, Some(*wanted))));
     }
     expect(&rt, "null", numbers_of(b"\0\0\0\0\0\0\0\0"), Ok((0, None)));
-}
-
-// A struct, a list of pointers, and one of structs.
-const OTHERS: [&[u8]; 3] = [
-    b"\xfc\xff\xff\xff\0\0\0\0",
-    b"\x01\0\0\0\x06\0\0\0",
-    b"\x01\0\0\0\x07\0\0\0\0\0\0\0\x01\0\0\0",
-];
-
-#[test]
-fn other_objects_are_no_numbers(rt: HostRuntime) {
-    for segment in &OTHERS {
-        let failed = Err(ErrorKind::WrongPointerKind);
-        expect(&rt, *segment, numbers_of(segment), failed);
-    }
 }

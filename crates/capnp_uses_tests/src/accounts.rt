@@ -1,17 +1,14 @@
 //! A type over structs, read from hand-computed bytes.
-use crate::account;
-use crate::tests::fixtures::{expect, message_of};
+use crate::fixtures::{expect, message_of};
+use capnp::Result;
 use capnp::message::{DEFAULT_READER_OPTIONS, SegmentArray};
-use capnp::{ErrorKind, Result};
+use capnp_uses::account;
 
 // A struct of one data word and one pointer, the number 7, and the text "Alice".
 const ALICE: &[u8] = b"\0\0\0\0\x01\0\x01\0\x07\0\0\0\0\0\0\0\x01\0\0\0\x32\0\0\0Alice\0\0\0";
 
 // A struct of no words; it points to itself.
 const NO_FIELDS: &[u8] = b"\xfc\xff\xff\xff\0\0\0\0";
-
-// A list of one byte.
-const A_LIST: &[u8] = b"\x01\0\0\0\x0a\0\0\0\x01\0\0\0\0\0\0\0";
 
 type Account<'a> = account::Reader<'a, SegmentArray<'a>>;
 
@@ -37,16 +34,6 @@ fn an_account_is_read(rt: HostRuntime) -> Result<()> {
         expect(&rt, *segment, is_named(&account, name)?, (*number, true));
     }
     Ok(())
-}
-
-#[test]
-fn a_list_is_no_account(rt: HostRuntime) {
-    let segments = [A_LIST];
-    let message = message_of(&segments, DEFAULT_READER_OPTIONS);
-    match message.get_root::<Account<'_>>() {
-        Ok(_) => expect(&rt, A_LIST, "an account", "an error"),
-        Err(error) => expect(&rt, A_LIST, error.kind, ErrorKind::WrongPointerKind),
-    }
 }
 
 // Two accounts after the tag of their list: 7 and "A", and 8 without a name.

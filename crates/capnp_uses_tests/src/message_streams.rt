@@ -1,10 +1,9 @@
 //! The messages of a stream as an iterator, up to its end or its first error.
-use crate::tests::callers::both;
-use crate::tests::fixtures::expect;
+use crate::callers::both;
+use crate::fixtures::expect;
 use capnp::Result;
-use capnp::devices::Input;
 use capnp::io::BufRead;
-use capnp::message::{DEFAULT_READER_OPTIONS, ReaderOptions, ReaderSegments};
+use capnp::message::{DEFAULT_READER_OPTIONS, ReaderSegments};
 use capnp::serialize::Padding;
 use capnp::streams::{Format, MessageStream, is_cut, open_file};
 use std::alloc::Global;
@@ -33,9 +32,9 @@ fn given_of<R: BufRead + Drop>(stream: MessageStream<R>) -> Given {
 }
 
 // What is given of bytes.
-fn given_of_bytes(alloc: Global, format: Format, padding: Padding, bytes: &[u8]) -> Given {
+fn given_of_bytes(alloc: Global, format: Format, bytes: &[u8]) -> Given {
     let options = DEFAULT_READER_OPTIONS;
-    given_of(MessageStream::new(alloc, bytes, format, padding, options))
+    given_of(MessageStream::new(alloc, bytes, format, Padding::Zero, options))
 }
 
 #[test]
@@ -43,55 +42,16 @@ fn messages_of_both_formats(rt: HostRuntime) -> Result<()> {
     let alloc = rt.alloc();
     for format in [Format::Framed, Format::Packed] {
         let stream = both(alloc, format)?;
-        let all = given_of_bytes(alloc, format, Padding::Zero, &stream);
+        let all = given_of_bytes(alloc, format, &stream);
         expect(&rt, "all", all, (2, 3, 0, false));
         let number = match format {
             Format::Framed => 1,
             Format::Packed => 10,
         };
         let shorter = stream.get(..stream.len().saturating_sub(1)).unwrap_or(&[]);
-        let cut = given_of_bytes(alloc, format, Padding::Zero, shorter);
+        let cut = given_of_bytes(alloc, format, shorter);
         expect(&rt, "cut", cut, (1, 2, number, true));
     }
-    Ok(())
-}
-
-// A framed message of two segments whose padding is not zero.
-const PADDED: [u8; 24] = [
-    1, 0, 0, 0, 0, 0, 0, 0, 1, 0, 0, 0, 9, 9, 9, 9, 1, 2, 3, 4, 5, 6, 7, 8,
-];
-
-#[test]
-fn messages_of_both_paddings(rt: HostRuntime) {
-    let alloc = rt.alloc();
-    let strict = given_of_bytes(alloc, Format::Framed, Padding::Zero, &PADDED);
-    expect(&rt, "zero", strict, (0, 0, 26, false));
-    let lenient = given_of_bytes(alloc, Format::Framed, Padding::Any, &PADDED);
-    expect(&rt, "any", lenient, (1, 2, 0, false));
-}
-
-#[test]
-fn messages_within_a_limit(rt: HostRuntime) -> Result<()> {
-    let alloc = rt.alloc();
-    let stream = both(alloc, Format::Framed)?;
-    let options = ReaderOptions {
-        traversal_limit_in_words: Some(2),
-        nesting_limit: 64,
-    };
-    let source = stream.as_slice();
-    let given = given_of(MessageStream::new(alloc, source, Format::Framed, Padding::Zero, options));
-    expect(&rt, "within 2 words", given, (1, 2, 8, false));
-    Ok(())
-}
-
-#[test]
-fn messages_of_a_device(rt: HostRuntime) -> Result<()> {
-    let alloc = rt.alloc();
-    let stream = both(alloc, Format::Packed)?;
-    let source = Input::new(alloc, stream.as_slice())?;
-    let options = DEFAULT_READER_OPTIONS;
-    let given = given_of(MessageStream::new(alloc, source, Format::Packed, Padding::Zero, options));
-    expect(&rt, "a device", given, (2, 3, 0, false));
     Ok(())
 }
 
