@@ -18,11 +18,12 @@ from telling import Teller, roots
 from values import bytes_of
 
 HERE = os.path.dirname(os.path.abspath(__file__))
+TOOL = "compile-with-capnp"
 LIBRARIES = ["-lcapnp-rpc", "-lcapnp", "-lkj-async", "-lkj"]
 
 
 def fail(what):
-    sys.exit("compile-with-capnp: " + what)
+    sys.exit("%s: %s" % (TOOL, what))
 
 
 def run(words, folder, stream=b""):
@@ -68,7 +69,8 @@ def messages(chance, schemas, count):
 
 
 def by_peer(folder, schemas, description):
-    """What the C++ program says."""
+    """What the C++ program says, which leaves the messages, each after the numbers of its schema and its struct, and its
+    length, in `peer/messages`."""
     peer = folder + "/peer"
     write(peer + "/main.c++", main_text(len(schemas)))
     write(peer + "/description", description)
@@ -79,7 +81,7 @@ def by_peer(folder, schemas, description):
     with ThreadPoolExecutor(2) as threads:
         list(threads.map(lambda name: run([*compiler, "-c", name + ".c++", "-o", name + ".o"], peer), names))
     run([*compiler, "-o", "peer", *(name + ".o" for name in names), *LIBRARIES], peer)
-    run(["./peer", "description", "said"], peer)
+    run(["./peer", "description", "said", "messages"], peer)
     return open(peer + "/said", encoding="utf-8", errors="surrogateescape").read()
 
 
@@ -145,4 +147,5 @@ def main():
     sys.exit(1 if different else 0)
 
 
-main()
+if __name__ == "__main__":
+    main()

@@ -1,9 +1,11 @@
-// What the C++ programs of tools/compile-with-capnp share: descriptions of messages that are read from the front, as
-// tools/random-messages/source reads them, and what is said of messages, as text (tools/random-messages/shown).
+// What the C++ programs of tools/compile-with-capnp and tools/c-with-capnp share: descriptions of messages that are read
+// from the front, as tools/random-messages/source reads them, and what is said of messages, as text
+// (tools/random-messages/shown).
 #pragma once
 #include <capnp/any.h>
 #include <capnp/message.h>
 #include <capnp/orphan.h>
+#include <capnp/serialize.h>
 #include <cmath>
 #include <cstdint>
 #include <cstdio>
@@ -39,6 +41,7 @@ inline capnp::Void Source::number<capnp::Void>() { return capnp::VOID; }
 
 struct Shown {
     std::string text;
+    std::string messages;  // each framed, after its length
     uint32_t left = 0;
 
     void word(const std::string& word) { text += ' ' + word; }
@@ -54,6 +57,12 @@ struct Shown {
             text += "0123456789abcdef"[bytes[index] >> 4];
             text += "0123456789abcdef"[bytes[index] & 15];
         }
+    }
+    void message(capnp::MessageBuilder& message) {
+        auto words = capnp::messageToFlatArray(message);
+        uint64_t count = words.asBytes().size();
+        messages.append(reinterpret_cast<const char*>(&count), sizeof count);
+        messages.append(reinterpret_cast<const char*>(words.begin()), count);
     }
     bool enters(uint32_t depth) {
         if (depth == 0 || left == 0) {
@@ -133,16 +142,9 @@ capnp::Orphan<capnp::List<T>> pointersOf(Source& source, capnp::Orphanage object
     return list;
 }
 
-// Builds a message, and says what its builder and its reader show, its text and its canonical form.
-template <typename T, typename Make, typename Hold>
-void tell(Source& source, Shown& shown, uint32_t depth, uint32_t most, Make make, Hold hold) {
-    capnp::MallocMessageBuilder message;
-    {
-        auto root = make(source, message.getOrphanage());
-        hold(shown, root.get());
-        message.adoptRoot(kj::mv(root));
-    }
-    typename T::Reader root = message.getRoot<T>().asReader();
+// Says what the root of a message shows, its text and its canonical form.
+template <typename Reader>
+void tellRoot(Shown& shown, uint32_t depth, uint32_t most, Reader root) {
     shown.field("canonical");
     auto words = capnp::canonicalize(root);
     shown.bytes(words.asBytes().begin(), words.asBytes().size());
@@ -151,4 +153,27 @@ void tell(Source& source, Shown& shown, uint32_t depth, uint32_t most, Make make
     show(shown, depth, root);
     shown.field("text");
     shown.word(kj::str(root).cStr());
+}
+
+// Builds a message, and says what its builder and its reader show.
+template <typename T, typename Make, typename Hold>
+void tell(Source& source, Shown& shown, uint32_t depth, uint32_t most, Make make, Hold hold) {
+    capnp::MallocMessageBuilder message(256, capnp::AllocationStrategy::FIXED_SIZE);
+    {
+        auto root = make(source, message.getOrphanage());
+        hold(shown, root.get());
+        message.adoptRoot(kj::mv(root));
+    }
+    shown.message(message);
+    tellRoot(shown, depth, most, message.getRoot<T>().asReader());
+}
+
+// Says what the reader of a message shows that another program built.
+template <typename T>
+void tellBuilt(Source& source, Shown& shown, uint32_t depth, uint32_t most) {
+    auto count = source.number<uint64_t>();
+    auto words = kj::heapArray<capnp::word>(count / sizeof(capnp::word));
+    std::memcpy(words.begin(), source.take(count), count);
+    capnp::FlatArrayMessageReader message(words, {1ull << 40, 64});
+    tellRoot(shown, depth, most, message.getRoot<T>());
 }

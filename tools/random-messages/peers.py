@@ -21,6 +21,12 @@ void tell(uint8_t index, Source& source, Shown& shown) {
     }
 }
 
+void tellBuilt(uint8_t index, Source& source, Shown& shown) {
+    switch (index) {
+%(built)s
+    }
+}
+
 void constants(Shown& shown) {
 %(constants)s
 }
@@ -58,7 +64,10 @@ MAIN = """\
 #include "peer.h"
 %(declared)s
 
-int main(int, char** words) {
+// The descriptions of the file `words[1]` are built, and what is said of them goes to `words[2]`, and the messages to
+// `words[3]`; without that the file has messages of another program, each after the numbers of its schema and of its
+// struct, and its length.
+int main(int count, char** words) {
     std::ifstream file(words[1], std::ios::binary);
     std::string input((std::istreambuf_iterator<char>(file)), std::istreambuf_iterator<char>());
     auto begin = reinterpret_cast<const uint8_t*>(input.data());
@@ -66,21 +75,28 @@ int main(int, char** words) {
     Shown shown;
 %(constants)s
     while (source.left != source.end) {
-        source.number<uint8_t>();
+        auto isBuilt = count < 4;
+        if (!isBuilt) source.number<uint8_t>();
         auto schema = source.number<uint8_t>();
         auto index = source.number<uint8_t>();
         shown.field("message");
+        shown.messages += {static_cast<char>(schema), static_cast<char>(index)};
         switch (schema) {
 %(cases)s
         }
     }
     std::ofstream(words[2], std::ios::binary) << shown.text << '\\n';
+    if (count > 3) std::ofstream(words[3], std::ios::binary) << shown.messages;
 }
 """
 CONSTANTS = """\
     shown.field("schema");
     shown.left = %d;
     schema%d::constants(shown);"""
+DECLARED = "namespace schema%d { void tell(uint8_t, Source&, Shown&); void tellBuilt(uint8_t, Source&, Shown&); " \
+    "void constants(Shown&); }"
+CASE = "        case %(at)d: (isBuilt ? schema%(at)d::tellBuilt : schema%(at)d::tell)(index, source, shown); break;"
+BUILT = "        case %(number)d: return ::tellBuilt<%(type)s>(source, shown, %(depth)d, %(most)d);"
 ROOT = """\
         case %(number)d: return ::tell<%(type)s>(source, shown, %(depth)d, %(most)d, make%(number)d,
             [](Shown& shown, %(type)s::Builder made) { hold(shown, made); });"""
@@ -89,11 +105,9 @@ ROOT = """\
 def main_text(count):
     """The program over this many schemas."""
     return MAIN % {
-        "declared": "\n".join("namespace schema%d { void tell(uint8_t, Source&, Shown&); void constants(Shown&); }" % at
-                              for at in range(count)),
+        "declared": "\n".join(DECLARED % at for at in range(count)),
         "constants": "\n".join(CONSTANTS % (MOST, at) for at in range(count)),
-        "cases": "\n".join("        case %d: schema%d::tell(index, source, shown); break;" % (at, at)
-                           for at in range(count))}
+        "cases": "\n".join(CASE % {"at": at} for at in range(count))}
 
 
 def capital(name):
@@ -248,8 +262,8 @@ def peer_text(index, schema):
     declared = ["capnp::Orphan<%s> make%d(Source& source, capnp::Orphanage objects);\n"
                 "void show(Shown& shown, uint32_t depth, %s::Reader read);" % (path(made), made.number, path(made))
                 for made in schema.structs]
-    roots = [ROOT % {"number": made.number, "type": path(made), "depth": DEPTH, "most": MOST}
-             for made in schema.structs]
-    return HEAD % {"index": index, "declared": "\n".join(declared), "roots": "\n".join(roots),
+    roots = [{"number": made.number, "type": path(made), "depth": DEPTH, "most": MOST} for made in schema.structs]
+    return HEAD % {"index": index, "declared": "\n".join(declared), "roots": "\n".join(ROOT % root for root in roots),
+                   "built": "\n".join(BUILT % root for root in roots),
                    "structs": "".join(part for made in schema.structs for part in struct_text(made)),
                    "constants": "\n".join(constant_text(constant) for constant in schema.constants)}
