@@ -1,4 +1,4 @@
-/* What calls.c, options.c and reading.c share: messages that are spelled out by the Cap'n Proto encoding
+/* What building.c, calls.c, options.c and reading.c share: messages that are spelled out by the Cap'n Proto encoding
  * document, and comparisons. Each comparison that fails prints a line. */
 #ifndef COMPARE_H
 #define COMPARE_H

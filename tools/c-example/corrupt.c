@@ -7,15 +7,9 @@
  * tools/fuzzing/views.cc writes them. The bytes end where a page begins that can't be read, or with `heap` are a block
  * from malloc. Any call may fail. What it finds has to lie within the bytes; after an error what it writes has to be 0,
  * and the reader as before. It prints how many calls there were, and the status is 1 where one is wrong. */
-#define _DEFAULT_SOURCE
-#include "capnp_c.h"
+#include "guarded.h"
 
-#include <stdio.h>
-#include <stdlib.h>
-#include <string.h>
-#include <sys/mman.h>
-
-enum { ROOM = 1 << 24, GUARD = 1 << 16, CALLS = 60 };
+enum { CALLS = 60 };
 
 static uint64_t state, calls, successes;
 static const uint8_t *bytes;
@@ -25,29 +19,9 @@ static struct linsjoar_place place;
 static struct linsjoar_struct fields;
 static struct linsjoar_list list;
 
-static uint64_t below(uint64_t limit) {
-    state ^= state << 13;
-    state ^= state >> 7;
-    state ^= state << 17;
-    return state % limit;
-}
+static uint64_t below(uint64_t limit) { return next_below(&state, limit); }
 
-static void check(int holds, const char *what) {
-    if (holds)
-        return;
-    fprintf(stderr, "corrupt: %s\n", what);
-    exit(1);
-}
-
-/* Spoils a few bytes of a struct: to the lowest or the highest number, or to any one. */
-static void spoil(void *numbers, size_t size) {
-    for (uint64_t count = size ? 1 + below(2) : 0; count > 0; count--) {
-        size_t start = below(size), most = size - start < 8 ? size - start : 8;
-        uint64_t kind = below(3);
-        for (size_t i = start; i < start + 1 + below(most); i++)
-            ((uint8_t *)numbers)[i] = kind == 0 ? 0 : kind == 1 ? 0xff : (uint8_t)below(256);
-    }
-}
+static void spoil(void *numbers, size_t size) { spoil_bytes(&state, numbers, size); }
 
 /* Reads the ends of what was found. */
 static void touch(size_t start, size_t size) {
@@ -156,23 +130,16 @@ static void try_message(const uint8_t *message, size_t message_len) {
     }
 }
 
-static uint8_t *guarded_block(void) {
-    uint8_t *pages = mmap(NULL, ROOM + GUARD, PROT_READ | PROT_WRITE, MAP_PRIVATE | MAP_ANONYMOUS, -1, 0);
-    check(pages != MAP_FAILED && !mprotect(pages + ROOM, GUARD, PROT_NONE), "no memory");
-    return pages;
-}
-
 int main(int count, char **words) {
-    uint8_t *block = guarded_block();
+    enum place place = count > 2 ? HEAP : END;
+    uint8_t *pages = guarded_pages();
     uint32_t head[2];
-    state = count > 1 ? strtoull(words[1], NULL, 10) + 0x9e3779b97f4a7c15 : 1;
+    state = count > 1 ? state_of(words[1]) : 1;
     while (fread(head, sizeof *head, 2, stdin) == 2) {
-        check(head[0] <= ROOM, "an input is too long");
-        uint8_t *heap = count > 2 ? malloc(head[0]) : NULL;
-        uint8_t *message = heap ? heap : block + ROOM - head[0];
+        uint8_t *message = block_of(pages, place, head[0]);
         check(fread(message, 1, head[0], stdin) == head[0], "an input is cut");
         try_message(message, head[0]);
-        free(heap);
+        leave(message, place);
     }
     printf("%llu calls, of which %llu found something\n", (unsigned long long)calls, (unsigned long long)successes);
     return 0;
