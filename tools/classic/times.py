@@ -4,7 +4,7 @@ import valgrind
 
 # Of each benchmark how many requests a long run makes, some tens of milliseconds, and one under valgrind.
 BENCHMARKS = {"carsales": (1000, 32), "catrank": (100, 8), "eval": (20000, 240)}
-MODES, MEMORIES = ("objects", "bytes", "packed"), ("reused", "fresh")
+MODES, MEMORIES = ("objects", "bytes", "packed"), os.environ.get("MEMORY", "reused fresh").split()
 SEEDS, COMPARED = ("1", "7", "4711"), "50"
 # The short run makes as many requests, so that the memory that is used again has grown in both.
 SHORT = 4
