@@ -9,17 +9,10 @@ import re
 import subprocess
 import sys
 
+sys.dont_write_bytecode = True
+from troff import bold, escaped
+
 NAME = r"(?:(?<=\W)|^)(--?[a-zA-Z][\w-]*)"
-
-
-def escaped(text):
-    """Text as troff reads it."""
-    text = text.replace("\\", "\\e").replace("-", "\\-").replace("'", "\\(aq").replace("`", "\\(ga")
-    return "\\&" + text if text.startswith((".", "\\(aq")) else text
-
-
-def bold(text):
-    return "\\fB" + escaped(text) + "\\fR"
 
 
 def term(text):

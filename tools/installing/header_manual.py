@@ -1,0 +1,86 @@
+"""Writes the manual page linsjoar(3): header_manual.py ROOT
+
+The page is made of crates/capnp_c/capnp_c.h. A comment with an empty line after it begins a section, if its first
+sentence is short, or is a paragraph. Another comment is the text of what is declared below it.
+"""
+import os
+import re
+import sys
+
+sys.dont_write_bytecode = True
+from troff import bold, escaped
+
+# A comment and the code below it up to an empty line or the next comment, either of which may be missing.
+BLOCK = re.compile(r"(?:^/\*(?P<comment>[\s\S]*?)\*/\n)?(?P<code>(?:(?!/\*).+\n)*)", re.M)
+ERROR = re.compile(r"/\*([\s\S]*?)\*/\s*(LINSJOAR_\w+) = (\d+)")
+INLINE = "static inline "
+TITLE_LENGTH = 50
+
+
+def text_of(comment):
+    """The paragraphs of a comment."""
+    lines = re.sub(r"^ *\*(?: |$)", "", comment.strip(), flags=re.M)
+    return [" ".join(part.split()) for part in re.split(r"\n\s*\n", lines)]
+
+
+def paragraphs(parts):
+    """What is between `` in a text is italic."""
+    return "\n.PP\n".join(re.sub(r"\\\(ga(.*?)\\\(ga", r"\\fI\1\\fR", escaped(part)) for part in parts)
+
+
+def section(comment):
+    """A section of a comment that says what follows, or a paragraph."""
+    first, *more = text_of(comment)
+    sentence, _, rest = first.partition(". ")
+    if len(sentence) > TITLE_LENGTH:
+        return [".PP", paragraphs([first, *more])]
+    parts = ([rest] if rest else []) + more
+    return ['.SH "%s"' % escaped(sentence.rstrip(".").upper()), *([paragraphs(parts)] if parts else [])]
+
+
+def declared(code):
+    """The lines of some declarations: of a function that has a body only what is before that."""
+    declaration = lambda found: found[1].replace("\n" + " " * len(INLINE), "\n") + ";"
+    code = re.sub("^" + INLINE + r"([^{]*?) \{(?:.*\}$|[\s\S]*?^\}$)", declaration, code, flags=re.M)
+    return [] if code.startswith("#if") else code.splitlines()
+
+
+def item(comment, code):
+    lines = declared(code)
+    if not lines:
+        return []
+    shown = [".PP", ".nf", *map(bold, lines), ".fi"]
+    return shown + ([".RS", paragraphs(text_of(comment)), ".RE"] if comment else [])
+
+
+def errors(header):
+    page = [".SH ERRORS"]
+    for comment, name, number in ERROR.findall(re.search(r"^enum linsjoar_error \{[\s\S]*?^\};", header, re.M)[0]):
+        page += [".TP", "%s (%s)" % (bold(name), number), paragraphs(text_of(comment))]
+    return page
+
+
+def page_of(header):
+    """The page but for its head, of a header."""
+    about, rest = header.split("#ifndef", 1)
+    body = re.search(r'extern "C" \{\n#endif\n([\s\S]*)\n#ifdef', rest)[1]
+    first, *more = text_of(about.strip()[2:-2])
+    sentence, _, after = first.partition(". ")
+    page = [".SH SYNOPSIS", ".nf", bold("#include <capnp_c.h>"), "", bold("cc ... $(pkg-config --cflags --libs linsjoar)"), ".fi",
+            ".SH DESCRIPTION", paragraphs([after, *more])]
+    for block in BLOCK.finditer(body):
+        comment, code = block["comment"], block["code"]
+        if "enum linsjoar_error {" in code:
+            continue
+        page += item(comment, code) if code else section(comment) if comment else []
+    return sentence, page + errors(header)
+
+
+[root] = sys.argv[1:]
+with open(os.path.join(root, "crates/capnp_c/capnp_c.h")) as file:
+    about, page = page_of(file.read())
+with open(os.path.join(root, "VERSION")) as file:
+    version = file.read().strip()
+print('.TH "LINSJOAR" 3 "" "linsjoar %s"' % version)
+print(".SH NAME\nlinsjoar \\- %s" % escaped(about[0].lower() + about[1:]))
+print("\n".join(page))
