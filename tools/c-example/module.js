@@ -1,4 +1,4 @@
-// The library for C as WebAssembly, and blocks of its memory, for wasm.js and addressbook.js.
+// The library for C as WebAssembly, and blocks of its memory, for wasm.js and linsjoar.js.
 //
 // The memory has 64 bits, so addresses and sizes are BigInt. Node 20 needs the flag --experimental-wasm-memory64.
 "use strict";
