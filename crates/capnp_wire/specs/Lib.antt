@@ -17,6 +17,7 @@ pub mod NumberViews
 pub mod ObjectViews
 pub mod UpgradedViews
 pub mod UpgradedReaders
+pub mod Getters
 pub mod Layout
 pub mod Block
 pub mod Copy

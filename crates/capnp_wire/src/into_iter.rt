@@ -5,7 +5,9 @@ use crate::list_iter::ListIter;
 use crate::list_list::ViewIter;
 use crate::primitive_element::PrimitiveElement;
 use crate::traits::FromPointerReader;
-use crate::upgraded::{EnumElement, EnumList, ListList, NumberList, PointerList, StructList};
+use crate::upgraded::{
+    EnumElement, EnumList, FromStruct, ListList, NumberList, PointerList, StructList, Structs,
+};
 use crate::{any_pointer, any_pointer_list, any_struct, list_list, primitive_list, struct_list};
 use capnp_frame::Result;
 use capnp_frame::message::ReaderSegments;
@@ -18,6 +20,19 @@ impl<'l, 'a, S: ReaderSegments> IntoIterator for &'l StructList<'a, S> {
     ghost into_iter_gives = { λ list elements. IsIterator list.now elements };
 
     fn into_iter(self) -> ListIter<'l, StructList<'a, S>> {
+        self.iter()
+    }
+}
+
+impl<'l, 'a, S: ReaderSegments, T: FromStruct<any_struct::StructReader<'a, S>>> IntoIterator
+    for &'l Structs<'a, S, T> {
+    type Item = T;
+
+    type IntoIter = ListIter<'l, Structs<'a, S, T>>;
+
+    ghost into_iter_gives = { λ list elements. IsIterator list.now elements };
+
+    fn into_iter(self) -> ListIter<'l, Structs<'a, S, T>> {
         self.iter()
     }
 }

@@ -21,6 +21,7 @@ pub mod data_list;
 mod into_iter;
 pub mod laws;
 mod layout;
+mod list_into_iter;
 mod list_iter;
 pub mod list_list;
 mod message_size;

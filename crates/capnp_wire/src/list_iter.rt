@@ -1,7 +1,7 @@
 //! Lists whose elements are read by index, and iterators over them.
-ghost use Rattle.std.specs.Prelude.{◌≡◌, ℕ, ◌<◌};
-ghost use Rattle.std.specs.Iterator.{YieldsFirstBy, item_count};
-ghost use Rattle.capnp_wire.specs.Lists.{FindsElement, elements_left, IsIterator};
+ghost use Rattle.std.specs.Prelude.{◌≡◌, ℕ, ◌-◌, ◌<◌, ◌^◌};
+ghost use Rattle.std.specs.Iterator.{YieldsFirstBy, at_most};
+ghost use Rattle.capnp_wire.specs.Lists.{FindsElement, IteratesOver, elements_left};
 
 /// A list whose elements are read by their index.
 ///
@@ -66,8 +66,10 @@ pub struct ListIter<'l, L> {
 impl<'l, L: IndexMove> ListIter<'l, L> {
     /// The elements of this list.
     pub fn new(list: &'l L) -> ListIter<'l, L>
-        ensures { IsIterator list.now result }
+        ensures { IteratesOver (L.size list.now) list.now result }
     {
+        // For the prover: the number of elements is below 2^32.
+        let _ = list.len();
         ListIter { list, index: 0 }
     }
 }
@@ -78,7 +80,7 @@ impl<'l, L: IndexMove> Iterator for ListIter<'l, L> {
 
     ghost next_gives = { YieldsFirstBy L.seen (elements_left L.size L.element) };
 
-    ghost remaining = { item_count (elements_left L.size L.element) };
+    ghost remaining = { λ elements. at_most (L.size elements.list.now - elements.index) };
 
     fn next(&mut self) -> Option<L::Item> {
         if self.index >= self.list.len() {

@@ -1,6 +1,7 @@
 //! Lists of pointers to views of one type: lists of lists, and of text and data, which have modules
 //! of their own.
 mod reader;
+mod view_into_iter;
 pub(crate) mod view_iter;
 
 use crate::any_pointer_list;
@@ -10,6 +11,7 @@ use capnp_frame::Result;
 use capnp_frame::message::ReaderSegments;
 pub use reader::Reader;
 use std::marker::PhantomData;
+pub use view_into_iter::ViewIntoIter;
 pub use view_iter::ViewIter;
 
 /// A list of pointers to objects of one type of a schema, as a type of a schema.

@@ -11,6 +11,7 @@ ghost use Rattle.capnp_wire.specs.declared.traits.TreeWords.{TreeWords};
 
 use crate::any_pointer;
 pub use crate::layout::copy::Copied;
+pub use crate::list_into_iter::ListIntoIter;
 pub use crate::list_iter::{IndexMove, ListIter};
 use capnp_frame::Result;
 use capnp_frame::message::ReaderSegments;

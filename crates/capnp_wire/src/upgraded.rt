@@ -13,6 +13,7 @@ mod number_list;
 mod number_structs;
 mod pointer_list;
 mod struct_list;
+mod structs;
 mod values;
 
 use crate::{data, text};
@@ -21,6 +22,7 @@ pub use list_list::ListList;
 pub use number_list::NumberList;
 pub use pointer_list::PointerList;
 pub use struct_list::StructList;
+pub use structs::{FromStruct, OwnedStructs, StructFields, Structs};
 
 /// A list of `Text` in a message, or of structs whose first pointer points to one.
 ///

@@ -38,7 +38,7 @@ pub struct Reader<'a, S> {
 }
 
 impl<'a, S: ReaderSegments> Reader<'a, S> {
-    ghost use Rattle.capnp_wire.specs.Lists.{FindsElement, IsIterator};
+    ghost use Rattle.capnp_wire.specs.Lists.{FindsElement, IteratesOver};
     ghost use Rattle.capnp_wire.specs.Readers.{pointer_of, IsEntered};
     ghost use Rattle.capnp_wire.specs.Views.{HasSegment, ViewError};
     ghost use Rattle.capnp_wire.specs.ListViews.{pointer_list_of, pointer_at, IsPointerList, PointersFormError};
@@ -82,7 +82,8 @@ impl<'a, S: ReaderSegments> Reader<'a, S> {
 
     /// An iterator over the elements.
     pub fn iter(&self) -> ListIter<'_, Self>
-        ensures { IsIterator self.now result }
+        ensures { IteratesOver (length (pointer_list_of S.segments self.now).children)
+            self.now result }
     {
         ListIter::new(self)
     }

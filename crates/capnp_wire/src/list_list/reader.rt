@@ -27,7 +27,7 @@ pub struct Reader<'a, S, T> {
 }
 
 impl<'a, S: ReaderSegments, T: FromPointerReader<'a, S>> Reader<'a, S, T> {
-    ghost use Rattle.capnp_wire.specs.Lists.{FindsElement, IsIterator};
+    ghost use Rattle.capnp_wire.specs.Lists.{FindsElement, IteratesOver};
     ghost use Rattle.capnp_wire.specs.Views.{IsViewOf};
     ghost use Rattle.capnp_wire.specs.ListViews.{pointer_list_of, pointer_at};
 
@@ -69,7 +69,8 @@ impl<'a, S: ReaderSegments, T: FromPointerReader<'a, S>> Reader<'a, S, T> {
 
     /// An iterator over the elements.
     pub fn iter(&self) -> ViewIter<'_, any_pointer_list::Reader<'a, S>, T>
-        ensures { IsIterator self.now.pointers result.pointers }
+        ensures { IteratesOver (length (pointer_list_of S.segments self.now.pointers).children)
+            self.now.pointers result.pointers }
     {
         ViewIter::new(&self.pointers)
     }

@@ -1,9 +1,9 @@
 //! Iterators over lists of pointers to views of one type.
-ghost use Rattle.std.specs.Prelude.{◌≡◌};
-ghost use Rattle.std.specs.Iterator.{item_count};
+ghost use Rattle.std.specs.Prelude.{◌≡◌, ◌-◌};
+ghost use Rattle.std.specs.Iterator.{YieldsFirstBy, at_most};
 ghost use Rattle.capnp_wire.specs.Views.{IsViewOf};
 ghost use Rattle.capnp_wire.specs.Readers.{pointer_of};
-ghost use Rattle.capnp_wire.specs.Lists.{elements_left, IsIterator, YieldsView};
+ghost use Rattle.capnp_wire.specs.Lists.{elements_left, IteratesOver, YieldsView};
 
 use crate::any_pointer;
 use crate::list_iter::{IndexMove, ListIter};
@@ -22,7 +22,7 @@ pub struct ViewIter<'l, L, T> {
 impl<'l, L: IndexMove, T> ViewIter<'l, L, T> {
     /// The elements that these pointers point to.
     pub fn new(pointers: &'l L) -> ViewIter<'l, L, T>
-        ensures { IsIterator pointers.now result.pointers }
+        ensures { IteratesOver (L.size pointers.now) pointers.now result.pointers }
     {
         ViewIter {
             pointers: ListIter::new(pointers),
@@ -40,12 +40,14 @@ where
 {
     type Item = Result<T>;
 
-    ghost next_gives = { YieldsView (L.seen) (elements_left L.size L.element)
+    ghost next_gives = { λ old result new.
+        YieldsView (YieldsFirstBy L.seen (elements_left L.size L.element))
         (λ reader view. let pointer = pointer_of S.segments reader in
         IsViewOf pointer (T.shows pointer) (T.accepts pointer) (T.fails pointer)
-        (T.form_error pointer) view) };
+        (T.form_error pointer) view) old.pointers result new.pointers };
 
-    ghost remaining = { λ views. item_count (elements_left L.size L.element) views.pointers };
+    ghost remaining = { λ views.
+        at_most (L.size views.pointers.list.now - views.pointers.index) };
 
     fn next(&mut self) -> Option<Result<T>> {
         match self.pointers.next() {

@@ -33,7 +33,7 @@ pub struct Reader<'a, T: PrimitiveElement> {
 }
 
 impl<'a, T: PrimitiveElement> Reader<'a, T> {
-    ghost use Rattle.capnp_wire.specs.Lists.{FindsElement, IsIterator};
+    ghost use Rattle.capnp_wire.specs.Lists.{FindsElement, IteratesOver};
     ghost use Rattle.capnp_wire.specs.NumberViews.{numbers_of, IsNumbers};
     ghost use Rattle.capnp_wire.specs.Views.{HasSegment, Reads, ViewError, NumbersFormError};
     ghost use Rattle.capnp_wire.specs.Readers.{pointer_of, form_of};
@@ -70,7 +70,7 @@ impl<'a, T: PrimitiveElement> Reader<'a, T> {
 
     /// An iterator over the elements.
     pub fn iter(&self) -> ListIter<'_, Self>
-        ensures { IsIterator self.now result }
+        ensures { IteratesOver (length (numbers_of T.code self.now)) self.now result }
     {
         ListIter::new(self)
     }

@@ -46,7 +46,7 @@ pub struct Reader<'a, S: ReaderSegments> {
 }
 
 impl<'a, S: ReaderSegments> Reader<'a, S> {
-    ghost use Rattle.capnp_wire.specs.Lists.{FindsElement, IsIterator};
+    ghost use Rattle.capnp_wire.specs.Lists.{FindsElement, IteratesOver};
     ghost use Rattle.capnp_wire.specs.Readers.{struct_of, pointer_of, IsEntered};
     ghost use Rattle.capnp_wire.specs.Views.{HasSegment, ViewError};
     ghost use Rattle.capnp_wire.specs.ListViews.{struct_list_of, element_of, no_structs, structs_in, IsStructList, StructsFormError};
@@ -95,7 +95,8 @@ impl<'a, S: ReaderSegments> Reader<'a, S> {
 
     /// An iterator over the elements.
     pub fn iter(&self) -> ListIter<'_, Self>
-        ensures { IsIterator self.now result }
+        ensures { IteratesOver (length (struct_list_of S.segments self.now).elements)
+            self.now result }
     {
         ListIter::new(self)
     }

@@ -46,7 +46,7 @@ pub struct EnumList<'a, E> {
 }
 
 impl<'a, E: EnumElement> EnumList<'a, E> {
-    ghost use Rattle.capnp_wire.specs.Lists.{FindsElement, IsIterator};
+    ghost use Rattle.capnp_wire.specs.Lists.{FindsElement, IteratesOver};
     ghost use Rattle.capnp_wire.specs.UpgradedReaders.{upgraded_numbers_of};
 
     /// The numbers of the values.
@@ -83,7 +83,7 @@ impl<'a, E: EnumElement> EnumList<'a, E> {
 
     /// An iterator over the elements.
     pub fn iter(&self) -> ListIter<'_, Self>
-        ensures { IsIterator self.now result }
+        ensures { IteratesOver (length (upgraded_numbers_of 3 self.now.numbers)) self.now result }
     {
         ListIter::new(self)
     }

@@ -30,7 +30,7 @@ pub struct ListList<'a, S, T> {
 }
 
 impl<'a, S: ReaderSegments, T: FromPointerReader<'a, S>> ListList<'a, S, T> {
-    ghost use Rattle.capnp_wire.specs.Lists.{FindsElement, IsIterator};
+    ghost use Rattle.capnp_wire.specs.Lists.{FindsElement, IteratesOver};
     ghost use Rattle.capnp_wire.specs.Views.{IsViewOf};
     ghost use Rattle.capnp_wire.specs.ListViews.{pointer_at};
     ghost use Rattle.capnp_wire.specs.UpgradedReaders.{upgraded_pointers_of};
@@ -73,7 +73,8 @@ impl<'a, S: ReaderSegments, T: FromPointerReader<'a, S>> ListList<'a, S, T> {
 
     /// An iterator over the elements.
     pub fn iter(&self) -> ViewIter<'_, PointerList<'a, S>, T>
-        ensures { IsIterator self.now.pointers result.pointers }
+        ensures { IteratesOver (length (upgraded_pointers_of S.segments self.now.pointers).children)
+            self.now.pointers result.pointers }
     {
         ViewIter::new(&self.pointers)
     }

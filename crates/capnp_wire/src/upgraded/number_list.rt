@@ -69,7 +69,7 @@ impl<'a, T: PrimitiveElement> FirstFields<'a, T> {
 }
 
 impl<'a, T: PrimitiveElement> NumberList<'a, T> {
-    ghost use Rattle.capnp_wire.specs.Lists.{FindsElement, IsIterator};
+    ghost use Rattle.capnp_wire.specs.Lists.{FindsElement, IteratesOver};
     ghost use Rattle.capnp_wire.specs.Readers.{pointer_of, form_of};
     ghost use Rattle.capnp_wire.specs.Views.{HasSegment, Reads, ViewError};
     ghost use Rattle.capnp_wire.specs.UpgradedViews.{ReadsAsNumbers, FieldsFormError};
@@ -106,7 +106,7 @@ impl<'a, T: PrimitiveElement> NumberList<'a, T> {
 
     /// An iterator over the elements.
     pub fn iter(&self) -> ListIter<'_, Self>
-        ensures { IsIterator self.now result }
+        ensures { IteratesOver (length (upgraded_numbers_of T.code self.now)) self.now result }
     {
         ListIter::new(self)
     }

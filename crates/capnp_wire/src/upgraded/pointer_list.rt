@@ -41,7 +41,7 @@ pub struct PointerList<'a, S> {
 }
 
 impl<'a, S: ReaderSegments> PointerList<'a, S> {
-    ghost use Rattle.capnp_wire.specs.Lists.{FindsElement, IsIterator};
+    ghost use Rattle.capnp_wire.specs.Lists.{FindsElement, IteratesOver};
     ghost use Rattle.capnp_wire.specs.Readers.{pointer_of, IsEntered};
     ghost use Rattle.capnp_wire.specs.Views.{HasSegment, ViewError};
     ghost use Rattle.capnp_wire.specs.ListViews.{pointer_at, pointer_list_of};
@@ -90,7 +90,8 @@ impl<'a, S: ReaderSegments> PointerList<'a, S> {
 
     /// An iterator over the elements.
     pub fn iter(&self) -> ListIter<'_, Self>
-        ensures { IsIterator self.now result }
+        ensures { IteratesOver (length (upgraded_pointers_of S.segments self.now).children)
+            self.now result }
     {
         ListIter::new(self)
     }

@@ -44,7 +44,7 @@ pub(crate) enum StructElements<'a, S: ReaderSegments> {
 }
 
 impl<'a, S: ReaderSegments> StructList<'a, S> {
-    ghost use Rattle.capnp_wire.specs.Lists.{FindsElement, IsIterator};
+    ghost use Rattle.capnp_wire.specs.Lists.{FindsElement, IteratesOver};
     ghost use Rattle.capnp_wire.specs.Readers.{struct_of, pointer_of, IsEntered};
     ghost use Rattle.capnp_wire.specs.Views.{HasSegment, ViewError};
     ghost use Rattle.capnp_wire.specs.ListViews.{element_of, structs_in};
@@ -86,7 +86,8 @@ impl<'a, S: ReaderSegments> StructList<'a, S> {
 
     /// An iterator over the elements.
     pub fn iter(&self) -> ListIter<'_, Self>
-        ensures { IsIterator self.now result }
+        ensures { IteratesOver (length (upgraded_structs_of S.segments self.now).elements)
+            self.now result }
     {
         ListIter::new(self)
     }
