@@ -6,6 +6,7 @@ pub mod Appended
 pub mod Runs
 pub mod Transcoding
 pub mod Passed
+pub mod Made
 pub mod Canonical
 pub mod Roots
 pub mod Devices

@@ -34,5 +34,7 @@ pub mod upgraded;
 pub use crate::transcoding::{Way, transcode, transcode_lenient};
 pub use capnp_frame::{Error, ErrorKind, Result, Word, io, word};
 pub use capnp_message::OutputSegments;
-pub use capnp_wire::MessageSize;
+pub use capnp_orphans as orphans;
+pub use capnp_values as values;
 pub use capnp_wire::canonical::canonical_size;
+pub use capnp_wire::{MessageSize, constant};

@@ -1,4 +1,5 @@
 //! Lists whose elements became structs, or were structs before: their views.
 pub use capnp_wire::upgraded::{
-    DataList, EnumElement, EnumList, ListList, NumberList, PointerList, StructList, TextList,
+    DataList, EnumElement, EnumList, FromStruct, ListList, NumberList, OwnedStructs, PointerList,
+    StructFields, StructList, Structs, TextList,
 };

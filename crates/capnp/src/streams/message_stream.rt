@@ -23,9 +23,7 @@ use std::{fs, io};
 /// ```
 /// let options = DEFAULT_READER_OPTIONS;
 /// for message in MessageStream::new(alloc, source, Format::Packed, Padding::Zero, options) {
-///     let message = message?;
-///     let greeting: text::Reader<'_> = message.get_root()?;
-///     assert_eq!(rt; greeting.as_bytes(), b"Hello, World!".as_slice());
+///     assert!(rt; is_greeting(&message?)?);
 /// }
 /// ```
 #[derive(Drop)]
@@ -105,9 +103,7 @@ impl<R: BufRead + Drop> Iterator for MessageStream<R> {
 ///
 /// ```
 /// for message in streams::open_file(&rt, path, Format::Packed, Padding::Zero, options)? {
-///     let message = message?;
-///     let greeting: text::Reader<'_> = message.get_root()?;
-///     println!(rt; "{greeting}")?;
+///     print_greeting(rt, &message?)?;
 /// }
 /// ```
 pub fn open_file<R: Files + AllocGlobal, P: AsPath>(
