@@ -3,131 +3,100 @@
 /// A struct before it is written, and a list of such structs as a type of the schema.
 pub const BUILDER: &str = "
 /// A list of such structs, as a type of the schema.
-pub struct OwnedList;
-
-impl<'a, S: ReaderSegments + 'a> traits::Owned<'a, S> for OwnedList {
-    type Reader = ListReader<'a, S>;
-}
-
-// The value is the list of the structs, with all below them.
-impl<'a, S: ReaderSegments> traits::SetterInput<OwnedList> for ListReader<'a, S> {
-    ghost has_tree = { λ list trees. IsStructListValue S.segments list.elements trees };
-
-    ghost fails = { λ list kind. StructListValueError S.segments list.elements kind };
-
-    ghost one = { λ list trees is. one_struct_list S.segments list.elements trees is };
-
-    fn measure(&self, canonical: bool) -> Result<u32> {
-        traits::SetterInput::measure(&self.elements, canonical)
-    }
-
-    fn is_null(&self) -> bool {
-        false
-    }
-
-    fn write(
-        &self,
-        canonical: bool,
-        block: &mut [u8],
-        following: usize,
-        next: usize,
-    ) -> traits::Copied {
-        traits::SetterInput::write(&self.elements, canonical, block, following, next)
-    }
-}
+pub type OwnedList = $upgraded::OwnedStructs<Owned>;
 
 /// A struct of this type before it is written. What is not set has its default.
 #[derive(Clone, Copy)]
 pub struct Builder {
     /// Its data words, and what its pointers point to.
-    pub draft: StructDraft<Owned, @words@, @pointers@>,
+    pub draft: $StructDraft<Owned, @words@, @pointers@>,
 }
 
 impl Builder {
     /// A builder in which nothing is set: each field has its default.
     pub fn new() -> Builder
-        ensures words { result.draft.words ≡ replicate @words@ 0 }
-        ensures pointers { result.draft.pointers ≡ replicate @pointers@ 0 }
+        ensures words { result.draft.words $≡ $replicate @words@ 0 }
+        ensures pointers { result.draft.pointers $≡ $replicate @pointers@ 0 }
     {
         Builder {
-            draft: StructDraft::new(),
+            draft: $StructDraft::new(),
         }
     }
 
-    /// A builder with what a reader shows, to be changed and written again. Each object that its
-    /// pointers point to is copied, as an orphan, and null stays null. What a writer of another
-    /// version of the type left out is zero or null; what it had in addition is left out.
+    /// A builder with what a reader shows, to be changed and written again. What its
+    /// pointers point to is copied, as orphans; null stays null. What another version of
+    /// the type left out is zero or null, and what it had in addition is left out.
     ///
-    /// A copy that a setter then replaces stays in the bytes of the message, where no pointer
-    /// points to it. Canonical words of the message are without it.
+    /// A copy that a setter then replaces stays in the bytes of the message, without a
+    /// pointer to it. Canonical words of the message are without it.
     ///
     /// Fails as `Orphanage::set` does, for the first pointer that can't be copied.
-    pub fn from_reader<R: ReaderSegments, S: GrowingSegment>(
+    pub fn from_reader<R: $ReaderSegments, S: $GrowingSegment>(
         read: &Reader<'_, R>,
-        objects: &mut Orphanage<S>,
-    ) -> Result<Builder>
-        ensures words { IfOk result (λ made. made.draft.words
-            ≡ data_up_to (struct_of R.segments read.now.fields) @words@) }
-        ensures copies { CopiesPointers (struct_of R.segments read.now.fields) @pointers@
+        objects: &mut $Orphanage<S>,
+    ) -> $Result<Builder>
+        ensures words { $IfOk result (λ made. made.draft.words
+            $≡ $data_up_to ($struct_of R.segments read.now.fields) @words@) }
+        ensures copies { $CopiesPointers ($struct_of R.segments read.now.fields) @pointers@
             objects.old objects.new (λ made. made.draft.pointers) result }
     {
-        match StructDraft::from_reader(&read.fields, objects) {
+        match $StructDraft::from_reader(&read.fields, objects) {
             Ok(draft) => Ok(Builder { draft }),
             Err(error) => Err(error),
         }
     }
 
-    /// A builder with the numbers, bools and enums that a reader shows, as `from_reader` has
-    /// them. Its pointers are null.
-    pub fn from_data_section<R: ReaderSegments>(read: &Reader<'_, R>) -> Builder
+    /// A builder with the numbers, bools and enums that a reader shows, as `from_reader`
+    /// has them. Its pointers are null.
+    pub fn from_data_section<R: $ReaderSegments>(read: &Reader<'_, R>) -> Builder
         ensures words { result.draft.words
-            ≡ data_up_to (struct_of R.segments read.now.fields) @words@ }
-        ensures pointers { result.draft.pointers ≡ replicate @pointers@ 0 }
+            $≡ $data_up_to ($struct_of R.segments read.now.fields) @words@ }
+        ensures pointers { result.draft.pointers $≡ $replicate @pointers@ 0 }
     {
         Builder {
-            draft: StructDraft::from_data_section(&read.fields),
+            draft: $StructDraft::from_data_section(&read.fields),
         }
     }
 
     /// Writes it, as an object that a pointer can point to.
-    pub fn add<S: GrowingSegment>(&self, objects: &mut Orphanage<S>) -> Result<Orphan<Owned>>
-        ensures adds { AddsOrphan (HoldsStruct (body_of objects.old) self.now.draft.words
-            self.now.draft.pointers) objects.old objects.new word_of result }
-        ensures writes { Writes (StructWords @words@ @pointers@) (StructSizeError @words@ @pointers@)
+    pub fn add<S: $GrowingSegment>(&self, objects: &mut $Orphanage<S>) -> $Result<$Orphan<Owned>>
+        ensures adds { $AddsOrphan ($HoldsStruct ($body_of objects.old) self.now.draft.words
+            self.now.draft.pointers) objects.old objects.new $word_of result }
+        ensures writes { $Writes ($StructWords @words@ @pointers@) ($StructSizeError @words@ @pointers@)
             objects.old objects.new result }
     {
         objects.add(&self.draft)
     }
 
     /// Writes it as the root of the message.
-    pub fn add_root<S: GrowingSegment>(&self, objects: &mut Orphanage<S>) -> Result<()>
-        ensures adds { AddsRoot (StructWords @words@ @pointers@) (HoldsStruct (body_of objects.old)
+    pub fn add_root<S: $GrowingSegment>(&self, objects: &mut $Orphanage<S>) -> $Result<()>
+        ensures adds { $AddsRoot ($StructWords @words@ @pointers@) ($HoldsStruct ($body_of objects.old)
             self.now.draft.words self.now.draft.pointers) objects.old objects.new result }
-        ensures fails { FailsToAdd (StructWords @words@ @pointers@) (StructSizeError @words@ @pointers@)
+        ensures fails { $FailsToAdd ($StructWords @words@ @pointers@) ($StructSizeError @words@ @pointers@)
             objects.old result }
     {
         objects.add_root(&self.draft)
     }
 
     /// Writes a list of such structs.
-    pub fn add_list<S: GrowingSegment>(
+    pub fn add_list<S: $GrowingSegment>(
         elements: &[Builder],
-        objects: &mut Orphanage<S>,
-    ) -> Result<Orphan<OwnedList>>
-        ensures adds { AddsOrphan (HoldsStructs (body_of objects.old)
-            (map (λ element. element.draft) elements.now)) objects.old objects.new word_of result }
-        ensures writes { let count = length elements.now in
-            Writes (TakesStructsWords @words@ @pointers@ count) (ManyStructs @words@ @pointers@ count)
+        objects: &mut $Orphanage<S>,
+    ) -> $Result<$Orphan<OwnedList>>
+        ensures adds { let drafts = $map (λ element. element.draft) elements.now in $AddsOrphan
+            ($HoldsStructs ($body_of objects.old) drafts) objects.old objects.new $word_of result }
+        ensures writes { let count = $length elements.now in
+            $Writes ($TakesStructsWords @words@ @pointers@ count) ($ManyStructs @words@ @pointers@ count)
             objects.old objects.new result }
     {
         objects.draft_list(elements)
     }
 }
 
-impl Draft<Owned, @words@, @pointers@> for Builder {
+impl $Draft<Owned, @words@, @pointers@> for Builder {
     ghost draft = { λ builder. builder.draft };
 
-    fn draft(&self) -> StructDraft<Owned, @words@, @pointers@> {
+    fn draft(&self) -> $StructDraft<Owned, @words@, @pointers@> {
         self.draft
     }
 }
@@ -141,7 +110,7 @@ impl @path@Builder {
 /// The setter of a number, a bool or an enum.
 pub const NUMBER_SETTER: &str = "pub fn set_@name@(&mut self, value: @type@)
     ensures words { @clause@ }
-    ensures pointers { self.new.draft.pointers ≡ self.old.draft.pointers }
+    ensures pointers { self.new.draft.pointers $≡ self.old.draft.pointers }
 {
     @code@
 }
@@ -150,7 +119,7 @@ pub const NUMBER_SETTER: &str = "pub fn set_@name@(&mut self, value: @type@)
 /// The setter of nothing that is a member of a union.
 pub const VOID_SETTER: &str = "pub fn set_@name@(&mut self)
     ensures words { @clause@ }
-    ensures pointers { self.new.draft.pointers ≡ self.old.draft.pointers }
+    ensures pointers { self.new.draft.pointers $≡ self.old.draft.pointers }
 {
     @code@
 }
@@ -158,12 +127,12 @@ pub const VOID_SETTER: &str = "pub fn set_@name@(&mut self)
 
 /// The setter of a group that is a member of a union.
 pub const GROUP_INIT: &str =
-    "/// Selects the group `@group@`, and clears what is in it: each field has its default, and each
-/// pointer is null.
+    "/// Selects the group `@group@`, and clears it: each field has its default, and each pointer
+/// is null.
 pub fn init_@name@(&mut self)
     ensures words { @words@ }
     ensures pointers { self.new.draft.pointers
-        ≡ @pointers@ }
+        $≡ @pointers@ }
 {
     @code@
 }
@@ -176,15 +145,15 @@ pub const OLD_WORDS: &str = "self.old.draft.words";
 pub const OLD_POINTERS: &str = "self.old.draft.pointers";
 
 /// What a clause says where the words stay the same.
-pub const WORDS_STAY: &str = "self.new.draft.words ≡ self.old.draft.words";
+pub const WORDS_STAY: &str = "self.new.draft.words $≡ self.old.draft.words";
 
 /// What a clause says of the words that are set.
 pub const WORDS_CLAUSE: &str = "self.new.draft.words
-    ≡ @words@";
+    $≡ @words@";
 
 /// What a clause says where an enum is set.
-pub const ENUM_CLAUSE: &str = "let words = @words@ in
-    elim value [
+pub const ENUM_CLAUSE: &str = "let old = @words@ in
+    let new = self.new.draft.words in elim value [
     @cases@
     ]";
 
@@ -194,10 +163,10 @@ pub const STAYS: &str = "///
 ";
 
 /// The setter of a pointer.
-pub const POINTER_SETTER: &str = "pub fn set_@name@@generic@(&mut self, value: Orphan<@owned@>)
+pub const POINTER_SETTER: &str = "pub fn set_@name@@generic@(&mut self, value: $Orphan<@owned@>)
     ensures words { @clause@ }
     ensures pointers { self.new.draft.pointers
-        ≡ slice_set self.old.draft.pointers @offset@ value.word }
+        $≡ $slice_set self.old.draft.pointers @offset@ value.word }
 {
     @code@
 }
@@ -207,7 +176,7 @@ pub const POINTER_SETTER: &str = "pub fn set_@name@@generic@(&mut self, value: O
 pub const HAS_SET: &str = "
 /// Whether `@field@` is set, and not to null.
 pub fn has_@name@(&self) -> bool
-    ensures { IsTrue result ↔ (slice_index_or self.now.draft.pointers @offset@ 0 ≢ 0) }
+    ensures { $IsTrue result $↔ ($slice_index_or self.now.draft.pointers @offset@ 0 $≢ 0) }
 {
     self.draft.has_pointer(@offset@)
 }

@@ -1,4 +1,4 @@
-//! Headers for C: the types of a schema over the calls of `capnp_c.h` and `capnp_c_types.h`.
+//! Headers for C: the types of a schema over the calls of `linsjoar.h` and `linsjoar_types.h`.
 pub mod builder_templates;
 pub mod builders;
 pub mod checked;
@@ -8,9 +8,14 @@ pub mod declared;
 pub mod enums;
 pub mod getters;
 pub mod header;
+pub mod included;
+pub mod list_lists;
+pub mod macros;
 pub mod names;
 pub mod numbers;
+pub mod prefixes;
 pub mod reserved;
+pub mod schema_types;
 pub mod setters;
 pub mod structs;
 pub mod templates;

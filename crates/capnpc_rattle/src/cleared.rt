@@ -73,7 +73,7 @@ impl Cleared {
     fn words(&self, alloc: Global, mut words: String) -> Result<String, AllocError> {
         for (width, offset) in self.fields.as_slice() {
             let before = words.as_str();
-            words = format!(in alloc; "(with_field {before}\n{width} {offset} 0)")?;
+            words = format!(in alloc; "($with_field {before}\n{width} {offset} 0)")?;
         }
         Ok(words)
     }
@@ -91,7 +91,7 @@ impl Cleared {
         let mut words = String::from_str(alloc, OLD_POINTERS)?;
         for index in self.pointers.as_slice() {
             let before = words.as_str();
-            words = format!(in alloc; "(slice_set {before} {index} 0)")?;
+            words = format!(in alloc; "($slice_set {before} {index} 0)")?;
         }
         Ok(words)
     }

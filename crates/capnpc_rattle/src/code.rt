@@ -1,5 +1,9 @@
 //! Code that is written line by line, at a depth of modules.
+use crate::imports::uncited;
 use std::alloc::{AllocError, Global};
+
+/// How many bytes two parts of a clause may have on one line.
+const CLAUSE_LENGTH: usize = 60;
 
 /// A name in a template, and the value that stands for it.
 #[derive(Drop)]
@@ -113,7 +117,8 @@ impl Code {
             if line.is_empty() {
                 self.add_lines("///")?;
             } else {
-                self.add_with("/// @line@", "line", line)?;
+                let line = uncited(self.alloc, line)?;
+                self.add_with("/// @line@", "line", line.as_str())?;
             }
         }
         Ok(())
@@ -167,6 +172,13 @@ impl Code {
         }
         Ok(())
     }
+}
+
+/// Two parts of a clause: on one line, or on two where they are too long for one.
+pub fn joined(alloc: Global, first: &str, second: &str) -> Result<String, AllocError> {
+    let length = first.len().saturating_add(second.len());
+    let between = if length > CLAUSE_LENGTH { '\n' } else { ' ' };
+    format!(in alloc; "{first}{between}{second}")
 }
 
 /// A template whose holes are filled, without a line's end after it. A hole without a value stays.

@@ -1,8 +1,10 @@
 //! What the program's words ask for.
 use crate::wanted::Wanted;
+use std::alloc::{AllocError, Global};
 
 /// What the program takes.
-pub const USAGE: &str = "usage: capnpc-rattle [FOLDER [builders | readers | print | c]..]\n";
+pub const USAGE: &str =
+    "usage: capnpc-rattle [FOLDER [builders | readers | print | c | crates]..]\n";
 
 /// The version of the program.
 pub const VERSION: &str = "capnpc-rattle 0.1.0\n";
@@ -22,13 +24,16 @@ pub const HELP: &str =
 The tool runs it without arguments. It reads a CodeGeneratorRequest from standard
 input, and writes NAME_capnp.rt for each NAME.capnp into the folder in which it runs.
 
-usage: capnpc-rattle [FOLDER [builders | readers | print | c]..]
+usage: capnpc-rattle [FOLDER [builders | readers | print | c | crates]..]
 
   FOLDER           where to write; - is standard output
   builders         readers and builders: this is the default
   readers          no builders
   print            a method of each reader that prints the struct
   c                headers for C, and no types in Rattle; without print
+  crates           imports from each crate of the library, not from capnp alone
+  prefix=FILE:NAME puts NAME_ before all names of that file's header
+  namespace        the same by $Cxx.namespace
   -h, --help       prints this
   -V, --version    prints the version
 
@@ -48,9 +53,29 @@ pub enum Task<'a> {
     Reject(&'a str),
 }
 
-/// What arguments ask for, or, if there are none after the folder, the words of a variable of the
-/// environment.
-pub fn task_of<'a>(arguments: &'a [String], variable: &'a str) -> Task<'a> {
+/// The words that count: what follows the folder, or, if nothing does, what a variable of the
+/// environment has, with commas between the words.
+pub fn words_of<'a>(
+    alloc: Global,
+    arguments: &'a [String],
+    variable: &'a str,
+) -> Result<Vec<&'a str>, AllocError> {
+    let mut words: Vec<&'a str> = Vec::new(alloc);
+    for word in arguments.get(1..).unwrap_or(&[]) {
+        words.push(word.as_str())?;
+    }
+    if words.is_empty() {
+        for word in variable.split(',') {
+            if !word.is_empty() {
+                words.push(word)?;
+            }
+        }
+    }
+    Ok(words)
+}
+
+/// What the folder among some arguments and these words ask for.
+pub fn task_of<'a>(arguments: &'a [String], words: &[&'a str]) -> Task<'a> {
     let folder = match arguments.first() {
         Some(folder) => folder.as_str(),
         None => ".",
@@ -59,30 +84,16 @@ pub fn task_of<'a>(arguments: &'a [String], variable: &'a str) -> Task<'a> {
         "-h" | "--help" => Task::Print(HELP),
         "-V" | "--version" => Task::Print(VERSION),
         _ if folder != "-" && folder.starts_with('-') => Task::Reject(folder),
-        _ => match arguments.get(1..) {
-            Some(words) if !words.is_empty() => task_by_words(folder, words),
-            _ => task_by_variable(folder, variable),
-        },
+        _ => task_by_words(folder, words),
     }
 }
 
 // What is to be written into a folder, by words.
-fn task_by_words<'a>(folder: &'a str, words: &'a [String]) -> Task<'a> {
+fn task_by_words<'a>(folder: &'a str, words: &[&'a str]) -> Task<'a> {
     let mut wanted = Wanted::new();
     for word in words {
-        if !wanted.ask(word.as_str()) {
-            return Task::Reject(word.as_str());
-        }
-    }
-    Task::Write(folder, wanted)
-}
-
-// The task by words with commas between them.
-fn task_by_variable<'a>(folder: &'a str, words: &'a str) -> Task<'a> {
-    let mut wanted = Wanted::new();
-    for word in words.split(',') {
-        if !word.is_empty() && !wanted.ask(word) {
-            return Task::Reject(word);
+        if !wanted.ask(*word) {
+            return Task::Reject(*word);
         }
     }
     Task::Write(folder, wanted)

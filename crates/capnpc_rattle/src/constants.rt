@@ -1,5 +1,6 @@
 //! Constants.
 use crate::code::{Code, Holes, fill_with};
+use crate::imports::uncited;
 use crate::names::{constant, snake, variant};
 use crate::numbers::{literal, number_of};
 use crate::paths::path_to;
@@ -72,10 +73,12 @@ fn push_constant(
         },
         Value::Text(text) => {
             let value = format!(in alloc; "{text:?}")?;
+            let value = uncited(alloc, value.as_str())?;
             push_line(alloc, code, name, "&str", value.as_str())
         }
         Value::Data(bytes) => {
             let value = byte_string(alloc, bytes.as_slice())?;
+            let value = uncited(alloc, value.as_str())?;
             push_line(alloc, code, name, "&[u8]", value.as_str())
         }
         Value::Object(_) => push_object(alloc, code, request, node, of, value),
@@ -119,7 +122,7 @@ pub fn push_view(
         .holding("signature", head_of(alloc, static_value, words.len()))
         .with("title", static_value.title.as_str())
         .with("name", name)
-        .holding("fact", static_value.view.fact(alloc, "result"));
+        .holding("fact", static_value.view.fact(alloc, "pointer", "result"));
     push_words(alloc, code, name, words.as_slice())?;
     push_layout(alloc, code, static_value, words.len())?;
     code.add(GET_WORDS, &holes)
@@ -163,8 +166,7 @@ fn head_of(
 
 // The type of what the getter of a view of a given number of bytes returns.
 fn view_type(alloc: Global, view: &View, bytes: usize) -> Result<String, AllocError> {
-    let type_name = view.type_name.as_str();
-    let type_name = format!(in alloc; "Result<{type_name}>")?;
+    let type_name = view.result_type(alloc)?;
     let size = format!(in alloc; "{bytes}")?;
     fill_with(alloc, type_name.as_str(), "size", size.as_str())
 }

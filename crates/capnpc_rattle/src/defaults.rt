@@ -50,59 +50,32 @@ pub fn shown_default(
         return Ok(None);
     };
     let views = Views { stored, default };
+    let holes = holes_of(alloc, field, place, "@value@", &views);
     if is_plain(place.of) {
-        return shown_plain(alloc, field, place, &views);
+        return shown_one(alloc, &views, &holes, DEFAULT_FACT, DEFAULT_BODY);
     }
     match place.of.base {
         Base::Struct(of) if place.of.lists == 0 && sets_no_pointers(&place.default) => {
-            shown_data(alloc, site, field, place, of, &views)
+            let holes = holes.holding("path", path_to(alloc, request, id, of));
+            shown_one(alloc, &views, &holes, DEFAULT_DATA_FACT, DEFAULT_DATA_BODY)
         }
         _ => shown_either(alloc, field, place, &views),
     }
 }
 
-// What is returned if the views of the message and of the default have one type.
-fn shown_plain(
+// What is returned, by these templates, if one type has the views of the message and of the default.
+fn shown_one(
     alloc: Global,
-    field: &Field,
-    place: &Place,
     views: &Views,
+    holes: &Holes,
+    fact: &str,
+    body: &str,
 ) -> Result<Option<Shown>, AllocError> {
-    let holes = holes_of(alloc, field, place, "@value@", views);
+    let fact = fill(alloc, fact, holes);
     Shown::new(
-        fill_with(
-            alloc,
-            "Result<@view@>",
-            "view",
-            views.stored.type_name.as_str(),
-        ),
-        fill(alloc, DEFAULT_FACT, &holes),
-        fill(alloc, DEFAULT_BODY, &holes),
-    )
-}
-
-// What is returned where the default is a struct, of this node, that sets no pointers.
-fn shown_data(
-    alloc: Global,
-    site: Site<'_>,
-    field: &Field,
-    place: &Place,
-    of: u64,
-    views: &Views,
-) -> Result<Option<Shown>, AllocError> {
-    let holes = holes_of(alloc, field, place, "@value@", views).holding(
-        "path",
-        path_to(alloc, site.request, site.node.id, of),
-    );
-    Shown::new(
-        fill_with(
-            alloc,
-            "Result<@view@>",
-            "view",
-            views.stored.type_name.as_str(),
-        ),
-        fill(alloc, DEFAULT_DATA_FACT, &holes),
-        fill(alloc, DEFAULT_DATA_BODY, &holes),
+        views.stored.result_type(alloc),
+        fact,
+        fill(alloc, body, holes),
     )
 }
 
@@ -127,15 +100,15 @@ fn holes_of(alloc: Global, field: &Field, place: &Place, view: &str, views: &Vie
         .holding("offset", format!(in alloc; "{}", place.offset))
         .holding("default", default_name(alloc, field.name.as_str()))
         .holding("name", snake(alloc, field.name.as_str()))
-        .holding("stored", views.stored.fact(alloc, view))
-        .holding("fact", views.default.fact(alloc, view))
+        .holding("stored", views.stored.fact(alloc, "pointer", view))
+        .holding("fact", views.default.fact(alloc, "pointer", view))
 }
 
 // The type of a view of the message, or of the default.
 fn either_type(alloc: Global, place: &Place, views: &Views) -> Result<String, AllocError> {
     let default = sized_type(alloc, &views.default, place)?;
     let (stored, default) = (views.stored.type_name.as_str(), default.as_str());
-    format!(in alloc; "OrDefault<{stored}, {default}>")
+    format!(in alloc; "$OrDefault<{stored}, {default}>")
 }
 
 // The type of a view of a default, with the number of the bytes of its words.

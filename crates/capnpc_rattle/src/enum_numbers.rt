@@ -20,8 +20,8 @@ pub fn push_to_number(
 
 // The cases of a clause that says which number each variant has.
 fn number_cases(alloc: Global, type_name: &str, names: &[String]) -> Result<String, AllocError> {
-    let line = "  | @type@.@variant@ ↦ result ≡ @count@";
-    let last = "  | @type@.NotInSchema unknown ↦ result ≡ unknown";
+    let line = "  | @type@.@variant@ ↦ result $≡ @count@";
+    let last = "  | @type@.NotInSchema unknown ↦ result $≡ unknown";
     lines_of(alloc, type_name, names, line, last)
 }
 

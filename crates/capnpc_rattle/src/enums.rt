@@ -2,7 +2,6 @@
 use crate::code::{Code, Holes};
 use crate::enum_numbers::push_to_number;
 use crate::getters::Site;
-use crate::list_templates::ENUM_ELEMENT;
 use crate::names::{enum_type, scope_name, variant};
 use crate::paths::path_to;
 use crate::schema::{Base, Body, Field, Node, Request, Slot};
@@ -21,8 +20,8 @@ pub fn cases_of(
         alloc,
         type_name,
         enumerants_of(request, id),
-        "  | @type@.@variant@ ↦ number ≡ @count@",
-        "  | @type@.NotInSchema unknown ↦ (unknown ≡ number) × (@count@ ≤ number)",
+        "  | @type@.@variant@ ↦ number $≡ @count@",
+        "  | @type@.NotInSchema unknown ↦ (unknown $≡ number) × (@count@ $≤ number)",
     )
 }
 
@@ -199,12 +198,10 @@ pub fn push_enum(
     code.depth = code.depth.saturating_add(1);
     push_variants(alloc, code, node, names)?;
     code.depth = code.depth.saturating_sub(1);
-    let holes = Holes::new(alloc)
-        .with("type", type_name)
+    let holes = line_holes(alloc, type_name, names.len())
         .holding("cases", cases_of(alloc, request, node.id, type_name))
         .holding("arms", variant_arms(alloc, type_name, names));
     code.add(ENUM_END, &holes)?;
-    code.add(ENUM_ELEMENT, &line_holes(alloc, type_name, names.len()))?;
     if request.wanted.builders {
         push_to_number(alloc, code, type_name, names)?;
     }

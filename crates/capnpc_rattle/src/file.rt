@@ -2,8 +2,7 @@
 use crate::code::Code;
 use crate::constants::push_constants;
 use crate::enums::push_enum;
-use crate::imports::{push_definitions, push_imports};
-use crate::layout::laid_out;
+use crate::imports::{push_file, push_module, uncited};
 use crate::names::base_name;
 use crate::printing::push_printing;
 use crate::schema::{Body, Node, Request, Slot, Struct};
@@ -45,10 +44,32 @@ pub fn code_of(alloc: Global, request: &Request, file: u64) -> Result<String, Al
     }
     let mut code = Code::new(alloc, 0);
     let name = base_name(request.file_name(file).unwrap_or(""));
-    code.add_with(FILE, "file", name)?;
-    push_definitions(alloc, &mut code, body.lines.as_str())?;
-    code.lines.push_str(body.lines.as_str())?;
-    laid_out(alloc, code.lines.as_str())
+    code.add_with(FILE, "file", uncited(alloc, name)?.as_str())?;
+    push_file(alloc, &mut code, request, body.lines.as_str())?;
+    marked(alloc, code.lines.as_str())
+}
+
+// Code in which each item is marked, so that the toolchain's formatter leaves it as it is.
+fn marked(alloc: Global, code: &str) -> Result<String, AllocError> {
+    let mut lines = String::new(alloc);
+    let mut is_marked = false;
+    for line in code.lines() {
+        if begins_item(line) && !is_marked {
+            lines.push_str("#[rattlefmt::skip]\n")?;
+        }
+        is_marked = line.starts_with("#[");
+        lines.push_str(line)?;
+        lines.push('\n')?;
+    }
+    Ok(lines)
+}
+
+// Whether an item of a file begins with a line, or an attribute of one.
+fn begins_item(line: &str) -> bool {
+    line.starts_with("pub ")
+        || line.starts_with("use ")
+        || line.starts_with("impl")
+        || line.starts_with("#[")
 }
 
 // Adds the constants of a file or an interface, with what they import; the other declarations there
@@ -62,13 +83,11 @@ fn push_declared(
 ) -> Result<(), AllocError> {
     let mut constants = Code::new(alloc, code.depth);
     push_constants(alloc, &mut constants, request, node)?;
-    let mut imports = Code::new(alloc, code.depth);
-    push_imports(alloc, &mut imports, &[], constants.lines.as_str())?;
-    if !imports.lines.is_empty() {
+    let constants = constants.lines.trim_start();
+    if !constants.is_empty() {
         code.add_gap()?;
+        push_module(alloc, code, request, &[], constants)?;
     }
-    code.lines.push_str(imports.lines.as_str())?;
-    code.lines.push_str(constants.lines.as_str())?;
     push_nested(steps, node)
 }
 

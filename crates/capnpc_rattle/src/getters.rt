@@ -1,14 +1,11 @@
 //! What getters return, and what clauses say of it.
-use crate::code::{Holes, fill, fill_with};
+use crate::code::{Holes, fill, fill_with, joined};
 use crate::defaults::{has_default, shown_default};
 use crate::enums::{cases_of, enum_name};
 use crate::names::module;
 use crate::numbers::Stored;
-use crate::paths::path_to;
 use crate::schema::{Base, Body, Field, Node, Place, Request, Slot};
-use crate::templates::{
-    ANY_POINTER_BODY, ANY_POINTER_FACT, ENUM_FACT, GROUP_BODY, POINTER_FACT, STRUCT_BODY, VIEW_BODY,
-};
+use crate::templates::{ANY_POINTER_BODY, ANY_POINTER_FACT, ENUM_FACT, GROUP_BODY, VIEW_BODY};
 use crate::views::{MESSAGE, View, view_of};
 use std::alloc::{AllocError, Global};
 
@@ -39,9 +36,9 @@ impl<'r> Site<'r> {
     /// The struct of the fields, as a clause names it.
     pub fn fields(&self) -> &'static str {
         if self.is_group() {
-            "struct_of S.segments self.now.fields.now"
+            "$struct_of S.segments self.now.fields.now"
         } else {
-            "struct_of S.segments self.now.fields"
+            "$struct_of S.segments self.now.fields"
         }
     }
 
@@ -104,7 +101,7 @@ fn shown_group(alloc: Global, site: Site<'_>, group: &Node) -> Result<Option<Sho
     let holes = Holes::new(alloc).with("name", name).with("fields", fields);
     Shown::new(
         fill_with(alloc, "@name@::Reader<@borrow@, 'a, S>", "name", name),
-        String::from_str(alloc, "struct_of S.segments @value@.fields.now ≡ fields"),
+        String::from_str(alloc, "$struct_of S.segments @value@.fields.now $≡ fields"),
         fill(alloc, GROUP_BODY, &holes),
     )
 }
@@ -121,7 +118,7 @@ fn shown_number(
     }
     Shown::new(
         String::from_str(alloc, stored.number.type_name),
-        fill_with(alloc, "@value@ ≡ @bits@", "bits", value.as_str()),
+        joined(alloc, "@value@ $≡", value.as_str()),
         stored.call(alloc),
     )
 }
@@ -169,7 +166,7 @@ fn shown_pointer(
 // A pointer that has no default.
 fn shown_stored(alloc: Global, site: Site<'_>, place: &Place) -> Result<Option<Shown>, AllocError> {
     match view_of(alloc, site.request, site.node.id, place.of, MESSAGE)? {
-        Some(view) => shown_view(alloc, site, place, &view),
+        Some(view) => shown_view(alloc, place, &view),
         None => Ok(None),
     }
 }
@@ -179,45 +176,20 @@ fn shown_any_pointer(alloc: Global, offset: u32) -> Result<Option<Shown>, AllocE
     let offset = format!(in alloc; "{offset}")?;
     let offset = offset.as_str();
     Shown::new(
-        String::from_str(alloc, "any_pointer::Reader<'a, S>"),
+        String::from_str(alloc, "$any_pointer::Reader<'a, S>"),
         fill_with(alloc, ANY_POINTER_FACT, "offset", offset),
         fill_with(alloc, ANY_POINTER_BODY, "offset", offset),
     )
 }
 
 // A view of what a pointer points to.
-fn shown_view(
-    alloc: Global,
-    site: Site<'_>,
-    place: &Place,
-    view: &View,
-) -> Result<Option<Shown>, AllocError> {
-    let holes = Holes::new(alloc)
-        .holding("offset", format!(in alloc; "{}", place.offset))
-        .holding("fact", view.fact(alloc, "@value@"));
+fn shown_view(alloc: Global, place: &Place, view: &View) -> Result<Option<Shown>, AllocError> {
+    let offset = format!(in alloc; "{}", place.offset)?;
+    let offset = offset.as_str();
+    let pointer = format!(in alloc; "($pointer_in fields {offset})")?;
     Shown::new(
-        fill_with(alloc, "Result<@view@>", "view", view.type_name.as_str()),
-        fill(alloc, POINTER_FACT, &holes),
-        view_body(alloc, site, place),
+        view.result_type(alloc),
+        view.fact(alloc, pointer.as_str(), "@value@"),
+        fill_with(alloc, VIEW_BODY, "offset", offset),
     )
-}
-
-// The code that returns a view.
-fn view_body(alloc: Global, site: Site<'_>, place: &Place) -> Result<String, AllocError> {
-    let holes = Holes::new(alloc).holding("offset", format!(in alloc; "{}", place.offset));
-    let (reader, part) = match place.of.lists {
-        0 => ("Reader", "fields"),
-        _ => ("ListReader", "elements"),
-    };
-    match place.of.base {
-        Base::Struct(id) if place.of.lists < 2 => {
-            let path = path_to(alloc, site.request, site.node.id, id);
-            let holes = holes
-                .with("reader", reader)
-                .with("part", part)
-                .holding("path", path);
-            fill(alloc, STRUCT_BODY, &holes)
-        }
-        _ => fill(alloc, VIEW_BODY, &holes),
-    }
 }

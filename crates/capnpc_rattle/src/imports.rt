@@ -1,54 +1,21 @@
-//! What code imports: only the names that it uses.
+//! What code imports: the names that its templates cite.
+//!
+//! A template has `$name` where it cites a name of `importable.rt`, or a crate of the library. What
+//! a schema says has `${}` in place of a `$`.
 use crate::code::{Code, Holes};
-use crate::importable::{DEFINITIONS, ITEMS, ORPHANS, TRAITS, VIEWS};
+use crate::importable::{DEFINITIONS, ITEMS};
+use crate::schema::Request;
 use std::alloc::{AllocError, Global};
-use std::fmt::Write;
 
 /// Whether clauses cite something by this name.
 pub fn is_definition(name: &str) -> bool {
-    for (_, names) in DEFINITIONS {
-        if names.iter().any(|cited| word_of(cited) == name) {
-            return true;
-        }
-    }
-    false
-}
-
-/// Adds the lines that import what the clauses of some code cite.
-pub fn push_definitions(alloc: Global, code: &mut Code, body: &str) -> Result<(), AllocError> {
-    for (module, names) in DEFINITIONS {
-        push_cited(alloc, code, module, names, body)?;
-    }
-    Ok(())
-}
-
-// Adds the line that imports from a module the names, out of some, that are cited.
-fn push_cited(
-    alloc: Global,
-    code: &mut Code,
-    module: &str,
-    names: &[&str],
-    body: &str,
-) -> Result<(), AllocError> {
-    let mut found = String::new(alloc);
-    for name in names {
-        if cites(body, word_of(name)) {
-            push_name(&mut found, name)?;
-        }
-    }
-    if found.is_empty() {
-        return Ok(());
-    }
-    let holes = Holes::new(alloc)
-        .with("module", module)
-        .with("names", found.as_str());
-    code.add("ghost use Rattle.@module@.{@names@};", &holes)
+    DEFINITIONS.iter().any(|(_, names)| names.split(", ").any(|cited| word_of(cited) == name))
 }
 
 // The word with which a name is cited.
 fn word_of<'a>(name: &'a str) -> &'a str {
     if name == "if◌then◌else◌" {
-        return "then";
+        return "if";
     }
     match name.split_once(" as ") {
         Some((_, word)) => word,
@@ -56,25 +23,135 @@ fn word_of<'a>(name: &'a str) -> &'a str {
     }
 }
 
-// Whether a word is in code, outside of its comments.
-fn cites(body: &str, word: &str) -> bool {
-    for line in body.lines() {
-        if line.contains(word)
-            && !line.trim_start().starts_with("//")
-            && (word == "[]" || line.split(is_between).any(|part| part == word))
-        {
-            return true;
-        }
-    }
-    false
+/// What a schema says, as code that cites nothing.
+pub fn uncited(alloc: Global, text: &str) -> Result<String, AllocError> {
+    text.replace(alloc, "$", "${}")
 }
 
-// Whether a letter separates words.
-fn is_between(letter: char) -> bool {
-    matches!(
-        letter,
-        ' ' | '.' | ',' | ';' | ':' | '(' | ')' | '[' | ']' | '{' | '}'
-    )
+/// Adds the code of a module, after the lines that import the enums of these paths and the items
+/// that it cites.
+pub fn push_module(
+    alloc: Global,
+    code: &mut Code,
+    request: &Request,
+    enums: &[String],
+    body: &str,
+) -> Result<(), AllocError> {
+    let mut lines = String::new(alloc);
+    let mut cited: Vec<String> = Vec::new(alloc);
+    let mut is_first = true;
+    for part in body.split('$') {
+        let word = word_at(part);
+        if !is_first && is_item(word) {
+            push_new(alloc, &mut cited, word)?;
+        } else if !is_first {
+            lines.push('$')?;
+        }
+        lines.push_str(part)?;
+        is_first = false;
+    }
+    for path in enums {
+        code.add_with("use @path@;", "path", path.as_str())?;
+    }
+    push_items(alloc, code, request, cited.as_slice())?;
+    if !enums.is_empty() || !cited.is_empty() {
+        code.add_gap()?;
+    }
+    code.lines.push_str(lines.as_str())
+}
+
+// The name or the operator with which some code begins.
+fn word_at<'a>(code: &'a str) -> &'a str {
+    if code.starts_with("[]") {
+        return "[]";
+    }
+    let rest = code.trim_start_matches(is_in_name);
+    let length = code.len().saturating_sub(rest.len());
+    if length == 0 {
+        return code.split(' ').next().unwrap_or("");
+    }
+    code.get(..length).unwrap_or("")
+}
+
+// Whether a letter may be in a name.
+fn is_in_name(letter: char) -> bool {
+    letter.is_ascii_alphanumeric() || letter == '_'
+}
+
+// Whether modules import an item of this name.
+fn is_item(word: &str) -> bool {
+    ITEMS
+        .iter()
+        .any(|(_, _, names)| names.split(", ").any(|name| name == word))
+}
+
+// Adds a word, unless it is there already.
+fn push_new(alloc: Global, words: &mut Vec<String>, word: &str) -> Result<(), AllocError> {
+    if !contains(words.as_slice(), word) {
+        words.push(String::from_str(alloc, word)?)?;
+    }
+    Ok(())
+}
+
+// Whether a word is among some.
+fn contains(words: &[String], word: &str) -> bool {
+    words.iter().any(|other| other.as_str() == word)
+}
+
+// Adds the lines that import items of these names, one for each module that has some.
+fn push_items(
+    alloc: Global,
+    code: &mut Code,
+    request: &Request,
+    cited: &[String],
+) -> Result<(), AllocError> {
+    let mut last = String::new(alloc);
+    let mut found = String::new(alloc);
+    for (origin, module, names) in ITEMS {
+        let origin = crate_name(request, origin);
+        let path = format!(in alloc; "{origin}{module}")?;
+        if path.as_str() != last.as_str() {
+            push_import(alloc, code, last.as_str(), found.as_str())?;
+            found.clear();
+            last = path;
+        }
+        for name in names.split(", ") {
+            if contains(cited, name) {
+                push_name(&mut found, name)?;
+            }
+        }
+    }
+    push_import(alloc, code, last.as_str(), found.as_str())
+}
+
+// Adds the line that imports some names from a module, with commas between them.
+fn push_import(
+    alloc: Global,
+    code: &mut Code,
+    module: &str,
+    names: &str,
+) -> Result<(), AllocError> {
+    let holes = Holes::new(alloc)
+        .with("module", module)
+        .with("names", names);
+    if names.contains(',') {
+        code.add("use @module@::{@names@};", &holes)
+    } else if !names.is_empty() {
+        code.add("use @module@::@names@;", &holes)
+    } else {
+        Ok(())
+    }
+}
+
+// The name by which code has a crate of the library: `capnp` passes on what the others declare.
+fn crate_name<'a>(request: &Request, origin: &'a str) -> &'a str {
+    if request.wanted.crates {
+        return origin;
+    }
+    match origin {
+        "capnp_orphans" => "capnp::orphans",
+        _ => "capnp",
+    }
 }
 
 // Adds a name to a list of them.
@@ -85,184 +162,72 @@ fn push_name(list: &mut String, name: &str) -> Result<(), AllocError> {
     list.push_str(name)
 }
 
-/// Adds the lines that import what a module has: enums by these paths, and what is named in its
-/// code.
-pub fn push_imports(
+/// Adds the code of a file, after the lines that import what its clauses cite.
+pub fn push_file(
     alloc: Global,
     code: &mut Code,
-    enums: &[String],
+    request: &Request,
     body: &str,
 ) -> Result<(), AllocError> {
-    let mut lines: Vec<(String, String)> = Vec::new(alloc);
-    push_enums(alloc, &mut lines, enums)?;
-    push_items(alloc, &mut lines, body)?;
-    push_group(alloc, &mut lines, "capnp_orphans", ORPHANS, body)?;
-    push_group(alloc, &mut lines, "capnp_wire::traits", TRAITS, body)?;
-    push_group(alloc, &mut lines, "capnp_wire", VIEWS, body)?;
-    lines.sort()?;
-    for (_, path) in lines.as_slice() {
-        code.add_with("use @path@;", "path", path.as_str())?;
-    }
-    Ok(())
-}
-
-// Adds the lines that import enums by these paths, one for each module that declares some.
-fn push_enums(
-    alloc: Global,
-    lines: &mut Vec<(String, String)>,
-    paths: &[String],
-) -> Result<(), AllocError> {
-    let mut sorted: Vec<(String, &str)> = Vec::new(alloc);
-    for path in paths {
-        sorted.push((order_of(alloc, path.as_str())?, path.as_str()))?;
-    }
-    sorted.sort()?;
-    let mut last = "";
-    let mut names = String::new(alloc);
-    for (_, path) in sorted.as_slice() {
-        let (module, name) = path.rsplit_once("::").unwrap_or(("", path));
-        if module != last {
-            push_names(alloc, lines, last, names.as_str())?;
-            names.clear();
-            last = module;
-        }
-        push_name(&mut names, name)?;
-    }
-    push_names(alloc, lines, last, names.as_str())
-}
-
-// Adds the lines that import one item each.
-fn push_items(
-    alloc: Global,
-    lines: &mut Vec<(String, String)>,
-    body: &str,
-) -> Result<(), AllocError> {
-    for (word, path) in ITEMS {
-        if body.contains(*word) {
-            push_line(alloc, lines, path)?;
-        }
-    }
-    push_words(alloc, lines, body)
-}
-
-// Adds the line that imports this path, with a key for its place among the others.
-fn push_line(
-    alloc: Global,
-    lines: &mut Vec<(String, String)>,
-    path: &str,
-) -> Result<(), AllocError> {
-    let order = order_of(alloc, path)?;
-    lines.push((order, String::from_str(alloc, path)?))?;
-    Ok(())
-}
-
-// A key that sorts paths as `rt fmt` does: paths with more `super` come first, and numbers in names
-// count as numbers.
-fn order_of(alloc: Global, path: &str) -> Result<String, AllocError> {
-    let mut key = String::new(alloc);
-    for part in path.split("::") {
-        if part == "super" {
-            key.push(' ')?;
+    let mut lines = String::new(alloc);
+    let mut cited: Vec<String> = Vec::new(alloc);
+    let mut is_first = true;
+    for part in body.split('$') {
+        let word = word_at(part);
+        if is_first {
+            lines.push_str(part)?;
+        } else if let Some(rest) = part.strip_prefix("{}") {
+            lines.push('$')?;
+            lines.push_str(rest)?;
+        } else if word.starts_with("capnp_") {
+            lines.push_str(crate_name(request, word))?;
+            lines.push_str(part.strip_prefix(word).unwrap_or(""))?;
         } else {
-            push_ordered(alloc, &mut key, part)?;
+            push_new(alloc, &mut cited, word)?;
+            lines.push_str(part)?;
         }
-        key.push(' ')?;
+        is_first = false;
     }
-    Ok(key)
+    push_definitions(alloc, code, request, cited.as_slice())?;
+    code.lines.push_str(lines.as_str())
 }
 
-// Adds a name to a key, in front of each number how many digits it has.
-fn push_ordered(alloc: Global, key: &mut String, name: &str) -> Result<(), AllocError> {
-    let mut digits = String::new(alloc);
-    for letter in name.chars() {
-        if letter.is_ascii_digit() {
-            digits.push(letter)?;
-            continue;
-        }
-        push_digits(key, &mut digits)?;
-        key.push(letter)?;
-    }
-    push_digits(key, &mut digits)
-}
-
-// Adds a number to a key, and takes it away.
-fn push_digits(key: &mut String, digits: &mut String) -> Result<(), AllocError> {
-    if !digits.is_empty() {
-        write!(key, "{:02}{digits}", digits.len())?;
-        digits.clear();
-    }
-    Ok(())
-}
-
-// Adds the line that imports what constants and defaults are made of.
-fn push_words(
+// Adds the lines that import definitions of these names.
+fn push_definitions(
     alloc: Global,
-    lines: &mut Vec<(String, String)>,
-    body: &str,
+    code: &mut Code,
+    request: &Request,
+    cited: &[String],
 ) -> Result<(), AllocError> {
-    if body.contains("OrDefault<") {
-        return push_line(alloc, lines, "capnp_wire::constant::{OrDefault, Words}");
-    }
-    if body.contains(": Words<") {
-        return push_line(alloc, lines, "capnp_wire::constant::Words");
-    }
-    Ok(())
-}
-
-// Adds the line that imports from a module the names, out of some, that occur in the code, each as
-// it is named there.
-fn push_group(
-    alloc: Global,
-    lines: &mut Vec<(String, String)>,
-    module: &str,
-    names: &[(&str, &str)],
-    body: &str,
-) -> Result<(), AllocError> {
-    let mut found = String::new(alloc);
-    for (name, use_of) in names {
-        if is_named(body, use_of) {
-            push_name(&mut found, name)?;
+    let mut passed_on = String::new(alloc);
+    for (module, names) in DEFINITIONS {
+        let is_own_line = request.wanted.crates || module.starts_with("std.");
+        let mut found = String::new(alloc);
+        for name in names.split(", ") {
+            let word = word_of(name);
+            if contains(cited, word) && is_own_line {
+                push_name(&mut found, name)?;
+            } else if contains(cited, word) {
+                push_name(&mut passed_on, word)?;
+            }
         }
+        push_definitions_of(alloc, code, module, found.as_str())?;
     }
-    push_names(alloc, lines, module, found.as_str())
+    push_definitions_of(alloc, code, "capnp.specs.Made", passed_on.as_str())
 }
 
-// Adds the line that imports some names from a module, with commas between them.
-fn push_names(
+// Adds the line that imports some definitions of a module.
+fn push_definitions_of(
     alloc: Global,
-    lines: &mut Vec<(String, String)>,
+    code: &mut Code,
     module: &str,
     names: &str,
 ) -> Result<(), AllocError> {
     if names.is_empty() {
         return Ok(());
     }
-    let path = if names == "self" || names.contains(',') {
-        format!(in alloc; "{module}::{{{names}}}")?
-    } else {
-        format!(in alloc; "{module}::{names}")?
-    };
-    push_line(alloc, lines, path.as_str())
-}
-
-// Whether the code contains a path that is no part of a longer one.
-fn is_named(body: &str, path: &str) -> bool {
-    let mut before: Option<&str> = None;
-    for part in body.split(path) {
-        if let Some(before) = before
-            && !is_part(before)
-        {
-            return true;
-        }
-        before = Some(part);
-    }
-    false
-}
-
-// Whether what follows some code continues the path at its end.
-fn is_part(before: &str) -> bool {
-    match before.chars().next_back() {
-        Some(letter) => letter == ':' || letter == '_' || letter.is_ascii_alphanumeric(),
-        None => false,
-    }
+    let holes = Holes::new(alloc)
+        .with("module", module)
+        .with("names", names);
+    code.add("ghost use Rattle.@module@.{@names@};", &holes)
 }

@@ -11,9 +11,6 @@
 #![tactic(auto)]
 
 mod annotations;
-mod brackets;
-mod breaking;
-mod broken_heads;
 mod builder_getters;
 mod builder_templates;
 mod builders;
@@ -32,14 +29,11 @@ mod getters;
 mod importable;
 mod imports;
 mod input;
-mod layout;
-mod list_templates;
 mod names;
 mod numbers;
 mod output;
 mod owned_types;
 mod owners;
-mod part;
 mod paths;
 mod pointer_names;
 mod pointer_setters;
@@ -61,7 +55,8 @@ mod views;
 mod wanted;
 mod words;
 
-use crate::command::{Task, USAGE, WAITING, task_of};
+use crate::c::prefixes::put_prefixes;
+use crate::command::{Task, USAGE, WAITING, task_of, words_of};
 use crate::output::{Output, outputs_of, write_outputs};
 use crate::schema::Request;
 use crate::schema_capnp::code_generator_request;
@@ -91,9 +86,11 @@ fn run(rt: &HostRuntime) -> Result<ExitCode> {
         Ok(words) => words,
         Err(_) => String::new(alloc),
     };
-    match task_of(arguments.get(1..).unwrap_or(&[]), variable.as_str()) {
+    let arguments = arguments.get(1..).unwrap_or(&[]);
+    let words = words_of(alloc, arguments, variable.as_str())?;
+    match task_of(arguments, words.as_slice()) {
         Task::Print(output) => print!(rt; "{output}")?,
-        Task::Write(folder, wanted) => write_into(alloc, rt, folder, wanted)?,
+        Task::Write(folder, wanted) => write_into(alloc, rt, folder, wanted, words.as_slice())?,
         Task::Reject(word) => {
             eprint!(rt; "capnpc-rattle: unknown word `{word}`\n{USAGE}")?;
             return Ok(ExitCode::from(2));
@@ -103,11 +100,19 @@ fn run(rt: &HostRuntime) -> Result<ExitCode> {
 }
 
 // Reads the request, and writes what it asks for.
-fn write_into(alloc: Global, rt: &HostRuntime, folder: &str, wanted: Wanted) -> Result<()> {
+fn write_into(
+    alloc: Global,
+    rt: &HostRuntime,
+    folder: &str,
+    wanted: Wanted,
+    words: &[&str],
+) -> Result<()> {
     if rt.stdin().is_terminal() {
         eprint!(rt; "{WAITING}")?;
     }
-    let outputs = outputs_from(alloc, rt, wanted)?;
+    let mut request = request_from(alloc, rt, wanted)?;
+    put_prefixes(alloc, &mut request, words)?;
+    let outputs = outputs_of(alloc, &request)?;
     if folder == "-" {
         print_outputs(rt, outputs.as_slice())
     } else {
@@ -125,12 +130,6 @@ fn request_from(alloc: Global, rt: &HostRuntime, wanted: Wanted) -> Result<Reque
     request::read_request(alloc, &root, wanted).context(
         "standard input is no request of the schema compiler",
     )
-}
-
-// Reads the request, and makes what it asks for.
-fn outputs_from(alloc: Global, rt: &HostRuntime, wanted: Wanted) -> Result<Vec<Output>> {
-    let request = request_from(alloc, rt, wanted)?;
-    outputs_of(alloc, &request)
 }
 
 // Prints what is asked for.

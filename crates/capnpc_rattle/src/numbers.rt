@@ -83,18 +83,18 @@ impl Stored {
         let default = self.default;
         let is_whole = matches!(self.number.kind, NumberKind::Unsigned | NumberKind::Bool);
         let bits = if default != 0 {
-            format!(in alloc; "(bit_xor (field fields.words {width} {offset}) {default})")?
+            format!(in alloc; "($bit_xor ($field fields.words {width} {offset}) {default})")?
         } else if is_whole {
-            format!(in alloc; "field fields.words {width} {offset}")?
+            format!(in alloc; "$field fields.words {width} {offset}")?
         } else {
-            format!(in alloc; "(field fields.words {width} {offset})")?
+            format!(in alloc; "($field fields.words {width} {offset})")?
         };
         let bits = bits.as_str();
         match self.number.kind {
-            NumberKind::Bool => format!(in alloc; "({bits} == 1)"),
+            NumberKind::Bool => format!(in alloc; "({bits} $== 1)"),
             NumberKind::Unsigned => String::from_str(alloc, bits),
-            NumberKind::Signed => format!(in alloc; "cast_signed w{width} {bits}"),
-            NumberKind::Float => format!(in alloc; "from_bits binary{width} {bits}"),
+            NumberKind::Signed => format!(in alloc; "$cast_signed $w{width} {bits}"),
+            NumberKind::Float => format!(in alloc; "$from_bits $binary{width} {bits}"),
         }
     }
 

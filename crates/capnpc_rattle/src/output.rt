@@ -1,10 +1,11 @@
 //! The files that are written.
 use crate::c::checked::check_header;
 use crate::c::header::header_of;
+use crate::c::included::check_included;
 use crate::checked::check_file;
 use crate::file::code_of;
 use crate::names::{base_name, file_module};
-use crate::schema::Request;
+use crate::schema::{Body, Request};
 use anyhow::{Context, Result, bail};
 use std::alloc::{AllocError, Global};
 use std::fs;
@@ -23,11 +24,11 @@ pub fn outputs_of(alloc: Global, request: &Request) -> Result<Vec<Output>> {
     if request.files.is_empty() {
         bail!("standard input asks for no file");
     }
+    check_output_names(alloc, request)?;
     for file in request.files.as_slice() {
         let schema = file.name.as_str();
         check_file(alloc, request, file.id).context(format_args!("{}", base_name(schema)))?;
         let name = output_name(alloc, request, schema)?;
-        expect_new(outputs.as_slice(), name.as_str())?;
         let code = output_code(alloc, request, file.id).context(format_args!(
             "{}",
             base_name(schema)
@@ -50,16 +51,25 @@ fn output_code(alloc: Global, request: &Request, file: u64) -> Result<String> {
     if !request.wanted.for_c {
         return Ok(code_of(alloc, request, file)?);
     }
+    check_included(alloc, request, file)?;
     let header = header_of(alloc, request, file)?;
     check_header(alloc, header.as_str())?;
     Ok(header)
 }
 
-// Fails for the name of a file that is written already.
-fn expect_new(outputs: &[Output], name: &str) -> Result<()> {
-    for output in outputs {
-        if output.name.as_str() == name {
-            bail!("two schemas would be written to `{name}`");
+// Fails for two files of a request, imports among them, whose outputs would have one name.
+fn check_output_names(alloc: Global, request: &Request) -> Result<()> {
+    let mut outputs: Vec<(String, &str)> = Vec::new(alloc);
+    for node in request.nodes.as_slice() {
+        if let Body::File = &node.body {
+            let schema = request.file_name(node.id).unwrap_or("");
+            let name = output_name(alloc, request, schema)?;
+            for (other, of) in outputs.as_slice() {
+                if other.as_str() == name.as_str() {
+                    bail!("`{of}` and `{schema}` would both be written to `{name}`");
+                }
+            }
+            outputs.push((name, schema))?;
         }
     }
     Ok(())

@@ -12,7 +12,7 @@ pub fn owned_type(alloc: Global, site: Site<'_>, of: Type) -> Result<String, All
     let count = pointer_lists(of);
     let mut path = String::new(alloc);
     for _ in 0..count {
-        path.push_str("capnp_wire::list_list::Owned<")?;
+        path.push_str("$capnp_wire::list_list::Owned<")?;
     }
     path.push_str(inner.as_str())?;
     for _ in 0..count {
@@ -33,9 +33,9 @@ fn pointer_lists(of: Type) -> u32 {
 // numbers.
 fn inner_type(alloc: Global, site: Site<'_>, of: Type) -> Result<String, AllocError> {
     match of.base {
-        Base::Text => String::from_str(alloc, "text::Owned"),
-        Base::Data => String::from_str(alloc, "capnp_wire::data::Owned"),
-        Base::AnyPointer | Base::Interface => String::from_str(alloc, "any_pointer::Owned"),
+        Base::Text => String::from_str(alloc, "$text::Owned"),
+        Base::Data => String::from_str(alloc, "$capnp_wire::data::Owned"),
+        Base::AnyPointer | Base::Interface => String::from_str(alloc, "$any_pointer::Owned"),
         Base::Struct(id) => {
             let mut path = path_to(alloc, site.request, site.node.id, id)?;
             path.push_str(if of.lists == 0 {
@@ -55,5 +55,5 @@ fn number_list(alloc: Global, base: Base) -> Result<String, AllocError> {
         Some(number) => number.type_name,
         None => "()",
     };
-    format!(in alloc; "capnp_wire::primitive_list::Owned<{element}>")
+    format!(in alloc; "$capnp_wire::primitive_list::Owned<{element}>")
 }

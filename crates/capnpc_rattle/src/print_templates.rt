@@ -9,7 +9,7 @@ pub mod the_schema {
 /// The table.
 pub const TABLE: &str =
     "use capnp::stringify::{self, Base, DefaultValue, Field, Schema, StructType, Type};
-use capnp_frame::message::ReaderSegments;
+use $capnp_frame::message::ReaderSegments;
 use std::alloc::{AllocError, Global};
 
 #[rattlefmt::skip]
@@ -30,9 +30,9 @@ StructType { discriminant: @discriminant@, fields: &[
 ] },";
 
 /// A field in the table.
-pub const FIELD: &str = "Field { name: \"@name@\", member: @member@, \
-    of: Type { lists: @lists@, base: Base::@base@ }, \
-    offset: @offset@, default: DefaultValue::@default@ },";
+pub const FIELD: &str =
+    "Field { name: \"@name@\", member: @member@, offset: @offset@, default: DefaultValue::@default@,
+    of: Type { lists: @lists@, base: Base::@base@ } },";
 
 /// An enum in the table.
 pub const ENUM: &str = "&[@names@],";

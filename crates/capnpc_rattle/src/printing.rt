@@ -1,5 +1,6 @@
 //! How the structs of a file are printed: the table of their types, and a method of each.
 use crate::code::{Code, Holes};
+use crate::imports::uncited;
 use crate::paths::path_to;
 use crate::print_templates::{ENUM, FIELD, METHOD, MODULE, STRUCT, TABLE};
 use crate::schema::{Base, Body, Field, Place, Request, Slot, Value};
@@ -160,7 +161,10 @@ fn default_of(alloc: Global, slot: &Slot) -> Result<String, AllocError> {
     };
     match &place.default {
         Value::Bits(bits) => format!(in alloc; "Bits({bits})"),
-        Value::Text(text) => format!(in alloc; "Text({text:?})"),
+        Value::Text(text) => {
+            let text = format!(in alloc; "Text({text:?})")?;
+            uncited(alloc, text.as_str())
+        }
         Value::Data(bytes) => data_default(alloc, bytes.as_slice()),
         Value::Object(_) | Value::Null => String::from_str(alloc, "Bits(0)"),
     }

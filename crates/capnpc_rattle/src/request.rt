@@ -1,6 +1,6 @@
 //! The request that the schema compiler hands to its plugins, read with the types that this
 //! compiler has made from `schema.capnp`.
-use crate::annotations::name_in_code;
+use crate::annotations::{name_in_code, prefix_in_code};
 use crate::schema::{Body, Field, Node, Place, Request, RequestedFile, Slot, Struct};
 use crate::schema_capnp::{code_generator_request, field, node};
 use crate::types::{read_type, read_value};
@@ -17,7 +17,7 @@ pub fn read_request<S: ReaderSegments>(
     root: &code_generator_request::Reader<'_, S>,
     wanted: Wanted,
 ) -> Result<Request> {
-    let nodes = read_nodes(alloc, root)?;
+    let nodes = read_nodes(alloc, root, wanted)?;
     let files = read_files(alloc, root)?;
     let mut request = Request {
         nodes,
@@ -32,11 +32,12 @@ pub fn read_request<S: ReaderSegments>(
 fn read_nodes<S: ReaderSegments>(
     alloc: Global,
     root: &code_generator_request::Reader<'_, S>,
+    wanted: Wanted,
 ) -> Result<Vec<Node>> {
     let mut nodes = Vec::new(alloc);
     let list = root.get_nodes()?;
     for node in list.iter() {
-        nodes.push(read_node(alloc, &node)?)?;
+        nodes.push(read_node(alloc, &node, wanted)?)?;
     }
     name_groups(alloc, &mut nodes)?;
     Ok(nodes)
@@ -67,7 +68,11 @@ pub fn read_text(alloc: Global, text: text::Reader<'_>) -> Result<String> {
 }
 
 // A node, without its comments, which are elsewhere in the request.
-fn read_node<S: ReaderSegments>(alloc: Global, read: &node::Reader<'_, S>) -> Result<Node> {
+fn read_node<S: ReaderSegments>(
+    alloc: Global,
+    read: &node::Reader<'_, S>,
+    wanted: Wanted,
+) -> Result<Node> {
     let name = name_in_code(alloc, &read.get_annotations()?, read_name(alloc, read)?)?;
     let nested = read_nested(alloc, read)?;
     let body = read_body(alloc, read)?;
@@ -75,6 +80,7 @@ fn read_node<S: ReaderSegments>(alloc: Global, read: &node::Reader<'_, S>) -> Re
         id: read.get_id(),
         scope: read.get_scope_id(),
         name,
+        prefix: prefix_in_code(alloc, &read.get_annotations()?, wanted.namespaces)?,
         comment: String::new(alloc),
         member_comments: Vec::new(alloc),
         member_names: read_member_names(alloc, read)?,

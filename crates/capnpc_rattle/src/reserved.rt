@@ -14,6 +14,7 @@ const MODULES: &[&str] = &[
     "box",
     "builder",
     "break",
+    "capnp",
     "capnp_frame",
     "capnp_orphans",
     "capnp_wire",

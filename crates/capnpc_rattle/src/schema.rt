@@ -10,6 +10,8 @@ pub struct Node {
     pub scope: u64,
     /// The name within that node, or the one that an annotation gives instead; of a file its path.
     pub name: String,
+    /// Of a file, what is put before all names that its header makes; empty if nothing is.
+    pub prefix: String,
     /// Its comment; empty if it has none.
     pub comment: String,
     /// The comments of its fields or enumerants, in the order of these.

@@ -1,22 +1,22 @@
 //! Types of `schema.capnp`, made by `capnpc-rattle`: change that file, and make them again.
-ghost use Rattle.std.specs.Prelude.{◌≡◌, ◌≤◌, ◌<◌, ◌==◌, ◌↔◌, IsTrue, bit_xor, from_bits, length};
+//!
+//! In a crate of their own they are proved once. A program is proved soonest where a loop over
+//! messages or a list has one line, a call: `add_message(&message?, &mut totals)?` (docs/GUIDE.md).
+ghost use Rattle.std.specs.Prelude.{◌≡◌, ◌≤◌, ◌==◌, ◌↔◌, IsTrue, bit_xor, from_bits};
 ghost use Rattle.std.specs.Float.{binary32, binary64};
 ghost use Rattle.std.specs.Int.{w8, w16, w32, w64, cast_signed};
 ghost use Rattle.capnp_wire.specs.Fields.{field};
-ghost use Rattle.capnp_wire.specs.ListViews.{element_of};
-ghost use Rattle.capnp_wire.specs.Lists.{FindsElement, IsIterator};
+ghost use Rattle.capnp_wire.specs.Getters.{IsTextView, IsDataView, IsStructView, IsStructsView};
 ghost use Rattle.capnp_wire.specs.Object.{nothing};
 ghost use Rattle.capnp_wire.specs.Readers.{struct_of, pointer_of};
-ghost use Rattle.capnp_wire.specs.UpgradedReaders.{upgraded_structs_of};
-ghost use Rattle.capnp_wire.specs.UpgradedViews.{IsUpgradedStructs, TakesAsStructs, ElementsFormError};
-ghost use Rattle.capnp_wire.specs.Views.{Struct, IsViewOf, IsStruct, IsText, IsData, Accepts, ViewError, FormError, Denotes, Reads, TakesStruct, TakesText, TakesNumbers, StructFormError, TextFormError, NumbersFormError, pointer_in};
+ghost use Rattle.capnp_wire.specs.Views.{Denotes, pointer_in};
 
+#[rattlefmt::skip]
 pub mod node {
-    use capnp_frame::Result;
-    use capnp_frame::message::ReaderSegments;
     use capnp_wire::any_struct::StructReader;
-    use capnp_wire::traits::{self, FromPointerReader, IndexMove, ListIter};
-    use capnp_wire::{any_pointer, text, upgraded};
+    use capnp_frame::message::ReaderSegments;
+    use capnp_frame::Result;
+    use capnp_wire::{text, traits, upgraded};
 
     /// The type of the schema.
     pub struct Owned;
@@ -47,11 +47,7 @@ pub mod node {
         /// (On Zooko's triangle, this is the node's nickname.)
         pub fn get_display_name(&self) -> Result<text::Reader<'a>>
             ensures { let fields = struct_of S.segments self.now.fields in
-                let pointer = pointer_in fields 0 in
-                IsViewOf pointer
-                (λ view. Reads pointer (λ form. IsText form view.bytes.now))
-                (Accepts pointer TakesText) (ViewError pointer TextFormError)
-                (FormError pointer TextFormError) result }
+                IsTextView (pointer_in fields 0) result }
         {
             self.fields.get_pointer_as(0)
         }
@@ -88,16 +84,9 @@ pub mod node {
         /// List of nodes nested within this node, along with the names under which they were declared.
         pub fn get_nested_nodes(&self) -> Result<nested_node::ListReader<'a, S>>
             ensures { let fields = struct_of S.segments self.now.fields in
-                let pointer = pointer_in fields 1 in
-                IsViewOf pointer
-                (λ view. IsUpgradedStructs pointer (upgraded_structs_of S.segments view.elements))
-                (Accepts pointer TakesAsStructs) (ViewError pointer ElementsFormError)
-                (FormError pointer ElementsFormError) result }
+                IsStructsView S.segments (pointer_in fields 1) result }
         {
-            match self.fields.get_pointer_as(1) {
-                Ok(elements) => Ok(nested_node::ListReader { elements }),
-                Err(error) => Err(error),
-            }
+            self.fields.get_pointer_as(1)
         }
 
         /// Whether `nestedNodes` is there, and is not null.
@@ -111,16 +100,9 @@ pub mod node {
         /// Annotations applied to this node.
         pub fn get_annotations(&self) -> Result<super::annotation::ListReader<'a, S>>
             ensures { let fields = struct_of S.segments self.now.fields in
-                let pointer = pointer_in fields 2 in
-                IsViewOf pointer
-                (λ view. IsUpgradedStructs pointer (upgraded_structs_of S.segments view.elements))
-                (Accepts pointer TakesAsStructs) (ViewError pointer ElementsFormError)
-                (FormError pointer ElementsFormError) result }
+                IsStructsView S.segments (pointer_in fields 2) result }
         {
-            match self.fields.get_pointer_as(2) {
-                Ok(elements) => Ok(super::annotation::ListReader { elements }),
-                Err(error) => Err(error),
-            }
+            self.fields.get_pointer_as(2)
         }
 
         /// Whether `annotations` is there, and is not null.
@@ -192,16 +174,9 @@ pub mod node {
         /// If this node is parameterized (generic), the list of parameters. Empty for non-generic types.
         pub fn get_parameters(&self) -> Result<parameter::ListReader<'a, S>>
             ensures { let fields = struct_of S.segments self.now.fields in
-                let pointer = pointer_in fields 5 in
-                IsViewOf pointer
-                (λ view. IsUpgradedStructs pointer (upgraded_structs_of S.segments view.elements))
-                (Accepts pointer TakesAsStructs) (ViewError pointer ElementsFormError)
-                (FormError pointer ElementsFormError) result }
+                IsStructsView S.segments (pointer_in fields 5) result }
         {
-            match self.fields.get_pointer_as(5) {
-                Ok(elements) => Ok(parameter::ListReader { elements }),
-                Err(error) => Err(error),
-            }
+            self.fields.get_pointer_as(5)
         }
 
         /// Whether `parameters` is there, and is not null.
@@ -228,11 +203,16 @@ pub mod node {
                 let number = field fields.words 16 6 in
                 elim result [
                   | Which.File ↦ number ≡ 0
-                  | Which.Struct value ↦ (number ≡ 1) × (struct_of S.segments value.fields.now ≡ fields)
-                  | Which.Enum value ↦ (number ≡ 2) × (struct_of S.segments value.fields.now ≡ fields)
-                  | Which.Interface value ↦ (number ≡ 3) × (struct_of S.segments value.fields.now ≡ fields)
-                  | Which.Const value ↦ (number ≡ 4) × (struct_of S.segments value.fields.now ≡ fields)
-                  | Which.Annotation value ↦ (number ≡ 5) × (struct_of S.segments value.fields.now ≡ fields)
+                  | Which.Struct value ↦ (number ≡ 1) ×
+                      (struct_of S.segments value.fields.now ≡ fields)
+                  | Which.Enum value ↦ (number ≡ 2) ×
+                      (struct_of S.segments value.fields.now ≡ fields)
+                  | Which.Interface value ↦ (number ≡ 3) ×
+                      (struct_of S.segments value.fields.now ≡ fields)
+                  | Which.Const value ↦ (number ≡ 4) ×
+                      (struct_of S.segments value.fields.now ≡ fields)
+                  | Which.Annotation value ↦ (number ≡ 5) ×
+                      (struct_of S.segments value.fields.now ≡ fields)
                   | Which.NotInSchema unknown ↦ (unknown ≡ number) × (6 ≤ number)
                 ] }
         {
@@ -261,127 +241,17 @@ pub mod node {
         NotInSchema(u16),
     }
 
-    impl<'a, S: ReaderSegments> FromPointerReader<'a, S> for Reader<'a, S> {
-        ghost shows = { λ pointer view. IsStruct pointer (struct_of S.segments view.fields) };
-
-        ghost accepts = { λ pointer. Accepts pointer TakesStruct };
-
-        ghost fails = { λ pointer kind. ViewError pointer StructFormError kind };
-
-        ghost form_error = { λ pointer kind. FormError pointer StructFormError kind };
+    impl<'a, S: ReaderSegments> upgraded::FromStruct<StructReader<'a, S>> for Reader<'a, S> {
+        ghost shown = { λ view. struct_of S.segments view.fields };
 
         #[inline(always)]
-        fn get_from_pointer(reader: any_pointer::Reader<'a, S>) -> Result<Self>
-            ensures { let pointer = pointer_of S.segments reader.entry in IsViewOf pointer
-                (λ view. IsStruct pointer (struct_of S.segments view.fields))
-                (Accepts pointer TakesStruct) (ViewError pointer StructFormError)
-                (FormError pointer StructFormError) result }
-        {
-            match StructReader::get_from_pointer(reader) {
-                Ok(fields) => Ok(Reader { fields }),
-                Err(error) => Err(error),
-            }
+        fn from_struct(fields: StructReader<'a, S>) -> Reader<'a, S> {
+            Reader { fields }
         }
     }
 
-    /// A list of such structs in a message, or of their first fields where an older writer had these.
-    #[derive(Drop)]
-    pub struct ListReader<'a, S: ReaderSegments> {
-        /// The list whose elements these are.
-        pub elements: upgraded::StructList<'a, S>,
-    }
-
-    impl<'a, S: ReaderSegments> ListReader<'a, S> {
-        /// The number of elements.
-        pub fn len(&self) -> u32
-            ensures { result ≡ length (upgraded_structs_of S.segments self.now.elements).elements }
-        {
-            self.elements.len()
-        }
-
-        /// The element of this index.
-        pub fn get(&self, index: u32) -> Reader<'a, S>
-            requires { index < length (upgraded_structs_of S.segments self.now.elements).elements }
-            ensures { struct_of S.segments result.fields
-                ≡ element_of (upgraded_structs_of S.segments self.now.elements) index }
-        {
-            Reader {
-                fields: self.elements.get(index),
-            }
-        }
-
-        /// The element of this index, or `None` past the last element.
-        pub fn try_get(&self, index: u32) -> Option<Reader<'a, S>>
-            ensures { let list = upgraded_structs_of S.segments self.now.elements in
-                FindsElement (length list.elements) index
-                (λ item. struct_of S.segments item.fields ≡ element_of list index) result }
-        {
-            self.try_index_move(index)
-        }
-
-        /// An iterator over the elements.
-        pub fn iter(&self) -> ListIter<'_, Self>
-            ensures { IsIterator self.now result }
-        {
-            ListIter::new(self)
-        }
-    }
-
-    impl<'a, S: ReaderSegments> IndexMove for ListReader<'a, S> {
-        type Item = Reader<'a, S>;
-
-        ghost Element = { Struct };
-
-        ghost seen = { λ item. struct_of S.segments item.fields };
-
-        ghost size = { λ list. length (upgraded_structs_of S.segments list.elements).elements };
-
-        ghost element = { λ list index.
-            element_of (upgraded_structs_of S.segments list.elements) index };
-
-        fn len(&self) -> u32 {
-            self.len()
-        }
-
-        fn index_move(&self, index: u32) -> Reader<'a, S> {
-            self.get(index)
-        }
-    }
-
-    impl<'l, 'a, S: ReaderSegments> IntoIterator for &'l ListReader<'a, S> {
-        type Item = Reader<'a, S>;
-
-        type IntoIter = ListIter<'l, ListReader<'a, S>>;
-
-        ghost into_iter_gives = { λ list elements. IsIterator list.now elements };
-
-        fn into_iter(self) -> ListIter<'l, ListReader<'a, S>> {
-            self.iter()
-        }
-    }
-
-    impl<'a, S: ReaderSegments> FromPointerReader<'a, S> for ListReader<'a, S> {
-        ghost shows = { λ pointer view.
-            IsUpgradedStructs pointer (upgraded_structs_of S.segments view.elements) };
-
-        ghost accepts = { λ pointer. Accepts pointer TakesAsStructs };
-
-        ghost fails = { λ pointer kind. ViewError pointer ElementsFormError kind };
-
-        ghost form_error = { λ pointer kind. FormError pointer ElementsFormError kind };
-
-        fn get_from_pointer(reader: any_pointer::Reader<'a, S>) -> Result<Self>
-            ensures { let pointer = pointer_of S.segments reader.entry in IsViewOf pointer
-                (λ view. IsUpgradedStructs pointer (upgraded_structs_of S.segments view.elements))
-                (Accepts pointer TakesAsStructs) (ViewError pointer ElementsFormError)
-                (FormError pointer ElementsFormError) result }
-        {
-            match upgraded::StructList::get_from_pointer(reader) {
-                Ok(elements) => Ok(ListReader { elements }),
-                Err(error) => Err(error),
-            }
-        }
-    }
+    /// A list of such structs, or of their first fields where an older writer had these.
+    pub type ListReader<'a, S> = upgraded::Structs<'a, S, Reader<'a, S>>;
 
     /// Which pointer of the struct points to `displayName`, for `fields.get_pointer`.
     pub const DISPLAY_NAME_POINTER: u16 = 0;
@@ -397,9 +267,9 @@ pub mod node {
 
     pub mod struct_ {
         use super::super::ElementSize;
-        use capnp_frame::Result;
-        use capnp_frame::message::ReaderSegments;
         use capnp_wire::any_struct::StructReader;
+        use capnp_frame::message::ReaderSegments;
+        use capnp_frame::Result;
 
         /// The group, in a struct in a message.
         #[derive(Drop)]
@@ -500,16 +370,9 @@ pub mod node {
             /// most sense to use the field's index in this list rather than its ordinal.
             pub fn get_fields(&self) -> Result<super::super::field::ListReader<'a, S>>
                 ensures { let fields = struct_of S.segments self.now.fields.now in
-                    let pointer = pointer_in fields 3 in
-                    IsViewOf pointer
-                    (λ view. IsUpgradedStructs pointer (upgraded_structs_of S.segments view.elements))
-                    (Accepts pointer TakesAsStructs) (ViewError pointer ElementsFormError)
-                    (FormError pointer ElementsFormError) result }
+                    IsStructsView S.segments (pointer_in fields 3) result }
             {
-                match self.fields.get_pointer_as(3) {
-                    Ok(elements) => Ok(super::super::field::ListReader { elements }),
-                    Err(error) => Err(error),
-                }
+                self.fields.get_pointer_as(3)
             }
 
             /// Whether `fields` is there, and is not null.
@@ -526,9 +389,9 @@ pub mod node {
     }
 
     pub mod enum_ {
-        use capnp_frame::Result;
-        use capnp_frame::message::ReaderSegments;
         use capnp_wire::any_struct::StructReader;
+        use capnp_frame::message::ReaderSegments;
+        use capnp_frame::Result;
 
         /// The group, in a struct in a message.
         #[derive(Drop)]
@@ -541,16 +404,9 @@ pub mod node {
             /// Enumerants ordered by numeric value (ordinal).
             pub fn get_enumerants(&self) -> Result<super::super::enumerant::ListReader<'a, S>>
                 ensures { let fields = struct_of S.segments self.now.fields.now in
-                    let pointer = pointer_in fields 3 in
-                    IsViewOf pointer
-                    (λ view. IsUpgradedStructs pointer (upgraded_structs_of S.segments view.elements))
-                    (Accepts pointer TakesAsStructs) (ViewError pointer ElementsFormError)
-                    (FormError pointer ElementsFormError) result }
+                    IsStructsView S.segments (pointer_in fields 3) result }
             {
-                match self.fields.get_pointer_as(3) {
-                    Ok(elements) => Ok(super::super::enumerant::ListReader { elements }),
-                    Err(error) => Err(error),
-                }
+                self.fields.get_pointer_as(3)
             }
 
             /// Whether `enumerants` is there, and is not null.
@@ -567,9 +423,9 @@ pub mod node {
     }
 
     pub mod interface {
-        use capnp_frame::Result;
-        use capnp_frame::message::ReaderSegments;
         use capnp_wire::any_struct::StructReader;
+        use capnp_frame::message::ReaderSegments;
+        use capnp_frame::Result;
 
         /// The group, in a struct in a message.
         #[derive(Drop)]
@@ -582,16 +438,9 @@ pub mod node {
             /// Methods ordered by ordinal.
             pub fn get_methods(&self) -> Result<super::super::method::ListReader<'a, S>>
                 ensures { let fields = struct_of S.segments self.now.fields.now in
-                    let pointer = pointer_in fields 3 in
-                    IsViewOf pointer
-                    (λ view. IsUpgradedStructs pointer (upgraded_structs_of S.segments view.elements))
-                    (Accepts pointer TakesAsStructs) (ViewError pointer ElementsFormError)
-                    (FormError pointer ElementsFormError) result }
+                    IsStructsView S.segments (pointer_in fields 3) result }
             {
-                match self.fields.get_pointer_as(3) {
-                    Ok(elements) => Ok(super::super::method::ListReader { elements }),
-                    Err(error) => Err(error),
-                }
+                self.fields.get_pointer_as(3)
             }
 
             /// Whether `methods` is there, and is not null.
@@ -605,16 +454,9 @@ pub mod node {
             /// Superclasses of this interface.
             pub fn get_superclasses(&self) -> Result<super::super::superclass::ListReader<'a, S>>
                 ensures { let fields = struct_of S.segments self.now.fields.now in
-                    let pointer = pointer_in fields 4 in
-                    IsViewOf pointer
-                    (λ view. IsUpgradedStructs pointer (upgraded_structs_of S.segments view.elements))
-                    (Accepts pointer TakesAsStructs) (ViewError pointer ElementsFormError)
-                    (FormError pointer ElementsFormError) result }
+                    IsStructsView S.segments (pointer_in fields 4) result }
             {
-                match self.fields.get_pointer_as(4) {
-                    Ok(elements) => Ok(super::super::superclass::ListReader { elements }),
-                    Err(error) => Err(error),
-                }
+                self.fields.get_pointer_as(4)
             }
 
             /// Whether `superclasses` is there, and is not null.
@@ -634,9 +476,9 @@ pub mod node {
     }
 
     pub mod const_ {
-        use capnp_frame::Result;
-        use capnp_frame::message::ReaderSegments;
         use capnp_wire::any_struct::StructReader;
+        use capnp_frame::message::ReaderSegments;
+        use capnp_frame::Result;
 
         /// The group, in a struct in a message.
         #[derive(Drop)]
@@ -649,16 +491,10 @@ pub mod node {
             /// The field `type`.
             pub fn get_type(&self) -> Result<super::super::type_::Reader<'a, S>>
                 ensures { let fields = struct_of S.segments self.now.fields.now in
-                    let pointer = pointer_in fields 3 in
-                    IsViewOf pointer
-                    (λ view. IsStruct pointer (struct_of S.segments view.fields))
-                    (Accepts pointer TakesStruct) (ViewError pointer StructFormError)
-                    (FormError pointer StructFormError) result }
+                    IsStructView (pointer_in fields 3)
+                    (λ view. struct_of S.segments view.fields) result }
             {
-                match self.fields.get_pointer_as(3) {
-                    Ok(fields) => Ok(super::super::type_::Reader { fields }),
-                    Err(error) => Err(error),
-                }
+                self.fields.get_pointer_as(3)
             }
 
             /// Whether `type` is there, and is not null.
@@ -672,16 +508,10 @@ pub mod node {
             /// The field `value`.
             pub fn get_value(&self) -> Result<super::super::value::Reader<'a, S>>
                 ensures { let fields = struct_of S.segments self.now.fields.now in
-                    let pointer = pointer_in fields 4 in
-                    IsViewOf pointer
-                    (λ view. IsStruct pointer (struct_of S.segments view.fields))
-                    (Accepts pointer TakesStruct) (ViewError pointer StructFormError)
-                    (FormError pointer StructFormError) result }
+                    IsStructView (pointer_in fields 4)
+                    (λ view. struct_of S.segments view.fields) result }
             {
-                match self.fields.get_pointer_as(4) {
-                    Ok(fields) => Ok(super::super::value::Reader { fields }),
-                    Err(error) => Err(error),
-                }
+                self.fields.get_pointer_as(4)
             }
 
             /// Whether `value` is there, and is not null.
@@ -701,9 +531,9 @@ pub mod node {
     }
 
     pub mod annotation {
-        use capnp_frame::Result;
-        use capnp_frame::message::ReaderSegments;
         use capnp_wire::any_struct::StructReader;
+        use capnp_frame::message::ReaderSegments;
+        use capnp_frame::Result;
 
         /// The group, in a struct in a message.
         #[derive(Drop)]
@@ -716,16 +546,10 @@ pub mod node {
             /// The field `type`.
             pub fn get_type(&self) -> Result<super::super::type_::Reader<'a, S>>
                 ensures { let fields = struct_of S.segments self.now.fields.now in
-                    let pointer = pointer_in fields 3 in
-                    IsViewOf pointer
-                    (λ view. IsStruct pointer (struct_of S.segments view.fields))
-                    (Accepts pointer TakesStruct) (ViewError pointer StructFormError)
-                    (FormError pointer StructFormError) result }
+                    IsStructView (pointer_in fields 3)
+                    (λ view. struct_of S.segments view.fields) result }
             {
-                match self.fields.get_pointer_as(3) {
-                    Ok(fields) => Ok(super::super::type_::Reader { fields }),
-                    Err(error) => Err(error),
-                }
+                self.fields.get_pointer_as(3)
             }
 
             /// Whether `type` is there, and is not null.
@@ -839,11 +663,10 @@ pub mod node {
 
     /// Information about one of the node's parameters.
     pub mod parameter {
-        use capnp_frame::Result;
-        use capnp_frame::message::ReaderSegments;
         use capnp_wire::any_struct::StructReader;
-        use capnp_wire::traits::{self, FromPointerReader, IndexMove, ListIter};
-        use capnp_wire::{any_pointer, text, upgraded};
+        use capnp_frame::message::ReaderSegments;
+        use capnp_frame::Result;
+        use capnp_wire::{text, traits, upgraded};
 
         /// The type of the schema.
         pub struct Owned;
@@ -863,11 +686,7 @@ pub mod node {
             /// The field `name`.
             pub fn get_name(&self) -> Result<text::Reader<'a>>
                 ensures { let fields = struct_of S.segments self.now.fields in
-                    let pointer = pointer_in fields 0 in
-                    IsViewOf pointer
-                    (λ view. Reads pointer (λ form. IsText form view.bytes.now))
-                    (Accepts pointer TakesText) (ViewError pointer TextFormError)
-                    (FormError pointer TextFormError) result }
+                    IsTextView (pointer_in fields 0) result }
             {
                 self.fields.get_pointer_as(0)
             }
@@ -881,138 +700,27 @@ pub mod node {
             }
         }
 
-        impl<'a, S: ReaderSegments> FromPointerReader<'a, S> for Reader<'a, S> {
-            ghost shows = { λ pointer view. IsStruct pointer (struct_of S.segments view.fields) };
-
-            ghost accepts = { λ pointer. Accepts pointer TakesStruct };
-
-            ghost fails = { λ pointer kind. ViewError pointer StructFormError kind };
-
-            ghost form_error = { λ pointer kind. FormError pointer StructFormError kind };
+        impl<'a, S: ReaderSegments> upgraded::FromStruct<StructReader<'a, S>> for Reader<'a, S> {
+            ghost shown = { λ view. struct_of S.segments view.fields };
 
             #[inline(always)]
-            fn get_from_pointer(reader: any_pointer::Reader<'a, S>) -> Result<Self>
-                ensures { let pointer = pointer_of S.segments reader.entry in IsViewOf pointer
-                    (λ view. IsStruct pointer (struct_of S.segments view.fields))
-                    (Accepts pointer TakesStruct) (ViewError pointer StructFormError)
-                    (FormError pointer StructFormError) result }
-            {
-                match StructReader::get_from_pointer(reader) {
-                    Ok(fields) => Ok(Reader { fields }),
-                    Err(error) => Err(error),
-                }
+            fn from_struct(fields: StructReader<'a, S>) -> Reader<'a, S> {
+                Reader { fields }
             }
         }
 
-        /// A list of such structs in a message, or of their first fields where an older writer had these.
-        #[derive(Drop)]
-        pub struct ListReader<'a, S: ReaderSegments> {
-            /// The list whose elements these are.
-            pub elements: upgraded::StructList<'a, S>,
-        }
-
-        impl<'a, S: ReaderSegments> ListReader<'a, S> {
-            /// The number of elements.
-            pub fn len(&self) -> u32
-                ensures { result ≡ length (upgraded_structs_of S.segments self.now.elements).elements }
-            {
-                self.elements.len()
-            }
-
-            /// The element of this index.
-            pub fn get(&self, index: u32) -> Reader<'a, S>
-                requires { index < length (upgraded_structs_of S.segments self.now.elements).elements }
-                ensures { struct_of S.segments result.fields
-                    ≡ element_of (upgraded_structs_of S.segments self.now.elements) index }
-            {
-                Reader {
-                    fields: self.elements.get(index),
-                }
-            }
-
-            /// The element of this index, or `None` past the last element.
-            pub fn try_get(&self, index: u32) -> Option<Reader<'a, S>>
-                ensures { let list = upgraded_structs_of S.segments self.now.elements in
-                    FindsElement (length list.elements) index
-                    (λ item. struct_of S.segments item.fields ≡ element_of list index) result }
-            {
-                self.try_index_move(index)
-            }
-
-            /// An iterator over the elements.
-            pub fn iter(&self) -> ListIter<'_, Self>
-                ensures { IsIterator self.now result }
-            {
-                ListIter::new(self)
-            }
-        }
-
-        impl<'a, S: ReaderSegments> IndexMove for ListReader<'a, S> {
-            type Item = Reader<'a, S>;
-
-            ghost Element = { Struct };
-
-            ghost seen = { λ item. struct_of S.segments item.fields };
-
-            ghost size = { λ list. length (upgraded_structs_of S.segments list.elements).elements };
-
-            ghost element = { λ list index.
-                element_of (upgraded_structs_of S.segments list.elements) index };
-
-            fn len(&self) -> u32 {
-                self.len()
-            }
-
-            fn index_move(&self, index: u32) -> Reader<'a, S> {
-                self.get(index)
-            }
-        }
-
-        impl<'l, 'a, S: ReaderSegments> IntoIterator for &'l ListReader<'a, S> {
-            type Item = Reader<'a, S>;
-
-            type IntoIter = ListIter<'l, ListReader<'a, S>>;
-
-            ghost into_iter_gives = { λ list elements. IsIterator list.now elements };
-
-            fn into_iter(self) -> ListIter<'l, ListReader<'a, S>> {
-                self.iter()
-            }
-        }
-
-        impl<'a, S: ReaderSegments> FromPointerReader<'a, S> for ListReader<'a, S> {
-            ghost shows = { λ pointer view.
-                IsUpgradedStructs pointer (upgraded_structs_of S.segments view.elements) };
-
-            ghost accepts = { λ pointer. Accepts pointer TakesAsStructs };
-
-            ghost fails = { λ pointer kind. ViewError pointer ElementsFormError kind };
-
-            ghost form_error = { λ pointer kind. FormError pointer ElementsFormError kind };
-
-            fn get_from_pointer(reader: any_pointer::Reader<'a, S>) -> Result<Self>
-                ensures { let pointer = pointer_of S.segments reader.entry in IsViewOf pointer
-                    (λ view. IsUpgradedStructs pointer (upgraded_structs_of S.segments view.elements))
-                    (Accepts pointer TakesAsStructs) (ViewError pointer ElementsFormError)
-                    (FormError pointer ElementsFormError) result }
-            {
-                match upgraded::StructList::get_from_pointer(reader) {
-                    Ok(elements) => Ok(ListReader { elements }),
-                    Err(error) => Err(error),
-                }
-            }
-        }
+        /// A list of such structs, or of their first fields where an older writer had these.
+        pub type ListReader<'a, S> = upgraded::Structs<'a, S, Reader<'a, S>>;
 
         /// Which pointer of the struct points to `name`, for `fields.get_pointer`.
         pub const NAME_POINTER: u16 = 0;
     }
 
     pub mod nested_node {
-        use capnp_frame::Result;
-        use capnp_frame::message::ReaderSegments;
         use capnp_wire::any_struct::StructReader;
-        use capnp_wire::traits::{self, FromPointerReader, IndexMove, ListIter};
-        use capnp_wire::{any_pointer, text, upgraded};
+        use capnp_frame::message::ReaderSegments;
+        use capnp_frame::Result;
+        use capnp_wire::{text, traits, upgraded};
 
         /// The type of the schema.
         pub struct Owned;
@@ -1034,11 +742,7 @@ pub mod node {
             /// (On Zooko's triangle, this is the node's petname according to its parent scope.)
             pub fn get_name(&self) -> Result<text::Reader<'a>>
                 ensures { let fields = struct_of S.segments self.now.fields in
-                    let pointer = pointer_in fields 0 in
-                    IsViewOf pointer
-                    (λ view. Reads pointer (λ form. IsText form view.bytes.now))
-                    (Accepts pointer TakesText) (ViewError pointer TextFormError)
-                    (FormError pointer TextFormError) result }
+                    IsTextView (pointer_in fields 0) result }
             {
                 self.fields.get_pointer_as(0)
             }
@@ -1061,127 +765,17 @@ pub mod node {
             }
         }
 
-        impl<'a, S: ReaderSegments> FromPointerReader<'a, S> for Reader<'a, S> {
-            ghost shows = { λ pointer view. IsStruct pointer (struct_of S.segments view.fields) };
-
-            ghost accepts = { λ pointer. Accepts pointer TakesStruct };
-
-            ghost fails = { λ pointer kind. ViewError pointer StructFormError kind };
-
-            ghost form_error = { λ pointer kind. FormError pointer StructFormError kind };
+        impl<'a, S: ReaderSegments> upgraded::FromStruct<StructReader<'a, S>> for Reader<'a, S> {
+            ghost shown = { λ view. struct_of S.segments view.fields };
 
             #[inline(always)]
-            fn get_from_pointer(reader: any_pointer::Reader<'a, S>) -> Result<Self>
-                ensures { let pointer = pointer_of S.segments reader.entry in IsViewOf pointer
-                    (λ view. IsStruct pointer (struct_of S.segments view.fields))
-                    (Accepts pointer TakesStruct) (ViewError pointer StructFormError)
-                    (FormError pointer StructFormError) result }
-            {
-                match StructReader::get_from_pointer(reader) {
-                    Ok(fields) => Ok(Reader { fields }),
-                    Err(error) => Err(error),
-                }
+            fn from_struct(fields: StructReader<'a, S>) -> Reader<'a, S> {
+                Reader { fields }
             }
         }
 
-        /// A list of such structs in a message, or of their first fields where an older writer had these.
-        #[derive(Drop)]
-        pub struct ListReader<'a, S: ReaderSegments> {
-            /// The list whose elements these are.
-            pub elements: upgraded::StructList<'a, S>,
-        }
-
-        impl<'a, S: ReaderSegments> ListReader<'a, S> {
-            /// The number of elements.
-            pub fn len(&self) -> u32
-                ensures { result ≡ length (upgraded_structs_of S.segments self.now.elements).elements }
-            {
-                self.elements.len()
-            }
-
-            /// The element of this index.
-            pub fn get(&self, index: u32) -> Reader<'a, S>
-                requires { index < length (upgraded_structs_of S.segments self.now.elements).elements }
-                ensures { struct_of S.segments result.fields
-                    ≡ element_of (upgraded_structs_of S.segments self.now.elements) index }
-            {
-                Reader {
-                    fields: self.elements.get(index),
-                }
-            }
-
-            /// The element of this index, or `None` past the last element.
-            pub fn try_get(&self, index: u32) -> Option<Reader<'a, S>>
-                ensures { let list = upgraded_structs_of S.segments self.now.elements in
-                    FindsElement (length list.elements) index
-                    (λ item. struct_of S.segments item.fields ≡ element_of list index) result }
-            {
-                self.try_index_move(index)
-            }
-
-            /// An iterator over the elements.
-            pub fn iter(&self) -> ListIter<'_, Self>
-                ensures { IsIterator self.now result }
-            {
-                ListIter::new(self)
-            }
-        }
-
-        impl<'a, S: ReaderSegments> IndexMove for ListReader<'a, S> {
-            type Item = Reader<'a, S>;
-
-            ghost Element = { Struct };
-
-            ghost seen = { λ item. struct_of S.segments item.fields };
-
-            ghost size = { λ list. length (upgraded_structs_of S.segments list.elements).elements };
-
-            ghost element = { λ list index.
-                element_of (upgraded_structs_of S.segments list.elements) index };
-
-            fn len(&self) -> u32 {
-                self.len()
-            }
-
-            fn index_move(&self, index: u32) -> Reader<'a, S> {
-                self.get(index)
-            }
-        }
-
-        impl<'l, 'a, S: ReaderSegments> IntoIterator for &'l ListReader<'a, S> {
-            type Item = Reader<'a, S>;
-
-            type IntoIter = ListIter<'l, ListReader<'a, S>>;
-
-            ghost into_iter_gives = { λ list elements. IsIterator list.now elements };
-
-            fn into_iter(self) -> ListIter<'l, ListReader<'a, S>> {
-                self.iter()
-            }
-        }
-
-        impl<'a, S: ReaderSegments> FromPointerReader<'a, S> for ListReader<'a, S> {
-            ghost shows = { λ pointer view.
-                IsUpgradedStructs pointer (upgraded_structs_of S.segments view.elements) };
-
-            ghost accepts = { λ pointer. Accepts pointer TakesAsStructs };
-
-            ghost fails = { λ pointer kind. ViewError pointer ElementsFormError kind };
-
-            ghost form_error = { λ pointer kind. FormError pointer ElementsFormError kind };
-
-            fn get_from_pointer(reader: any_pointer::Reader<'a, S>) -> Result<Self>
-                ensures { let pointer = pointer_of S.segments reader.entry in IsViewOf pointer
-                    (λ view. IsUpgradedStructs pointer (upgraded_structs_of S.segments view.elements))
-                    (Accepts pointer TakesAsStructs) (ViewError pointer ElementsFormError)
-                    (FormError pointer ElementsFormError) result }
-            {
-                match upgraded::StructList::get_from_pointer(reader) {
-                    Ok(elements) => Ok(ListReader { elements }),
-                    Err(error) => Err(error),
-                }
-            }
-        }
+        /// A list of such structs, or of their first fields where an older writer had these.
+        pub type ListReader<'a, S> = upgraded::Structs<'a, S, Reader<'a, S>>;
 
         /// Which pointer of the struct points to `name`, for `fields.get_pointer`.
         pub const NAME_POINTER: u16 = 0;
@@ -1192,11 +786,10 @@ pub mod node {
     /// doesn't accidentally get included in contexts where it is not needed. The
     /// `CodeGeneratorRequest` includes this information in a separate array.
     pub mod source_info {
-        use capnp_frame::Result;
-        use capnp_frame::message::ReaderSegments;
         use capnp_wire::any_struct::StructReader;
-        use capnp_wire::traits::{self, FromPointerReader, IndexMove, ListIter};
-        use capnp_wire::{any_pointer, text, upgraded};
+        use capnp_frame::message::ReaderSegments;
+        use capnp_frame::Result;
+        use capnp_wire::{text, traits, upgraded};
 
         /// The type of the schema.
         pub struct Owned;
@@ -1224,11 +817,7 @@ pub mod node {
             /// The top-level doc comment for the Node.
             pub fn get_doc_comment(&self) -> Result<text::Reader<'a>>
                 ensures { let fields = struct_of S.segments self.now.fields in
-                    let pointer = pointer_in fields 0 in
-                    IsViewOf pointer
-                    (λ view. Reads pointer (λ form. IsText form view.bytes.now))
-                    (Accepts pointer TakesText) (ViewError pointer TextFormError)
-                    (FormError pointer TextFormError) result }
+                    IsTextView (pointer_in fields 0) result }
             {
                 self.fields.get_pointer_as(0)
             }
@@ -1248,16 +837,9 @@ pub mod node {
             /// Node.struct.fields, Node.enum.enumerants, or Node.interface.methods.
             pub fn get_members(&self) -> Result<member::ListReader<'a, S>>
                 ensures { let fields = struct_of S.segments self.now.fields in
-                    let pointer = pointer_in fields 1 in
-                    IsViewOf pointer
-                    (λ view. IsUpgradedStructs pointer (upgraded_structs_of S.segments view.elements))
-                    (Accepts pointer TakesAsStructs) (ViewError pointer ElementsFormError)
-                    (FormError pointer ElementsFormError) result }
+                    IsStructsView S.segments (pointer_in fields 1) result }
             {
-                match self.fields.get_pointer_as(1) {
-                    Ok(elements) => Ok(member::ListReader { elements }),
-                    Err(error) => Err(error),
-                }
+                self.fields.get_pointer_as(1)
             }
 
             /// Whether `members` is there, and is not null.
@@ -1269,127 +851,17 @@ pub mod node {
             }
         }
 
-        impl<'a, S: ReaderSegments> FromPointerReader<'a, S> for Reader<'a, S> {
-            ghost shows = { λ pointer view. IsStruct pointer (struct_of S.segments view.fields) };
-
-            ghost accepts = { λ pointer. Accepts pointer TakesStruct };
-
-            ghost fails = { λ pointer kind. ViewError pointer StructFormError kind };
-
-            ghost form_error = { λ pointer kind. FormError pointer StructFormError kind };
+        impl<'a, S: ReaderSegments> upgraded::FromStruct<StructReader<'a, S>> for Reader<'a, S> {
+            ghost shown = { λ view. struct_of S.segments view.fields };
 
             #[inline(always)]
-            fn get_from_pointer(reader: any_pointer::Reader<'a, S>) -> Result<Self>
-                ensures { let pointer = pointer_of S.segments reader.entry in IsViewOf pointer
-                    (λ view. IsStruct pointer (struct_of S.segments view.fields))
-                    (Accepts pointer TakesStruct) (ViewError pointer StructFormError)
-                    (FormError pointer StructFormError) result }
-            {
-                match StructReader::get_from_pointer(reader) {
-                    Ok(fields) => Ok(Reader { fields }),
-                    Err(error) => Err(error),
-                }
+            fn from_struct(fields: StructReader<'a, S>) -> Reader<'a, S> {
+                Reader { fields }
             }
         }
 
-        /// A list of such structs in a message, or of their first fields where an older writer had these.
-        #[derive(Drop)]
-        pub struct ListReader<'a, S: ReaderSegments> {
-            /// The list whose elements these are.
-            pub elements: upgraded::StructList<'a, S>,
-        }
-
-        impl<'a, S: ReaderSegments> ListReader<'a, S> {
-            /// The number of elements.
-            pub fn len(&self) -> u32
-                ensures { result ≡ length (upgraded_structs_of S.segments self.now.elements).elements }
-            {
-                self.elements.len()
-            }
-
-            /// The element of this index.
-            pub fn get(&self, index: u32) -> Reader<'a, S>
-                requires { index < length (upgraded_structs_of S.segments self.now.elements).elements }
-                ensures { struct_of S.segments result.fields
-                    ≡ element_of (upgraded_structs_of S.segments self.now.elements) index }
-            {
-                Reader {
-                    fields: self.elements.get(index),
-                }
-            }
-
-            /// The element of this index, or `None` past the last element.
-            pub fn try_get(&self, index: u32) -> Option<Reader<'a, S>>
-                ensures { let list = upgraded_structs_of S.segments self.now.elements in
-                    FindsElement (length list.elements) index
-                    (λ item. struct_of S.segments item.fields ≡ element_of list index) result }
-            {
-                self.try_index_move(index)
-            }
-
-            /// An iterator over the elements.
-            pub fn iter(&self) -> ListIter<'_, Self>
-                ensures { IsIterator self.now result }
-            {
-                ListIter::new(self)
-            }
-        }
-
-        impl<'a, S: ReaderSegments> IndexMove for ListReader<'a, S> {
-            type Item = Reader<'a, S>;
-
-            ghost Element = { Struct };
-
-            ghost seen = { λ item. struct_of S.segments item.fields };
-
-            ghost size = { λ list. length (upgraded_structs_of S.segments list.elements).elements };
-
-            ghost element = { λ list index.
-                element_of (upgraded_structs_of S.segments list.elements) index };
-
-            fn len(&self) -> u32 {
-                self.len()
-            }
-
-            fn index_move(&self, index: u32) -> Reader<'a, S> {
-                self.get(index)
-            }
-        }
-
-        impl<'l, 'a, S: ReaderSegments> IntoIterator for &'l ListReader<'a, S> {
-            type Item = Reader<'a, S>;
-
-            type IntoIter = ListIter<'l, ListReader<'a, S>>;
-
-            ghost into_iter_gives = { λ list elements. IsIterator list.now elements };
-
-            fn into_iter(self) -> ListIter<'l, ListReader<'a, S>> {
-                self.iter()
-            }
-        }
-
-        impl<'a, S: ReaderSegments> FromPointerReader<'a, S> for ListReader<'a, S> {
-            ghost shows = { λ pointer view.
-                IsUpgradedStructs pointer (upgraded_structs_of S.segments view.elements) };
-
-            ghost accepts = { λ pointer. Accepts pointer TakesAsStructs };
-
-            ghost fails = { λ pointer kind. ViewError pointer ElementsFormError kind };
-
-            ghost form_error = { λ pointer kind. FormError pointer ElementsFormError kind };
-
-            fn get_from_pointer(reader: any_pointer::Reader<'a, S>) -> Result<Self>
-                ensures { let pointer = pointer_of S.segments reader.entry in IsViewOf pointer
-                    (λ view. IsUpgradedStructs pointer (upgraded_structs_of S.segments view.elements))
-                    (Accepts pointer TakesAsStructs) (ViewError pointer ElementsFormError)
-                    (FormError pointer ElementsFormError) result }
-            {
-                match upgraded::StructList::get_from_pointer(reader) {
-                    Ok(elements) => Ok(ListReader { elements }),
-                    Err(error) => Err(error),
-                }
-            }
-        }
+        /// A list of such structs, or of their first fields where an older writer had these.
+        pub type ListReader<'a, S> = upgraded::Structs<'a, S, Reader<'a, S>>;
 
         /// Which pointer of the struct points to `docComment`, for `fields.get_pointer`.
         pub const DOC_COMMENT_POINTER: u16 = 0;
@@ -1398,11 +870,10 @@ pub mod node {
         pub const MEMBERS_POINTER: u16 = 1;
 
         pub mod member {
-            use capnp_frame::Result;
-            use capnp_frame::message::ReaderSegments;
             use capnp_wire::any_struct::StructReader;
-            use capnp_wire::traits::{self, FromPointerReader, IndexMove, ListIter};
-            use capnp_wire::{any_pointer, text, upgraded};
+            use capnp_frame::message::ReaderSegments;
+            use capnp_frame::Result;
+            use capnp_wire::{text, traits, upgraded};
 
             /// The type of the schema.
             pub struct Owned;
@@ -1422,11 +893,7 @@ pub mod node {
                 /// Doc comment on the member.
                 pub fn get_doc_comment(&self) -> Result<text::Reader<'a>>
                     ensures { let fields = struct_of S.segments self.now.fields in
-                        let pointer = pointer_in fields 0 in
-                        IsViewOf pointer
-                        (λ view. Reads pointer (λ form. IsText form view.bytes.now))
-                        (Accepts pointer TakesText) (ViewError pointer TextFormError)
-                        (FormError pointer TextFormError) result }
+                        IsTextView (pointer_in fields 0) result }
                 {
                     self.fields.get_pointer_as(0)
                 }
@@ -1440,127 +907,17 @@ pub mod node {
                 }
             }
 
-            impl<'a, S: ReaderSegments> FromPointerReader<'a, S> for Reader<'a, S> {
-                ghost shows = { λ pointer view. IsStruct pointer (struct_of S.segments view.fields) };
-
-                ghost accepts = { λ pointer. Accepts pointer TakesStruct };
-
-                ghost fails = { λ pointer kind. ViewError pointer StructFormError kind };
-
-                ghost form_error = { λ pointer kind. FormError pointer StructFormError kind };
+            impl<'a, S: ReaderSegments> upgraded::FromStruct<StructReader<'a, S>> for Reader<'a, S> {
+                ghost shown = { λ view. struct_of S.segments view.fields };
 
                 #[inline(always)]
-                fn get_from_pointer(reader: any_pointer::Reader<'a, S>) -> Result<Self>
-                    ensures { let pointer = pointer_of S.segments reader.entry in IsViewOf pointer
-                        (λ view. IsStruct pointer (struct_of S.segments view.fields))
-                        (Accepts pointer TakesStruct) (ViewError pointer StructFormError)
-                        (FormError pointer StructFormError) result }
-                {
-                    match StructReader::get_from_pointer(reader) {
-                        Ok(fields) => Ok(Reader { fields }),
-                        Err(error) => Err(error),
-                    }
+                fn from_struct(fields: StructReader<'a, S>) -> Reader<'a, S> {
+                    Reader { fields }
                 }
             }
 
-            /// A list of such structs in a message, or of their first fields where an older writer had these.
-            #[derive(Drop)]
-            pub struct ListReader<'a, S: ReaderSegments> {
-                /// The list whose elements these are.
-                pub elements: upgraded::StructList<'a, S>,
-            }
-
-            impl<'a, S: ReaderSegments> ListReader<'a, S> {
-                /// The number of elements.
-                pub fn len(&self) -> u32
-                    ensures { result ≡ length (upgraded_structs_of S.segments self.now.elements).elements }
-                {
-                    self.elements.len()
-                }
-
-                /// The element of this index.
-                pub fn get(&self, index: u32) -> Reader<'a, S>
-                    requires { index < length (upgraded_structs_of S.segments self.now.elements).elements }
-                    ensures { struct_of S.segments result.fields
-                        ≡ element_of (upgraded_structs_of S.segments self.now.elements) index }
-                {
-                    Reader {
-                        fields: self.elements.get(index),
-                    }
-                }
-
-                /// The element of this index, or `None` past the last element.
-                pub fn try_get(&self, index: u32) -> Option<Reader<'a, S>>
-                    ensures { let list = upgraded_structs_of S.segments self.now.elements in
-                        FindsElement (length list.elements) index
-                        (λ item. struct_of S.segments item.fields ≡ element_of list index) result }
-                {
-                    self.try_index_move(index)
-                }
-
-                /// An iterator over the elements.
-                pub fn iter(&self) -> ListIter<'_, Self>
-                    ensures { IsIterator self.now result }
-                {
-                    ListIter::new(self)
-                }
-            }
-
-            impl<'a, S: ReaderSegments> IndexMove for ListReader<'a, S> {
-                type Item = Reader<'a, S>;
-
-                ghost Element = { Struct };
-
-                ghost seen = { λ item. struct_of S.segments item.fields };
-
-                ghost size = { λ list. length (upgraded_structs_of S.segments list.elements).elements };
-
-                ghost element = { λ list index.
-                    element_of (upgraded_structs_of S.segments list.elements) index };
-
-                fn len(&self) -> u32 {
-                    self.len()
-                }
-
-                fn index_move(&self, index: u32) -> Reader<'a, S> {
-                    self.get(index)
-                }
-            }
-
-            impl<'l, 'a, S: ReaderSegments> IntoIterator for &'l ListReader<'a, S> {
-                type Item = Reader<'a, S>;
-
-                type IntoIter = ListIter<'l, ListReader<'a, S>>;
-
-                ghost into_iter_gives = { λ list elements. IsIterator list.now elements };
-
-                fn into_iter(self) -> ListIter<'l, ListReader<'a, S>> {
-                    self.iter()
-                }
-            }
-
-            impl<'a, S: ReaderSegments> FromPointerReader<'a, S> for ListReader<'a, S> {
-                ghost shows = { λ pointer view.
-                    IsUpgradedStructs pointer (upgraded_structs_of S.segments view.elements) };
-
-                ghost accepts = { λ pointer. Accepts pointer TakesAsStructs };
-
-                ghost fails = { λ pointer kind. ViewError pointer ElementsFormError kind };
-
-                ghost form_error = { λ pointer kind. FormError pointer ElementsFormError kind };
-
-                fn get_from_pointer(reader: any_pointer::Reader<'a, S>) -> Result<Self>
-                    ensures { let pointer = pointer_of S.segments reader.entry in IsViewOf pointer
-                        (λ view. IsUpgradedStructs pointer (upgraded_structs_of S.segments view.elements))
-                        (Accepts pointer TakesAsStructs) (ViewError pointer ElementsFormError)
-                        (FormError pointer ElementsFormError) result }
-                {
-                    match upgraded::StructList::get_from_pointer(reader) {
-                        Ok(elements) => Ok(ListReader { elements }),
-                        Err(error) => Err(error),
-                    }
-                }
-            }
+            /// A list of such structs, or of their first fields where an older writer had these.
+            pub type ListReader<'a, S> = upgraded::Structs<'a, S, Reader<'a, S>>;
 
             /// Which pointer of the struct points to `docComment`, for `fields.get_pointer`.
             pub const DOC_COMMENT_POINTER: u16 = 0;
@@ -1569,12 +926,12 @@ pub mod node {
 }
 
 /// Schema for a field of a struct.
+#[rattlefmt::skip]
 pub mod field {
-    use capnp_frame::Result;
-    use capnp_frame::message::ReaderSegments;
     use capnp_wire::any_struct::StructReader;
-    use capnp_wire::traits::{self, FromPointerReader, IndexMove, ListIter};
-    use capnp_wire::{any_pointer, text, upgraded};
+    use capnp_frame::message::ReaderSegments;
+    use capnp_frame::Result;
+    use capnp_wire::{text, traits, upgraded};
 
     /// The type of the schema.
     pub struct Owned;
@@ -1594,11 +951,7 @@ pub mod field {
         /// The field `name`.
         pub fn get_name(&self) -> Result<text::Reader<'a>>
             ensures { let fields = struct_of S.segments self.now.fields in
-                let pointer = pointer_in fields 0 in
-                IsViewOf pointer
-                (λ view. Reads pointer (λ form. IsText form view.bytes.now))
-                (Accepts pointer TakesText) (ViewError pointer TextFormError)
-                (FormError pointer TextFormError) result }
+                IsTextView (pointer_in fields 0) result }
         {
             self.fields.get_pointer_as(0)
         }
@@ -1627,16 +980,9 @@ pub mod field {
         /// The field `annotations`.
         pub fn get_annotations(&self) -> Result<super::annotation::ListReader<'a, S>>
             ensures { let fields = struct_of S.segments self.now.fields in
-                let pointer = pointer_in fields 1 in
-                IsViewOf pointer
-                (λ view. IsUpgradedStructs pointer (upgraded_structs_of S.segments view.elements))
-                (Accepts pointer TakesAsStructs) (ViewError pointer ElementsFormError)
-                (FormError pointer ElementsFormError) result }
+                IsStructsView S.segments (pointer_in fields 1) result }
         {
-            match self.fields.get_pointer_as(1) {
-                Ok(elements) => Ok(super::annotation::ListReader { elements }),
-                Err(error) => Err(error),
-            }
+            self.fields.get_pointer_as(1)
         }
 
         /// Whether `annotations` is there, and is not null.
@@ -1695,8 +1041,10 @@ pub mod field {
             ensures { let fields = struct_of S.segments self.now.fields in
                 let number = field fields.words 16 4 in
                 elim result [
-                  | Which.Slot value ↦ (number ≡ 0) × (struct_of S.segments value.fields.now ≡ fields)
-                  | Which.Group value ↦ (number ≡ 1) × (struct_of S.segments value.fields.now ≡ fields)
+                  | Which.Slot value ↦ (number ≡ 0) ×
+                      (struct_of S.segments value.fields.now ≡ fields)
+                  | Which.Group value ↦ (number ≡ 1) ×
+                      (struct_of S.segments value.fields.now ≡ fields)
                   | Which.NotInSchema unknown ↦ (unknown ≡ number) × (2 ≤ number)
                 ] }
         {
@@ -1717,127 +1065,17 @@ pub mod field {
         NotInSchema(u16),
     }
 
-    impl<'a, S: ReaderSegments> FromPointerReader<'a, S> for Reader<'a, S> {
-        ghost shows = { λ pointer view. IsStruct pointer (struct_of S.segments view.fields) };
-
-        ghost accepts = { λ pointer. Accepts pointer TakesStruct };
-
-        ghost fails = { λ pointer kind. ViewError pointer StructFormError kind };
-
-        ghost form_error = { λ pointer kind. FormError pointer StructFormError kind };
+    impl<'a, S: ReaderSegments> upgraded::FromStruct<StructReader<'a, S>> for Reader<'a, S> {
+        ghost shown = { λ view. struct_of S.segments view.fields };
 
         #[inline(always)]
-        fn get_from_pointer(reader: any_pointer::Reader<'a, S>) -> Result<Self>
-            ensures { let pointer = pointer_of S.segments reader.entry in IsViewOf pointer
-                (λ view. IsStruct pointer (struct_of S.segments view.fields))
-                (Accepts pointer TakesStruct) (ViewError pointer StructFormError)
-                (FormError pointer StructFormError) result }
-        {
-            match StructReader::get_from_pointer(reader) {
-                Ok(fields) => Ok(Reader { fields }),
-                Err(error) => Err(error),
-            }
+        fn from_struct(fields: StructReader<'a, S>) -> Reader<'a, S> {
+            Reader { fields }
         }
     }
 
-    /// A list of such structs in a message, or of their first fields where an older writer had these.
-    #[derive(Drop)]
-    pub struct ListReader<'a, S: ReaderSegments> {
-        /// The list whose elements these are.
-        pub elements: upgraded::StructList<'a, S>,
-    }
-
-    impl<'a, S: ReaderSegments> ListReader<'a, S> {
-        /// The number of elements.
-        pub fn len(&self) -> u32
-            ensures { result ≡ length (upgraded_structs_of S.segments self.now.elements).elements }
-        {
-            self.elements.len()
-        }
-
-        /// The element of this index.
-        pub fn get(&self, index: u32) -> Reader<'a, S>
-            requires { index < length (upgraded_structs_of S.segments self.now.elements).elements }
-            ensures { struct_of S.segments result.fields
-                ≡ element_of (upgraded_structs_of S.segments self.now.elements) index }
-        {
-            Reader {
-                fields: self.elements.get(index),
-            }
-        }
-
-        /// The element of this index, or `None` past the last element.
-        pub fn try_get(&self, index: u32) -> Option<Reader<'a, S>>
-            ensures { let list = upgraded_structs_of S.segments self.now.elements in
-                FindsElement (length list.elements) index
-                (λ item. struct_of S.segments item.fields ≡ element_of list index) result }
-        {
-            self.try_index_move(index)
-        }
-
-        /// An iterator over the elements.
-        pub fn iter(&self) -> ListIter<'_, Self>
-            ensures { IsIterator self.now result }
-        {
-            ListIter::new(self)
-        }
-    }
-
-    impl<'a, S: ReaderSegments> IndexMove for ListReader<'a, S> {
-        type Item = Reader<'a, S>;
-
-        ghost Element = { Struct };
-
-        ghost seen = { λ item. struct_of S.segments item.fields };
-
-        ghost size = { λ list. length (upgraded_structs_of S.segments list.elements).elements };
-
-        ghost element = { λ list index.
-            element_of (upgraded_structs_of S.segments list.elements) index };
-
-        fn len(&self) -> u32 {
-            self.len()
-        }
-
-        fn index_move(&self, index: u32) -> Reader<'a, S> {
-            self.get(index)
-        }
-    }
-
-    impl<'l, 'a, S: ReaderSegments> IntoIterator for &'l ListReader<'a, S> {
-        type Item = Reader<'a, S>;
-
-        type IntoIter = ListIter<'l, ListReader<'a, S>>;
-
-        ghost into_iter_gives = { λ list elements. IsIterator list.now elements };
-
-        fn into_iter(self) -> ListIter<'l, ListReader<'a, S>> {
-            self.iter()
-        }
-    }
-
-    impl<'a, S: ReaderSegments> FromPointerReader<'a, S> for ListReader<'a, S> {
-        ghost shows = { λ pointer view.
-            IsUpgradedStructs pointer (upgraded_structs_of S.segments view.elements) };
-
-        ghost accepts = { λ pointer. Accepts pointer TakesAsStructs };
-
-        ghost fails = { λ pointer kind. ViewError pointer ElementsFormError kind };
-
-        ghost form_error = { λ pointer kind. FormError pointer ElementsFormError kind };
-
-        fn get_from_pointer(reader: any_pointer::Reader<'a, S>) -> Result<Self>
-            ensures { let pointer = pointer_of S.segments reader.entry in IsViewOf pointer
-                (λ view. IsUpgradedStructs pointer (upgraded_structs_of S.segments view.elements))
-                (Accepts pointer TakesAsStructs) (ViewError pointer ElementsFormError)
-                (FormError pointer ElementsFormError) result }
-        {
-            match upgraded::StructList::get_from_pointer(reader) {
-                Ok(elements) => Ok(ListReader { elements }),
-                Err(error) => Err(error),
-            }
-        }
-    }
+    /// A list of such structs, or of their first fields where an older writer had these.
+    pub type ListReader<'a, S> = upgraded::Structs<'a, S, Reader<'a, S>>;
 
     /// Which pointer of the struct points to `name`, for `fields.get_pointer`.
     pub const NAME_POINTER: u16 = 0;
@@ -1849,9 +1087,9 @@ pub mod field {
 
     /// A regular, non-group, non-fixed-list field.
     pub mod slot {
-        use capnp_frame::Result;
-        use capnp_frame::message::ReaderSegments;
         use capnp_wire::any_struct::StructReader;
+        use capnp_frame::message::ReaderSegments;
+        use capnp_frame::Result;
 
         /// The group, in a struct in a message.
         #[derive(Drop)]
@@ -1874,16 +1112,10 @@ pub mod field {
             /// The field `type`.
             pub fn get_type(&self) -> Result<super::super::type_::Reader<'a, S>>
                 ensures { let fields = struct_of S.segments self.now.fields.now in
-                    let pointer = pointer_in fields 2 in
-                    IsViewOf pointer
-                    (λ view. IsStruct pointer (struct_of S.segments view.fields))
-                    (Accepts pointer TakesStruct) (ViewError pointer StructFormError)
-                    (FormError pointer StructFormError) result }
+                    IsStructView (pointer_in fields 2)
+                    (λ view. struct_of S.segments view.fields) result }
             {
-                match self.fields.get_pointer_as(2) {
-                    Ok(fields) => Ok(super::super::type_::Reader { fields }),
-                    Err(error) => Err(error),
-                }
+                self.fields.get_pointer_as(2)
             }
 
             /// Whether `type` is there, and is not null.
@@ -1897,16 +1129,10 @@ pub mod field {
             /// The field `defaultValue`.
             pub fn get_default_value(&self) -> Result<super::super::value::Reader<'a, S>>
                 ensures { let fields = struct_of S.segments self.now.fields.now in
-                    let pointer = pointer_in fields 3 in
-                    IsViewOf pointer
-                    (λ view. IsStruct pointer (struct_of S.segments view.fields))
-                    (Accepts pointer TakesStruct) (ViewError pointer StructFormError)
-                    (FormError pointer StructFormError) result }
+                    IsStructView (pointer_in fields 3)
+                    (λ view. struct_of S.segments view.fields) result }
             {
-                match self.fields.get_pointer_as(3) {
-                    Ok(fields) => Ok(super::super::value::Reader { fields }),
-                    Err(error) => Err(error),
-                }
+                self.fields.get_pointer_as(3)
             }
 
             /// Whether `defaultValue` is there, and is not null.
@@ -1938,8 +1164,8 @@ pub mod field {
 
     /// A group.
     pub mod group {
-        use capnp_frame::message::ReaderSegments;
         use capnp_wire::any_struct::StructReader;
+        use capnp_frame::message::ReaderSegments;
 
         /// The group, in a struct in a message.
         #[derive(Drop)]
@@ -1960,8 +1186,8 @@ pub mod field {
     }
 
     pub mod ordinal {
-        use capnp_frame::message::ReaderSegments;
         use capnp_wire::any_struct::StructReader;
+        use capnp_frame::message::ReaderSegments;
 
         /// The group, in a struct in a message.
         #[derive(Drop)]
@@ -2016,12 +1242,12 @@ pub mod field {
 }
 
 /// Schema for member of an enum.
+#[rattlefmt::skip]
 pub mod enumerant {
-    use capnp_frame::Result;
-    use capnp_frame::message::ReaderSegments;
     use capnp_wire::any_struct::StructReader;
-    use capnp_wire::traits::{self, FromPointerReader, IndexMove, ListIter};
-    use capnp_wire::{any_pointer, text, upgraded};
+    use capnp_frame::message::ReaderSegments;
+    use capnp_frame::Result;
+    use capnp_wire::{text, traits, upgraded};
 
     /// The type of the schema.
     pub struct Owned;
@@ -2041,11 +1267,7 @@ pub mod enumerant {
         /// The field `name`.
         pub fn get_name(&self) -> Result<text::Reader<'a>>
             ensures { let fields = struct_of S.segments self.now.fields in
-                let pointer = pointer_in fields 0 in
-                IsViewOf pointer
-                (λ view. Reads pointer (λ form. IsText form view.bytes.now))
-                (Accepts pointer TakesText) (ViewError pointer TextFormError)
-                (FormError pointer TextFormError) result }
+                IsTextView (pointer_in fields 0) result }
         {
             self.fields.get_pointer_as(0)
         }
@@ -2070,16 +1292,9 @@ pub mod enumerant {
         /// The field `annotations`.
         pub fn get_annotations(&self) -> Result<super::annotation::ListReader<'a, S>>
             ensures { let fields = struct_of S.segments self.now.fields in
-                let pointer = pointer_in fields 1 in
-                IsViewOf pointer
-                (λ view. IsUpgradedStructs pointer (upgraded_structs_of S.segments view.elements))
-                (Accepts pointer TakesAsStructs) (ViewError pointer ElementsFormError)
-                (FormError pointer ElementsFormError) result }
+                IsStructsView S.segments (pointer_in fields 1) result }
         {
-            match self.fields.get_pointer_as(1) {
-                Ok(elements) => Ok(super::annotation::ListReader { elements }),
-                Err(error) => Err(error),
-            }
+            self.fields.get_pointer_as(1)
         }
 
         /// Whether `annotations` is there, and is not null.
@@ -2091,127 +1306,17 @@ pub mod enumerant {
         }
     }
 
-    impl<'a, S: ReaderSegments> FromPointerReader<'a, S> for Reader<'a, S> {
-        ghost shows = { λ pointer view. IsStruct pointer (struct_of S.segments view.fields) };
-
-        ghost accepts = { λ pointer. Accepts pointer TakesStruct };
-
-        ghost fails = { λ pointer kind. ViewError pointer StructFormError kind };
-
-        ghost form_error = { λ pointer kind. FormError pointer StructFormError kind };
+    impl<'a, S: ReaderSegments> upgraded::FromStruct<StructReader<'a, S>> for Reader<'a, S> {
+        ghost shown = { λ view. struct_of S.segments view.fields };
 
         #[inline(always)]
-        fn get_from_pointer(reader: any_pointer::Reader<'a, S>) -> Result<Self>
-            ensures { let pointer = pointer_of S.segments reader.entry in IsViewOf pointer
-                (λ view. IsStruct pointer (struct_of S.segments view.fields))
-                (Accepts pointer TakesStruct) (ViewError pointer StructFormError)
-                (FormError pointer StructFormError) result }
-        {
-            match StructReader::get_from_pointer(reader) {
-                Ok(fields) => Ok(Reader { fields }),
-                Err(error) => Err(error),
-            }
+        fn from_struct(fields: StructReader<'a, S>) -> Reader<'a, S> {
+            Reader { fields }
         }
     }
 
-    /// A list of such structs in a message, or of their first fields where an older writer had these.
-    #[derive(Drop)]
-    pub struct ListReader<'a, S: ReaderSegments> {
-        /// The list whose elements these are.
-        pub elements: upgraded::StructList<'a, S>,
-    }
-
-    impl<'a, S: ReaderSegments> ListReader<'a, S> {
-        /// The number of elements.
-        pub fn len(&self) -> u32
-            ensures { result ≡ length (upgraded_structs_of S.segments self.now.elements).elements }
-        {
-            self.elements.len()
-        }
-
-        /// The element of this index.
-        pub fn get(&self, index: u32) -> Reader<'a, S>
-            requires { index < length (upgraded_structs_of S.segments self.now.elements).elements }
-            ensures { struct_of S.segments result.fields
-                ≡ element_of (upgraded_structs_of S.segments self.now.elements) index }
-        {
-            Reader {
-                fields: self.elements.get(index),
-            }
-        }
-
-        /// The element of this index, or `None` past the last element.
-        pub fn try_get(&self, index: u32) -> Option<Reader<'a, S>>
-            ensures { let list = upgraded_structs_of S.segments self.now.elements in
-                FindsElement (length list.elements) index
-                (λ item. struct_of S.segments item.fields ≡ element_of list index) result }
-        {
-            self.try_index_move(index)
-        }
-
-        /// An iterator over the elements.
-        pub fn iter(&self) -> ListIter<'_, Self>
-            ensures { IsIterator self.now result }
-        {
-            ListIter::new(self)
-        }
-    }
-
-    impl<'a, S: ReaderSegments> IndexMove for ListReader<'a, S> {
-        type Item = Reader<'a, S>;
-
-        ghost Element = { Struct };
-
-        ghost seen = { λ item. struct_of S.segments item.fields };
-
-        ghost size = { λ list. length (upgraded_structs_of S.segments list.elements).elements };
-
-        ghost element = { λ list index.
-            element_of (upgraded_structs_of S.segments list.elements) index };
-
-        fn len(&self) -> u32 {
-            self.len()
-        }
-
-        fn index_move(&self, index: u32) -> Reader<'a, S> {
-            self.get(index)
-        }
-    }
-
-    impl<'l, 'a, S: ReaderSegments> IntoIterator for &'l ListReader<'a, S> {
-        type Item = Reader<'a, S>;
-
-        type IntoIter = ListIter<'l, ListReader<'a, S>>;
-
-        ghost into_iter_gives = { λ list elements. IsIterator list.now elements };
-
-        fn into_iter(self) -> ListIter<'l, ListReader<'a, S>> {
-            self.iter()
-        }
-    }
-
-    impl<'a, S: ReaderSegments> FromPointerReader<'a, S> for ListReader<'a, S> {
-        ghost shows = { λ pointer view.
-            IsUpgradedStructs pointer (upgraded_structs_of S.segments view.elements) };
-
-        ghost accepts = { λ pointer. Accepts pointer TakesAsStructs };
-
-        ghost fails = { λ pointer kind. ViewError pointer ElementsFormError kind };
-
-        ghost form_error = { λ pointer kind. FormError pointer ElementsFormError kind };
-
-        fn get_from_pointer(reader: any_pointer::Reader<'a, S>) -> Result<Self>
-            ensures { let pointer = pointer_of S.segments reader.entry in IsViewOf pointer
-                (λ view. IsUpgradedStructs pointer (upgraded_structs_of S.segments view.elements))
-                (Accepts pointer TakesAsStructs) (ViewError pointer ElementsFormError)
-                (FormError pointer ElementsFormError) result }
-        {
-            match upgraded::StructList::get_from_pointer(reader) {
-                Ok(elements) => Ok(ListReader { elements }),
-                Err(error) => Err(error),
-            }
-        }
-    }
+    /// A list of such structs, or of their first fields where an older writer had these.
+    pub type ListReader<'a, S> = upgraded::Structs<'a, S, Reader<'a, S>>;
 
     /// Which pointer of the struct points to `name`, for `fields.get_pointer`.
     pub const NAME_POINTER: u16 = 0;
@@ -2220,12 +1325,12 @@ pub mod enumerant {
     pub const ANNOTATIONS_POINTER: u16 = 1;
 }
 
+#[rattlefmt::skip]
 pub mod superclass {
-    use capnp_frame::Result;
-    use capnp_frame::message::ReaderSegments;
     use capnp_wire::any_struct::StructReader;
-    use capnp_wire::traits::{self, FromPointerReader, IndexMove, ListIter};
-    use capnp_wire::{any_pointer, upgraded};
+    use capnp_frame::message::ReaderSegments;
+    use capnp_frame::Result;
+    use capnp_wire::{traits, upgraded};
 
     /// The type of the schema.
     pub struct Owned;
@@ -2253,16 +1358,10 @@ pub mod superclass {
         /// The field `brand`.
         pub fn get_brand(&self) -> Result<super::brand::Reader<'a, S>>
             ensures { let fields = struct_of S.segments self.now.fields in
-                let pointer = pointer_in fields 0 in
-                IsViewOf pointer
-                (λ view. IsStruct pointer (struct_of S.segments view.fields))
-                (Accepts pointer TakesStruct) (ViewError pointer StructFormError)
-                (FormError pointer StructFormError) result }
+                IsStructView (pointer_in fields 0)
+                (λ view. struct_of S.segments view.fields) result }
         {
-            match self.fields.get_pointer_as(0) {
-                Ok(fields) => Ok(super::brand::Reader { fields }),
-                Err(error) => Err(error),
-            }
+            self.fields.get_pointer_as(0)
         }
 
         /// Whether `brand` is there, and is not null.
@@ -2274,139 +1373,29 @@ pub mod superclass {
         }
     }
 
-    impl<'a, S: ReaderSegments> FromPointerReader<'a, S> for Reader<'a, S> {
-        ghost shows = { λ pointer view. IsStruct pointer (struct_of S.segments view.fields) };
-
-        ghost accepts = { λ pointer. Accepts pointer TakesStruct };
-
-        ghost fails = { λ pointer kind. ViewError pointer StructFormError kind };
-
-        ghost form_error = { λ pointer kind. FormError pointer StructFormError kind };
+    impl<'a, S: ReaderSegments> upgraded::FromStruct<StructReader<'a, S>> for Reader<'a, S> {
+        ghost shown = { λ view. struct_of S.segments view.fields };
 
         #[inline(always)]
-        fn get_from_pointer(reader: any_pointer::Reader<'a, S>) -> Result<Self>
-            ensures { let pointer = pointer_of S.segments reader.entry in IsViewOf pointer
-                (λ view. IsStruct pointer (struct_of S.segments view.fields))
-                (Accepts pointer TakesStruct) (ViewError pointer StructFormError)
-                (FormError pointer StructFormError) result }
-        {
-            match StructReader::get_from_pointer(reader) {
-                Ok(fields) => Ok(Reader { fields }),
-                Err(error) => Err(error),
-            }
+        fn from_struct(fields: StructReader<'a, S>) -> Reader<'a, S> {
+            Reader { fields }
         }
     }
 
-    /// A list of such structs in a message, or of their first fields where an older writer had these.
-    #[derive(Drop)]
-    pub struct ListReader<'a, S: ReaderSegments> {
-        /// The list whose elements these are.
-        pub elements: upgraded::StructList<'a, S>,
-    }
-
-    impl<'a, S: ReaderSegments> ListReader<'a, S> {
-        /// The number of elements.
-        pub fn len(&self) -> u32
-            ensures { result ≡ length (upgraded_structs_of S.segments self.now.elements).elements }
-        {
-            self.elements.len()
-        }
-
-        /// The element of this index.
-        pub fn get(&self, index: u32) -> Reader<'a, S>
-            requires { index < length (upgraded_structs_of S.segments self.now.elements).elements }
-            ensures { struct_of S.segments result.fields
-                ≡ element_of (upgraded_structs_of S.segments self.now.elements) index }
-        {
-            Reader {
-                fields: self.elements.get(index),
-            }
-        }
-
-        /// The element of this index, or `None` past the last element.
-        pub fn try_get(&self, index: u32) -> Option<Reader<'a, S>>
-            ensures { let list = upgraded_structs_of S.segments self.now.elements in
-                FindsElement (length list.elements) index
-                (λ item. struct_of S.segments item.fields ≡ element_of list index) result }
-        {
-            self.try_index_move(index)
-        }
-
-        /// An iterator over the elements.
-        pub fn iter(&self) -> ListIter<'_, Self>
-            ensures { IsIterator self.now result }
-        {
-            ListIter::new(self)
-        }
-    }
-
-    impl<'a, S: ReaderSegments> IndexMove for ListReader<'a, S> {
-        type Item = Reader<'a, S>;
-
-        ghost Element = { Struct };
-
-        ghost seen = { λ item. struct_of S.segments item.fields };
-
-        ghost size = { λ list. length (upgraded_structs_of S.segments list.elements).elements };
-
-        ghost element = { λ list index.
-            element_of (upgraded_structs_of S.segments list.elements) index };
-
-        fn len(&self) -> u32 {
-            self.len()
-        }
-
-        fn index_move(&self, index: u32) -> Reader<'a, S> {
-            self.get(index)
-        }
-    }
-
-    impl<'l, 'a, S: ReaderSegments> IntoIterator for &'l ListReader<'a, S> {
-        type Item = Reader<'a, S>;
-
-        type IntoIter = ListIter<'l, ListReader<'a, S>>;
-
-        ghost into_iter_gives = { λ list elements. IsIterator list.now elements };
-
-        fn into_iter(self) -> ListIter<'l, ListReader<'a, S>> {
-            self.iter()
-        }
-    }
-
-    impl<'a, S: ReaderSegments> FromPointerReader<'a, S> for ListReader<'a, S> {
-        ghost shows = { λ pointer view.
-            IsUpgradedStructs pointer (upgraded_structs_of S.segments view.elements) };
-
-        ghost accepts = { λ pointer. Accepts pointer TakesAsStructs };
-
-        ghost fails = { λ pointer kind. ViewError pointer ElementsFormError kind };
-
-        ghost form_error = { λ pointer kind. FormError pointer ElementsFormError kind };
-
-        fn get_from_pointer(reader: any_pointer::Reader<'a, S>) -> Result<Self>
-            ensures { let pointer = pointer_of S.segments reader.entry in IsViewOf pointer
-                (λ view. IsUpgradedStructs pointer (upgraded_structs_of S.segments view.elements))
-                (Accepts pointer TakesAsStructs) (ViewError pointer ElementsFormError)
-                (FormError pointer ElementsFormError) result }
-        {
-            match upgraded::StructList::get_from_pointer(reader) {
-                Ok(elements) => Ok(ListReader { elements }),
-                Err(error) => Err(error),
-            }
-        }
-    }
+    /// A list of such structs, or of their first fields where an older writer had these.
+    pub type ListReader<'a, S> = upgraded::Structs<'a, S, Reader<'a, S>>;
 
     /// Which pointer of the struct points to `brand`, for `fields.get_pointer`.
     pub const BRAND_POINTER: u16 = 0;
 }
 
 /// Schema for method of an interface.
+#[rattlefmt::skip]
 pub mod method {
-    use capnp_frame::Result;
-    use capnp_frame::message::ReaderSegments;
     use capnp_wire::any_struct::StructReader;
-    use capnp_wire::traits::{self, FromPointerReader, IndexMove, ListIter};
-    use capnp_wire::{any_pointer, text, upgraded};
+    use capnp_frame::message::ReaderSegments;
+    use capnp_frame::Result;
+    use capnp_wire::{text, traits, upgraded};
 
     /// The type of the schema.
     pub struct Owned;
@@ -2426,11 +1415,7 @@ pub mod method {
         /// The field `name`.
         pub fn get_name(&self) -> Result<text::Reader<'a>>
             ensures { let fields = struct_of S.segments self.now.fields in
-                let pointer = pointer_in fields 0 in
-                IsViewOf pointer
-                (λ view. Reads pointer (λ form. IsText form view.bytes.now))
-                (Accepts pointer TakesText) (ViewError pointer TextFormError)
-                (FormError pointer TextFormError) result }
+                IsTextView (pointer_in fields 0) result }
         {
             self.fields.get_pointer_as(0)
         }
@@ -2477,16 +1462,9 @@ pub mod method {
         /// The field `annotations`.
         pub fn get_annotations(&self) -> Result<super::annotation::ListReader<'a, S>>
             ensures { let fields = struct_of S.segments self.now.fields in
-                let pointer = pointer_in fields 1 in
-                IsViewOf pointer
-                (λ view. IsUpgradedStructs pointer (upgraded_structs_of S.segments view.elements))
-                (Accepts pointer TakesAsStructs) (ViewError pointer ElementsFormError)
-                (FormError pointer ElementsFormError) result }
+                IsStructsView S.segments (pointer_in fields 1) result }
         {
-            match self.fields.get_pointer_as(1) {
-                Ok(elements) => Ok(super::annotation::ListReader { elements }),
-                Err(error) => Err(error),
-            }
+            self.fields.get_pointer_as(1)
         }
 
         /// Whether `annotations` is there, and is not null.
@@ -2500,16 +1478,10 @@ pub mod method {
         /// Brand of param struct type.
         pub fn get_param_brand(&self) -> Result<super::brand::Reader<'a, S>>
             ensures { let fields = struct_of S.segments self.now.fields in
-                let pointer = pointer_in fields 2 in
-                IsViewOf pointer
-                (λ view. IsStruct pointer (struct_of S.segments view.fields))
-                (Accepts pointer TakesStruct) (ViewError pointer StructFormError)
-                (FormError pointer StructFormError) result }
+                IsStructView (pointer_in fields 2)
+                (λ view. struct_of S.segments view.fields) result }
         {
-            match self.fields.get_pointer_as(2) {
-                Ok(fields) => Ok(super::brand::Reader { fields }),
-                Err(error) => Err(error),
-            }
+            self.fields.get_pointer_as(2)
         }
 
         /// Whether `paramBrand` is there, and is not null.
@@ -2523,16 +1495,10 @@ pub mod method {
         /// Brand of result struct type.
         pub fn get_result_brand(&self) -> Result<super::brand::Reader<'a, S>>
             ensures { let fields = struct_of S.segments self.now.fields in
-                let pointer = pointer_in fields 3 in
-                IsViewOf pointer
-                (λ view. IsStruct pointer (struct_of S.segments view.fields))
-                (Accepts pointer TakesStruct) (ViewError pointer StructFormError)
-                (FormError pointer StructFormError) result }
+                IsStructView (pointer_in fields 3)
+                (λ view. struct_of S.segments view.fields) result }
         {
-            match self.fields.get_pointer_as(3) {
-                Ok(fields) => Ok(super::brand::Reader { fields }),
-                Err(error) => Err(error),
-            }
+            self.fields.get_pointer_as(3)
         }
 
         /// Whether `resultBrand` is there, and is not null.
@@ -2547,16 +1513,9 @@ pub mod method {
         /// to be inferred rather than specified explicitly, although not all languages support this.
         pub fn get_implicit_parameters(&self) -> Result<super::node::parameter::ListReader<'a, S>>
             ensures { let fields = struct_of S.segments self.now.fields in
-                let pointer = pointer_in fields 4 in
-                IsViewOf pointer
-                (λ view. IsUpgradedStructs pointer (upgraded_structs_of S.segments view.elements))
-                (Accepts pointer TakesAsStructs) (ViewError pointer ElementsFormError)
-                (FormError pointer ElementsFormError) result }
+                IsStructsView S.segments (pointer_in fields 4) result }
         {
-            match self.fields.get_pointer_as(4) {
-                Ok(elements) => Ok(super::node::parameter::ListReader { elements }),
-                Err(error) => Err(error),
-            }
+            self.fields.get_pointer_as(4)
         }
 
         /// Whether `implicitParameters` is there, and is not null.
@@ -2568,127 +1527,17 @@ pub mod method {
         }
     }
 
-    impl<'a, S: ReaderSegments> FromPointerReader<'a, S> for Reader<'a, S> {
-        ghost shows = { λ pointer view. IsStruct pointer (struct_of S.segments view.fields) };
-
-        ghost accepts = { λ pointer. Accepts pointer TakesStruct };
-
-        ghost fails = { λ pointer kind. ViewError pointer StructFormError kind };
-
-        ghost form_error = { λ pointer kind. FormError pointer StructFormError kind };
+    impl<'a, S: ReaderSegments> upgraded::FromStruct<StructReader<'a, S>> for Reader<'a, S> {
+        ghost shown = { λ view. struct_of S.segments view.fields };
 
         #[inline(always)]
-        fn get_from_pointer(reader: any_pointer::Reader<'a, S>) -> Result<Self>
-            ensures { let pointer = pointer_of S.segments reader.entry in IsViewOf pointer
-                (λ view. IsStruct pointer (struct_of S.segments view.fields))
-                (Accepts pointer TakesStruct) (ViewError pointer StructFormError)
-                (FormError pointer StructFormError) result }
-        {
-            match StructReader::get_from_pointer(reader) {
-                Ok(fields) => Ok(Reader { fields }),
-                Err(error) => Err(error),
-            }
+        fn from_struct(fields: StructReader<'a, S>) -> Reader<'a, S> {
+            Reader { fields }
         }
     }
 
-    /// A list of such structs in a message, or of their first fields where an older writer had these.
-    #[derive(Drop)]
-    pub struct ListReader<'a, S: ReaderSegments> {
-        /// The list whose elements these are.
-        pub elements: upgraded::StructList<'a, S>,
-    }
-
-    impl<'a, S: ReaderSegments> ListReader<'a, S> {
-        /// The number of elements.
-        pub fn len(&self) -> u32
-            ensures { result ≡ length (upgraded_structs_of S.segments self.now.elements).elements }
-        {
-            self.elements.len()
-        }
-
-        /// The element of this index.
-        pub fn get(&self, index: u32) -> Reader<'a, S>
-            requires { index < length (upgraded_structs_of S.segments self.now.elements).elements }
-            ensures { struct_of S.segments result.fields
-                ≡ element_of (upgraded_structs_of S.segments self.now.elements) index }
-        {
-            Reader {
-                fields: self.elements.get(index),
-            }
-        }
-
-        /// The element of this index, or `None` past the last element.
-        pub fn try_get(&self, index: u32) -> Option<Reader<'a, S>>
-            ensures { let list = upgraded_structs_of S.segments self.now.elements in
-                FindsElement (length list.elements) index
-                (λ item. struct_of S.segments item.fields ≡ element_of list index) result }
-        {
-            self.try_index_move(index)
-        }
-
-        /// An iterator over the elements.
-        pub fn iter(&self) -> ListIter<'_, Self>
-            ensures { IsIterator self.now result }
-        {
-            ListIter::new(self)
-        }
-    }
-
-    impl<'a, S: ReaderSegments> IndexMove for ListReader<'a, S> {
-        type Item = Reader<'a, S>;
-
-        ghost Element = { Struct };
-
-        ghost seen = { λ item. struct_of S.segments item.fields };
-
-        ghost size = { λ list. length (upgraded_structs_of S.segments list.elements).elements };
-
-        ghost element = { λ list index.
-            element_of (upgraded_structs_of S.segments list.elements) index };
-
-        fn len(&self) -> u32 {
-            self.len()
-        }
-
-        fn index_move(&self, index: u32) -> Reader<'a, S> {
-            self.get(index)
-        }
-    }
-
-    impl<'l, 'a, S: ReaderSegments> IntoIterator for &'l ListReader<'a, S> {
-        type Item = Reader<'a, S>;
-
-        type IntoIter = ListIter<'l, ListReader<'a, S>>;
-
-        ghost into_iter_gives = { λ list elements. IsIterator list.now elements };
-
-        fn into_iter(self) -> ListIter<'l, ListReader<'a, S>> {
-            self.iter()
-        }
-    }
-
-    impl<'a, S: ReaderSegments> FromPointerReader<'a, S> for ListReader<'a, S> {
-        ghost shows = { λ pointer view.
-            IsUpgradedStructs pointer (upgraded_structs_of S.segments view.elements) };
-
-        ghost accepts = { λ pointer. Accepts pointer TakesAsStructs };
-
-        ghost fails = { λ pointer kind. ViewError pointer ElementsFormError kind };
-
-        ghost form_error = { λ pointer kind. FormError pointer ElementsFormError kind };
-
-        fn get_from_pointer(reader: any_pointer::Reader<'a, S>) -> Result<Self>
-            ensures { let pointer = pointer_of S.segments reader.entry in IsViewOf pointer
-                (λ view. IsUpgradedStructs pointer (upgraded_structs_of S.segments view.elements))
-                (Accepts pointer TakesAsStructs) (ViewError pointer ElementsFormError)
-                (FormError pointer ElementsFormError) result }
-        {
-            match upgraded::StructList::get_from_pointer(reader) {
-                Ok(elements) => Ok(ListReader { elements }),
-                Err(error) => Err(error),
-            }
-        }
-    }
+    /// A list of such structs, or of their first fields where an older writer had these.
+    pub type ListReader<'a, S> = upgraded::Structs<'a, S, Reader<'a, S>>;
 
     /// Which pointer of the struct points to `name`, for `fields.get_pointer`.
     pub const NAME_POINTER: u16 = 0;
@@ -2707,12 +1556,11 @@ pub mod method {
 }
 
 /// Represents a type expression.
+#[rattlefmt::skip]
 pub mod type_ {
-    use capnp_frame::Result;
-    use capnp_frame::message::ReaderSegments;
     use capnp_wire::any_struct::StructReader;
-    use capnp_wire::traits::{self, FromPointerReader, IndexMove, ListIter};
-    use capnp_wire::{any_pointer, upgraded};
+    use capnp_frame::message::ReaderSegments;
+    use capnp_wire::{traits, upgraded};
 
     /// The type of the schema.
     pub struct Owned;
@@ -2846,11 +1694,16 @@ pub mod type_ {
                   | Which.Float64 ↦ number ≡ 11
                   | Which.Text ↦ number ≡ 12
                   | Which.Data ↦ number ≡ 13
-                  | Which.List value ↦ (number ≡ 14) × (struct_of S.segments value.fields.now ≡ fields)
-                  | Which.Enum value ↦ (number ≡ 15) × (struct_of S.segments value.fields.now ≡ fields)
-                  | Which.Struct value ↦ (number ≡ 16) × (struct_of S.segments value.fields.now ≡ fields)
-                  | Which.Interface value ↦ (number ≡ 17) × (struct_of S.segments value.fields.now ≡ fields)
-                  | Which.AnyPointer value ↦ (number ≡ 18) × (struct_of S.segments value.fields.now ≡ fields)
+                  | Which.List value ↦ (number ≡ 14) ×
+                      (struct_of S.segments value.fields.now ≡ fields)
+                  | Which.Enum value ↦ (number ≡ 15) ×
+                      (struct_of S.segments value.fields.now ≡ fields)
+                  | Which.Struct value ↦ (number ≡ 16) ×
+                      (struct_of S.segments value.fields.now ≡ fields)
+                  | Which.Interface value ↦ (number ≡ 17) ×
+                      (struct_of S.segments value.fields.now ≡ fields)
+                  | Which.AnyPointer value ↦ (number ≡ 18) ×
+                      (struct_of S.segments value.fields.now ≡ fields)
                   | Which.NotInSchema unknown ↦ (unknown ≡ number) × (19 ≤ number)
                 ] }
         {
@@ -2905,132 +1758,22 @@ pub mod type_ {
         NotInSchema(u16),
     }
 
-    impl<'a, S: ReaderSegments> FromPointerReader<'a, S> for Reader<'a, S> {
-        ghost shows = { λ pointer view. IsStruct pointer (struct_of S.segments view.fields) };
-
-        ghost accepts = { λ pointer. Accepts pointer TakesStruct };
-
-        ghost fails = { λ pointer kind. ViewError pointer StructFormError kind };
-
-        ghost form_error = { λ pointer kind. FormError pointer StructFormError kind };
+    impl<'a, S: ReaderSegments> upgraded::FromStruct<StructReader<'a, S>> for Reader<'a, S> {
+        ghost shown = { λ view. struct_of S.segments view.fields };
 
         #[inline(always)]
-        fn get_from_pointer(reader: any_pointer::Reader<'a, S>) -> Result<Self>
-            ensures { let pointer = pointer_of S.segments reader.entry in IsViewOf pointer
-                (λ view. IsStruct pointer (struct_of S.segments view.fields))
-                (Accepts pointer TakesStruct) (ViewError pointer StructFormError)
-                (FormError pointer StructFormError) result }
-        {
-            match StructReader::get_from_pointer(reader) {
-                Ok(fields) => Ok(Reader { fields }),
-                Err(error) => Err(error),
-            }
+        fn from_struct(fields: StructReader<'a, S>) -> Reader<'a, S> {
+            Reader { fields }
         }
     }
 
-    /// A list of such structs in a message, or of their first fields where an older writer had these.
-    #[derive(Drop)]
-    pub struct ListReader<'a, S: ReaderSegments> {
-        /// The list whose elements these are.
-        pub elements: upgraded::StructList<'a, S>,
-    }
-
-    impl<'a, S: ReaderSegments> ListReader<'a, S> {
-        /// The number of elements.
-        pub fn len(&self) -> u32
-            ensures { result ≡ length (upgraded_structs_of S.segments self.now.elements).elements }
-        {
-            self.elements.len()
-        }
-
-        /// The element of this index.
-        pub fn get(&self, index: u32) -> Reader<'a, S>
-            requires { index < length (upgraded_structs_of S.segments self.now.elements).elements }
-            ensures { struct_of S.segments result.fields
-                ≡ element_of (upgraded_structs_of S.segments self.now.elements) index }
-        {
-            Reader {
-                fields: self.elements.get(index),
-            }
-        }
-
-        /// The element of this index, or `None` past the last element.
-        pub fn try_get(&self, index: u32) -> Option<Reader<'a, S>>
-            ensures { let list = upgraded_structs_of S.segments self.now.elements in
-                FindsElement (length list.elements) index
-                (λ item. struct_of S.segments item.fields ≡ element_of list index) result }
-        {
-            self.try_index_move(index)
-        }
-
-        /// An iterator over the elements.
-        pub fn iter(&self) -> ListIter<'_, Self>
-            ensures { IsIterator self.now result }
-        {
-            ListIter::new(self)
-        }
-    }
-
-    impl<'a, S: ReaderSegments> IndexMove for ListReader<'a, S> {
-        type Item = Reader<'a, S>;
-
-        ghost Element = { Struct };
-
-        ghost seen = { λ item. struct_of S.segments item.fields };
-
-        ghost size = { λ list. length (upgraded_structs_of S.segments list.elements).elements };
-
-        ghost element = { λ list index.
-            element_of (upgraded_structs_of S.segments list.elements) index };
-
-        fn len(&self) -> u32 {
-            self.len()
-        }
-
-        fn index_move(&self, index: u32) -> Reader<'a, S> {
-            self.get(index)
-        }
-    }
-
-    impl<'l, 'a, S: ReaderSegments> IntoIterator for &'l ListReader<'a, S> {
-        type Item = Reader<'a, S>;
-
-        type IntoIter = ListIter<'l, ListReader<'a, S>>;
-
-        ghost into_iter_gives = { λ list elements. IsIterator list.now elements };
-
-        fn into_iter(self) -> ListIter<'l, ListReader<'a, S>> {
-            self.iter()
-        }
-    }
-
-    impl<'a, S: ReaderSegments> FromPointerReader<'a, S> for ListReader<'a, S> {
-        ghost shows = { λ pointer view.
-            IsUpgradedStructs pointer (upgraded_structs_of S.segments view.elements) };
-
-        ghost accepts = { λ pointer. Accepts pointer TakesAsStructs };
-
-        ghost fails = { λ pointer kind. ViewError pointer ElementsFormError kind };
-
-        ghost form_error = { λ pointer kind. FormError pointer ElementsFormError kind };
-
-        fn get_from_pointer(reader: any_pointer::Reader<'a, S>) -> Result<Self>
-            ensures { let pointer = pointer_of S.segments reader.entry in IsViewOf pointer
-                (λ view. IsUpgradedStructs pointer (upgraded_structs_of S.segments view.elements))
-                (Accepts pointer TakesAsStructs) (ViewError pointer ElementsFormError)
-                (FormError pointer ElementsFormError) result }
-        {
-            match upgraded::StructList::get_from_pointer(reader) {
-                Ok(elements) => Ok(ListReader { elements }),
-                Err(error) => Err(error),
-            }
-        }
-    }
+    /// A list of such structs, or of their first fields where an older writer had these.
+    pub type ListReader<'a, S> = upgraded::Structs<'a, S, Reader<'a, S>>;
 
     pub mod list {
-        use capnp_frame::Result;
-        use capnp_frame::message::ReaderSegments;
         use capnp_wire::any_struct::StructReader;
+        use capnp_frame::message::ReaderSegments;
+        use capnp_frame::Result;
 
         /// The group, in a struct in a message.
         #[derive(Drop)]
@@ -3043,16 +1786,10 @@ pub mod type_ {
             /// The field `elementType`.
             pub fn get_element_type(&self) -> Result<super::super::type_::Reader<'a, S>>
                 ensures { let fields = struct_of S.segments self.now.fields.now in
-                    let pointer = pointer_in fields 0 in
-                    IsViewOf pointer
-                    (λ view. IsStruct pointer (struct_of S.segments view.fields))
-                    (Accepts pointer TakesStruct) (ViewError pointer StructFormError)
-                    (FormError pointer StructFormError) result }
+                    IsStructView (pointer_in fields 0)
+                    (λ view. struct_of S.segments view.fields) result }
             {
-                match self.fields.get_pointer_as(0) {
-                    Ok(fields) => Ok(super::super::type_::Reader { fields }),
-                    Err(error) => Err(error),
-                }
+                self.fields.get_pointer_as(0)
             }
 
             /// Whether `elementType` is there, and is not null.
@@ -3069,9 +1806,9 @@ pub mod type_ {
     }
 
     pub mod enum_ {
-        use capnp_frame::Result;
-        use capnp_frame::message::ReaderSegments;
         use capnp_wire::any_struct::StructReader;
+        use capnp_frame::message::ReaderSegments;
+        use capnp_frame::Result;
 
         /// The group, in a struct in a message.
         #[derive(Drop)]
@@ -3092,16 +1829,10 @@ pub mod type_ {
             /// The field `brand`.
             pub fn get_brand(&self) -> Result<super::super::brand::Reader<'a, S>>
                 ensures { let fields = struct_of S.segments self.now.fields.now in
-                    let pointer = pointer_in fields 0 in
-                    IsViewOf pointer
-                    (λ view. IsStruct pointer (struct_of S.segments view.fields))
-                    (Accepts pointer TakesStruct) (ViewError pointer StructFormError)
-                    (FormError pointer StructFormError) result }
+                    IsStructView (pointer_in fields 0)
+                    (λ view. struct_of S.segments view.fields) result }
             {
-                match self.fields.get_pointer_as(0) {
-                    Ok(fields) => Ok(super::super::brand::Reader { fields }),
-                    Err(error) => Err(error),
-                }
+                self.fields.get_pointer_as(0)
             }
 
             /// Whether `brand` is there, and is not null.
@@ -3118,9 +1849,9 @@ pub mod type_ {
     }
 
     pub mod struct_ {
-        use capnp_frame::Result;
-        use capnp_frame::message::ReaderSegments;
         use capnp_wire::any_struct::StructReader;
+        use capnp_frame::message::ReaderSegments;
+        use capnp_frame::Result;
 
         /// The group, in a struct in a message.
         #[derive(Drop)]
@@ -3141,16 +1872,10 @@ pub mod type_ {
             /// The field `brand`.
             pub fn get_brand(&self) -> Result<super::super::brand::Reader<'a, S>>
                 ensures { let fields = struct_of S.segments self.now.fields.now in
-                    let pointer = pointer_in fields 0 in
-                    IsViewOf pointer
-                    (λ view. IsStruct pointer (struct_of S.segments view.fields))
-                    (Accepts pointer TakesStruct) (ViewError pointer StructFormError)
-                    (FormError pointer StructFormError) result }
+                    IsStructView (pointer_in fields 0)
+                    (λ view. struct_of S.segments view.fields) result }
             {
-                match self.fields.get_pointer_as(0) {
-                    Ok(fields) => Ok(super::super::brand::Reader { fields }),
-                    Err(error) => Err(error),
-                }
+                self.fields.get_pointer_as(0)
             }
 
             /// Whether `brand` is there, and is not null.
@@ -3167,9 +1892,9 @@ pub mod type_ {
     }
 
     pub mod interface {
-        use capnp_frame::Result;
-        use capnp_frame::message::ReaderSegments;
         use capnp_wire::any_struct::StructReader;
+        use capnp_frame::message::ReaderSegments;
+        use capnp_frame::Result;
 
         /// The group, in a struct in a message.
         #[derive(Drop)]
@@ -3190,16 +1915,10 @@ pub mod type_ {
             /// The field `brand`.
             pub fn get_brand(&self) -> Result<super::super::brand::Reader<'a, S>>
                 ensures { let fields = struct_of S.segments self.now.fields.now in
-                    let pointer = pointer_in fields 0 in
-                    IsViewOf pointer
-                    (λ view. IsStruct pointer (struct_of S.segments view.fields))
-                    (Accepts pointer TakesStruct) (ViewError pointer StructFormError)
-                    (FormError pointer StructFormError) result }
+                    IsStructView (pointer_in fields 0)
+                    (λ view. struct_of S.segments view.fields) result }
             {
-                match self.fields.get_pointer_as(0) {
-                    Ok(fields) => Ok(super::super::brand::Reader { fields }),
-                    Err(error) => Err(error),
-                }
+                self.fields.get_pointer_as(0)
             }
 
             /// Whether `brand` is there, and is not null.
@@ -3216,8 +1935,8 @@ pub mod type_ {
     }
 
     pub mod any_pointer_ {
-        use capnp_frame::message::ReaderSegments;
         use capnp_wire::any_struct::StructReader;
+        use capnp_frame::message::ReaderSegments;
 
         /// The group, in a struct in a message.
         #[derive(Drop)]
@@ -3256,9 +1975,7 @@ pub mod type_ {
             /// This is actually a reference to an implicit (generic) parameter of a method. The only
             /// legal context for this type to appear is inside Method.paramBrand or Method.resultBrand.
             #[inline(always)]
-            pub fn get_implicit_method_parameter(
-                &self,
-            ) -> implicit_method_parameter::Reader<'b, 'a, S>
+            pub fn get_implicit_method_parameter(&self) -> implicit_method_parameter::Reader<'b, 'a, S>
                 ensures { let fields = struct_of S.segments self.now.fields.now in
                     struct_of S.segments result.fields.now ≡ fields }
             {
@@ -3273,9 +1990,12 @@ pub mod type_ {
                 ensures { let fields = struct_of S.segments self.now.fields.now in
                     let number = field fields.words 16 4 in
                     elim result [
-                      | Which.Unconstrained value ↦ (number ≡ 0) × (struct_of S.segments value.fields.now ≡ fields)
-                      | Which.Parameter value ↦ (number ≡ 1) × (struct_of S.segments value.fields.now ≡ fields)
-                      | Which.ImplicitMethodParameter value ↦ (number ≡ 2) × (struct_of S.segments value.fields.now ≡ fields)
+                      | Which.Unconstrained value ↦ (number ≡ 0) ×
+                          (struct_of S.segments value.fields.now ≡ fields)
+                      | Which.Parameter value ↦ (number ≡ 1) ×
+                          (struct_of S.segments value.fields.now ≡ fields)
+                      | Which.ImplicitMethodParameter value ↦ (number ≡ 2) ×
+                          (struct_of S.segments value.fields.now ≡ fields)
                       | Which.NotInSchema unknown ↦ (unknown ≡ number) × (3 ≤ number)
                     ] }
             {
@@ -3304,8 +2024,8 @@ pub mod type_ {
         /// In retrospect this name is probably a poor choice given that it may still be constrained
         /// to be a struct, list, or capability.
         pub mod unconstrained {
-            use capnp_frame::message::ReaderSegments;
             use capnp_wire::any_struct::StructReader;
+            use capnp_frame::message::ReaderSegments;
 
             /// The group, in a struct in a message.
             #[derive(Drop)]
@@ -3364,8 +2084,8 @@ pub mod type_ {
 
         /// This is actually a reference to a type parameter defined within this scope.
         pub mod parameter {
-            use capnp_frame::message::ReaderSegments;
             use capnp_wire::any_struct::StructReader;
+            use capnp_frame::message::ReaderSegments;
 
             /// The group, in a struct in a message.
             #[derive(Drop)]
@@ -3397,8 +2117,8 @@ pub mod type_ {
         /// This is actually a reference to an implicit (generic) parameter of a method. The only
         /// legal context for this type to appear is inside Method.paramBrand or Method.resultBrand.
         pub mod implicit_method_parameter {
-            use capnp_frame::message::ReaderSegments;
             use capnp_wire::any_struct::StructReader;
+            use capnp_frame::message::ReaderSegments;
 
             /// The group, in a struct in a message.
             #[derive(Drop)]
@@ -3422,12 +2142,12 @@ pub mod type_ {
 
 /// Specifies bindings for parameters of generics. Since these bindings turn a generic into a
 /// non-generic, we call it the "brand".
+#[rattlefmt::skip]
 pub mod brand {
-    use capnp_frame::Result;
-    use capnp_frame::message::ReaderSegments;
     use capnp_wire::any_struct::StructReader;
-    use capnp_wire::traits::{self, FromPointerReader, IndexMove, ListIter};
-    use capnp_wire::{any_pointer, upgraded};
+    use capnp_frame::message::ReaderSegments;
+    use capnp_frame::Result;
+    use capnp_wire::{traits, upgraded};
 
     /// The type of the schema.
     pub struct Owned;
@@ -3449,16 +2169,9 @@ pub mod brand {
         /// that scope has no parameters or all parameters should be considered to be `AnyPointer`.
         pub fn get_scopes(&self) -> Result<scope::ListReader<'a, S>>
             ensures { let fields = struct_of S.segments self.now.fields in
-                let pointer = pointer_in fields 0 in
-                IsViewOf pointer
-                (λ view. IsUpgradedStructs pointer (upgraded_structs_of S.segments view.elements))
-                (Accepts pointer TakesAsStructs) (ViewError pointer ElementsFormError)
-                (FormError pointer ElementsFormError) result }
+                IsStructsView S.segments (pointer_in fields 0) result }
         {
-            match self.fields.get_pointer_as(0) {
-                Ok(elements) => Ok(scope::ListReader { elements }),
-                Err(error) => Err(error),
-            }
+            self.fields.get_pointer_as(0)
         }
 
         /// Whether `scopes` is there, and is not null.
@@ -3470,137 +2183,26 @@ pub mod brand {
         }
     }
 
-    impl<'a, S: ReaderSegments> FromPointerReader<'a, S> for Reader<'a, S> {
-        ghost shows = { λ pointer view. IsStruct pointer (struct_of S.segments view.fields) };
-
-        ghost accepts = { λ pointer. Accepts pointer TakesStruct };
-
-        ghost fails = { λ pointer kind. ViewError pointer StructFormError kind };
-
-        ghost form_error = { λ pointer kind. FormError pointer StructFormError kind };
+    impl<'a, S: ReaderSegments> upgraded::FromStruct<StructReader<'a, S>> for Reader<'a, S> {
+        ghost shown = { λ view. struct_of S.segments view.fields };
 
         #[inline(always)]
-        fn get_from_pointer(reader: any_pointer::Reader<'a, S>) -> Result<Self>
-            ensures { let pointer = pointer_of S.segments reader.entry in IsViewOf pointer
-                (λ view. IsStruct pointer (struct_of S.segments view.fields))
-                (Accepts pointer TakesStruct) (ViewError pointer StructFormError)
-                (FormError pointer StructFormError) result }
-        {
-            match StructReader::get_from_pointer(reader) {
-                Ok(fields) => Ok(Reader { fields }),
-                Err(error) => Err(error),
-            }
+        fn from_struct(fields: StructReader<'a, S>) -> Reader<'a, S> {
+            Reader { fields }
         }
     }
 
-    /// A list of such structs in a message, or of their first fields where an older writer had these.
-    #[derive(Drop)]
-    pub struct ListReader<'a, S: ReaderSegments> {
-        /// The list whose elements these are.
-        pub elements: upgraded::StructList<'a, S>,
-    }
-
-    impl<'a, S: ReaderSegments> ListReader<'a, S> {
-        /// The number of elements.
-        pub fn len(&self) -> u32
-            ensures { result ≡ length (upgraded_structs_of S.segments self.now.elements).elements }
-        {
-            self.elements.len()
-        }
-
-        /// The element of this index.
-        pub fn get(&self, index: u32) -> Reader<'a, S>
-            requires { index < length (upgraded_structs_of S.segments self.now.elements).elements }
-            ensures { struct_of S.segments result.fields
-                ≡ element_of (upgraded_structs_of S.segments self.now.elements) index }
-        {
-            Reader {
-                fields: self.elements.get(index),
-            }
-        }
-
-        /// The element of this index, or `None` past the last element.
-        pub fn try_get(&self, index: u32) -> Option<Reader<'a, S>>
-            ensures { let list = upgraded_structs_of S.segments self.now.elements in
-                FindsElement (length list.elements) index
-                (λ item. struct_of S.segments item.fields ≡ element_of list index) result }
-        {
-            self.try_index_move(index)
-        }
-
-        /// An iterator over the elements.
-        pub fn iter(&self) -> ListIter<'_, Self>
-            ensures { IsIterator self.now result }
-        {
-            ListIter::new(self)
-        }
-    }
-
-    impl<'a, S: ReaderSegments> IndexMove for ListReader<'a, S> {
-        type Item = Reader<'a, S>;
-
-        ghost Element = { Struct };
-
-        ghost seen = { λ item. struct_of S.segments item.fields };
-
-        ghost size = { λ list. length (upgraded_structs_of S.segments list.elements).elements };
-
-        ghost element = { λ list index.
-            element_of (upgraded_structs_of S.segments list.elements) index };
-
-        fn len(&self) -> u32 {
-            self.len()
-        }
-
-        fn index_move(&self, index: u32) -> Reader<'a, S> {
-            self.get(index)
-        }
-    }
-
-    impl<'l, 'a, S: ReaderSegments> IntoIterator for &'l ListReader<'a, S> {
-        type Item = Reader<'a, S>;
-
-        type IntoIter = ListIter<'l, ListReader<'a, S>>;
-
-        ghost into_iter_gives = { λ list elements. IsIterator list.now elements };
-
-        fn into_iter(self) -> ListIter<'l, ListReader<'a, S>> {
-            self.iter()
-        }
-    }
-
-    impl<'a, S: ReaderSegments> FromPointerReader<'a, S> for ListReader<'a, S> {
-        ghost shows = { λ pointer view.
-            IsUpgradedStructs pointer (upgraded_structs_of S.segments view.elements) };
-
-        ghost accepts = { λ pointer. Accepts pointer TakesAsStructs };
-
-        ghost fails = { λ pointer kind. ViewError pointer ElementsFormError kind };
-
-        ghost form_error = { λ pointer kind. FormError pointer ElementsFormError kind };
-
-        fn get_from_pointer(reader: any_pointer::Reader<'a, S>) -> Result<Self>
-            ensures { let pointer = pointer_of S.segments reader.entry in IsViewOf pointer
-                (λ view. IsUpgradedStructs pointer (upgraded_structs_of S.segments view.elements))
-                (Accepts pointer TakesAsStructs) (ViewError pointer ElementsFormError)
-                (FormError pointer ElementsFormError) result }
-        {
-            match upgraded::StructList::get_from_pointer(reader) {
-                Ok(elements) => Ok(ListReader { elements }),
-                Err(error) => Err(error),
-            }
-        }
-    }
+    /// A list of such structs, or of their first fields where an older writer had these.
+    pub type ListReader<'a, S> = upgraded::Structs<'a, S, Reader<'a, S>>;
 
     /// Which pointer of the struct points to `scopes`, for `fields.get_pointer`.
     pub const SCOPES_POINTER: u16 = 0;
 
     pub mod scope {
-        use capnp_frame::Result;
-        use capnp_frame::message::ReaderSegments;
         use capnp_wire::any_struct::StructReader;
-        use capnp_wire::traits::{self, FromPointerReader, IndexMove, ListIter};
-        use capnp_wire::{any_pointer, upgraded};
+        use capnp_frame::message::ReaderSegments;
+        use capnp_frame::Result;
+        use capnp_wire::{traits, upgraded};
 
         /// The type of the schema.
         pub struct Owned;
@@ -3628,16 +2230,9 @@ pub mod brand {
             /// List of parameter bindings.
             pub fn get_bind(&self) -> Result<super::binding::ListReader<'a, S>>
                 ensures { let fields = struct_of S.segments self.now.fields in
-                    let pointer = pointer_in fields 0 in
-                    IsViewOf pointer
-                    (λ view. IsUpgradedStructs pointer (upgraded_structs_of S.segments view.elements))
-                    (Accepts pointer TakesAsStructs) (ViewError pointer ElementsFormError)
-                    (FormError pointer ElementsFormError) result }
+                    IsStructsView S.segments (pointer_in fields 0) result }
             {
-                match self.fields.get_pointer_as(0) {
-                    Ok(elements) => Ok(super::binding::ListReader { elements }),
-                    Err(error) => Err(error),
-                }
+                self.fields.get_pointer_as(0)
             }
 
             /// Whether `bind` is there, and is not null.
@@ -3672,11 +2267,7 @@ pub mod brand {
                     let number = field fields.words 16 4 in
                     elim result [
                       | Which.Bind value ↦ (number ≡ 0) ×
-                          (let pointer = pointer_in fields 0 in
-                          IsViewOf pointer
-                          (λ view. IsUpgradedStructs pointer (upgraded_structs_of S.segments view.elements))
-                          (Accepts pointer TakesAsStructs) (ViewError pointer ElementsFormError)
-                          (FormError pointer ElementsFormError) value)
+                          (IsStructsView S.segments (pointer_in fields 0) value)
                       | Which.Inherit ↦ number ≡ 1
                       | Which.NotInSchema unknown ↦ (unknown ≡ number) × (2 ≤ number)
                     ] }
@@ -3698,138 +2289,27 @@ pub mod brand {
             NotInSchema(u16),
         }
 
-        impl<'a, S: ReaderSegments> FromPointerReader<'a, S> for Reader<'a, S> {
-            ghost shows = { λ pointer view. IsStruct pointer (struct_of S.segments view.fields) };
-
-            ghost accepts = { λ pointer. Accepts pointer TakesStruct };
-
-            ghost fails = { λ pointer kind. ViewError pointer StructFormError kind };
-
-            ghost form_error = { λ pointer kind. FormError pointer StructFormError kind };
+        impl<'a, S: ReaderSegments> upgraded::FromStruct<StructReader<'a, S>> for Reader<'a, S> {
+            ghost shown = { λ view. struct_of S.segments view.fields };
 
             #[inline(always)]
-            fn get_from_pointer(reader: any_pointer::Reader<'a, S>) -> Result<Self>
-                ensures { let pointer = pointer_of S.segments reader.entry in IsViewOf pointer
-                    (λ view. IsStruct pointer (struct_of S.segments view.fields))
-                    (Accepts pointer TakesStruct) (ViewError pointer StructFormError)
-                    (FormError pointer StructFormError) result }
-            {
-                match StructReader::get_from_pointer(reader) {
-                    Ok(fields) => Ok(Reader { fields }),
-                    Err(error) => Err(error),
-                }
+            fn from_struct(fields: StructReader<'a, S>) -> Reader<'a, S> {
+                Reader { fields }
             }
         }
 
-        /// A list of such structs in a message, or of their first fields where an older writer had these.
-        #[derive(Drop)]
-        pub struct ListReader<'a, S: ReaderSegments> {
-            /// The list whose elements these are.
-            pub elements: upgraded::StructList<'a, S>,
-        }
-
-        impl<'a, S: ReaderSegments> ListReader<'a, S> {
-            /// The number of elements.
-            pub fn len(&self) -> u32
-                ensures { result ≡ length (upgraded_structs_of S.segments self.now.elements).elements }
-            {
-                self.elements.len()
-            }
-
-            /// The element of this index.
-            pub fn get(&self, index: u32) -> Reader<'a, S>
-                requires { index < length (upgraded_structs_of S.segments self.now.elements).elements }
-                ensures { struct_of S.segments result.fields
-                    ≡ element_of (upgraded_structs_of S.segments self.now.elements) index }
-            {
-                Reader {
-                    fields: self.elements.get(index),
-                }
-            }
-
-            /// The element of this index, or `None` past the last element.
-            pub fn try_get(&self, index: u32) -> Option<Reader<'a, S>>
-                ensures { let list = upgraded_structs_of S.segments self.now.elements in
-                    FindsElement (length list.elements) index
-                    (λ item. struct_of S.segments item.fields ≡ element_of list index) result }
-            {
-                self.try_index_move(index)
-            }
-
-            /// An iterator over the elements.
-            pub fn iter(&self) -> ListIter<'_, Self>
-                ensures { IsIterator self.now result }
-            {
-                ListIter::new(self)
-            }
-        }
-
-        impl<'a, S: ReaderSegments> IndexMove for ListReader<'a, S> {
-            type Item = Reader<'a, S>;
-
-            ghost Element = { Struct };
-
-            ghost seen = { λ item. struct_of S.segments item.fields };
-
-            ghost size = { λ list. length (upgraded_structs_of S.segments list.elements).elements };
-
-            ghost element = { λ list index.
-                element_of (upgraded_structs_of S.segments list.elements) index };
-
-            fn len(&self) -> u32 {
-                self.len()
-            }
-
-            fn index_move(&self, index: u32) -> Reader<'a, S> {
-                self.get(index)
-            }
-        }
-
-        impl<'l, 'a, S: ReaderSegments> IntoIterator for &'l ListReader<'a, S> {
-            type Item = Reader<'a, S>;
-
-            type IntoIter = ListIter<'l, ListReader<'a, S>>;
-
-            ghost into_iter_gives = { λ list elements. IsIterator list.now elements };
-
-            fn into_iter(self) -> ListIter<'l, ListReader<'a, S>> {
-                self.iter()
-            }
-        }
-
-        impl<'a, S: ReaderSegments> FromPointerReader<'a, S> for ListReader<'a, S> {
-            ghost shows = { λ pointer view.
-                IsUpgradedStructs pointer (upgraded_structs_of S.segments view.elements) };
-
-            ghost accepts = { λ pointer. Accepts pointer TakesAsStructs };
-
-            ghost fails = { λ pointer kind. ViewError pointer ElementsFormError kind };
-
-            ghost form_error = { λ pointer kind. FormError pointer ElementsFormError kind };
-
-            fn get_from_pointer(reader: any_pointer::Reader<'a, S>) -> Result<Self>
-                ensures { let pointer = pointer_of S.segments reader.entry in IsViewOf pointer
-                    (λ view. IsUpgradedStructs pointer (upgraded_structs_of S.segments view.elements))
-                    (Accepts pointer TakesAsStructs) (ViewError pointer ElementsFormError)
-                    (FormError pointer ElementsFormError) result }
-            {
-                match upgraded::StructList::get_from_pointer(reader) {
-                    Ok(elements) => Ok(ListReader { elements }),
-                    Err(error) => Err(error),
-                }
-            }
-        }
+        /// A list of such structs, or of their first fields where an older writer had these.
+        pub type ListReader<'a, S> = upgraded::Structs<'a, S, Reader<'a, S>>;
 
         /// Which pointer of the struct points to `bind`, for `fields.get_pointer`.
         pub const BIND_POINTER: u16 = 0;
     }
 
     pub mod binding {
-        use capnp_frame::Result;
-        use capnp_frame::message::ReaderSegments;
         use capnp_wire::any_struct::StructReader;
-        use capnp_wire::traits::{self, FromPointerReader, IndexMove, ListIter};
-        use capnp_wire::{any_pointer, upgraded};
+        use capnp_frame::message::ReaderSegments;
+        use capnp_frame::Result;
+        use capnp_wire::{traits, upgraded};
 
         /// The type of the schema.
         pub struct Owned;
@@ -3852,16 +2332,10 @@ pub mod brand {
             /// The field `type`.
             pub fn get_type(&self) -> Result<super::super::type_::Reader<'a, S>>
                 ensures { let fields = struct_of S.segments self.now.fields in
-                    let pointer = pointer_in fields 0 in
-                    IsViewOf pointer
-                    (λ view. IsStruct pointer (struct_of S.segments view.fields))
-                    (Accepts pointer TakesStruct) (ViewError pointer StructFormError)
-                    (FormError pointer StructFormError) result }
+                    IsStructView (pointer_in fields 0)
+                    (λ view. struct_of S.segments view.fields) result }
             {
-                match self.fields.get_pointer_as(0) {
-                    Ok(fields) => Ok(super::super::type_::Reader { fields }),
-                    Err(error) => Err(error),
-                }
+                self.fields.get_pointer_as(0)
             }
 
             /// Whether `type` is there, and is not null.
@@ -3880,11 +2354,8 @@ pub mod brand {
                     elim result [
                       | Which.Unbound ↦ number ≡ 0
                       | Which.Type value ↦ (number ≡ 1) ×
-                          (let pointer = pointer_in fields 0 in
-                          IsViewOf pointer
-                          (λ view. IsStruct pointer (struct_of S.segments view.fields))
-                          (Accepts pointer TakesStruct) (ViewError pointer StructFormError)
-                          (FormError pointer StructFormError) value)
+                          (IsStructView (pointer_in fields 0)
+                          (λ view. struct_of S.segments view.fields) value)
                       | Which.NotInSchema unknown ↦ (unknown ≡ number) × (2 ≤ number)
                     ] }
             {
@@ -3905,127 +2376,17 @@ pub mod brand {
             NotInSchema(u16),
         }
 
-        impl<'a, S: ReaderSegments> FromPointerReader<'a, S> for Reader<'a, S> {
-            ghost shows = { λ pointer view. IsStruct pointer (struct_of S.segments view.fields) };
-
-            ghost accepts = { λ pointer. Accepts pointer TakesStruct };
-
-            ghost fails = { λ pointer kind. ViewError pointer StructFormError kind };
-
-            ghost form_error = { λ pointer kind. FormError pointer StructFormError kind };
+        impl<'a, S: ReaderSegments> upgraded::FromStruct<StructReader<'a, S>> for Reader<'a, S> {
+            ghost shown = { λ view. struct_of S.segments view.fields };
 
             #[inline(always)]
-            fn get_from_pointer(reader: any_pointer::Reader<'a, S>) -> Result<Self>
-                ensures { let pointer = pointer_of S.segments reader.entry in IsViewOf pointer
-                    (λ view. IsStruct pointer (struct_of S.segments view.fields))
-                    (Accepts pointer TakesStruct) (ViewError pointer StructFormError)
-                    (FormError pointer StructFormError) result }
-            {
-                match StructReader::get_from_pointer(reader) {
-                    Ok(fields) => Ok(Reader { fields }),
-                    Err(error) => Err(error),
-                }
+            fn from_struct(fields: StructReader<'a, S>) -> Reader<'a, S> {
+                Reader { fields }
             }
         }
 
-        /// A list of such structs in a message, or of their first fields where an older writer had these.
-        #[derive(Drop)]
-        pub struct ListReader<'a, S: ReaderSegments> {
-            /// The list whose elements these are.
-            pub elements: upgraded::StructList<'a, S>,
-        }
-
-        impl<'a, S: ReaderSegments> ListReader<'a, S> {
-            /// The number of elements.
-            pub fn len(&self) -> u32
-                ensures { result ≡ length (upgraded_structs_of S.segments self.now.elements).elements }
-            {
-                self.elements.len()
-            }
-
-            /// The element of this index.
-            pub fn get(&self, index: u32) -> Reader<'a, S>
-                requires { index < length (upgraded_structs_of S.segments self.now.elements).elements }
-                ensures { struct_of S.segments result.fields
-                    ≡ element_of (upgraded_structs_of S.segments self.now.elements) index }
-            {
-                Reader {
-                    fields: self.elements.get(index),
-                }
-            }
-
-            /// The element of this index, or `None` past the last element.
-            pub fn try_get(&self, index: u32) -> Option<Reader<'a, S>>
-                ensures { let list = upgraded_structs_of S.segments self.now.elements in
-                    FindsElement (length list.elements) index
-                    (λ item. struct_of S.segments item.fields ≡ element_of list index) result }
-            {
-                self.try_index_move(index)
-            }
-
-            /// An iterator over the elements.
-            pub fn iter(&self) -> ListIter<'_, Self>
-                ensures { IsIterator self.now result }
-            {
-                ListIter::new(self)
-            }
-        }
-
-        impl<'a, S: ReaderSegments> IndexMove for ListReader<'a, S> {
-            type Item = Reader<'a, S>;
-
-            ghost Element = { Struct };
-
-            ghost seen = { λ item. struct_of S.segments item.fields };
-
-            ghost size = { λ list. length (upgraded_structs_of S.segments list.elements).elements };
-
-            ghost element = { λ list index.
-                element_of (upgraded_structs_of S.segments list.elements) index };
-
-            fn len(&self) -> u32 {
-                self.len()
-            }
-
-            fn index_move(&self, index: u32) -> Reader<'a, S> {
-                self.get(index)
-            }
-        }
-
-        impl<'l, 'a, S: ReaderSegments> IntoIterator for &'l ListReader<'a, S> {
-            type Item = Reader<'a, S>;
-
-            type IntoIter = ListIter<'l, ListReader<'a, S>>;
-
-            ghost into_iter_gives = { λ list elements. IsIterator list.now elements };
-
-            fn into_iter(self) -> ListIter<'l, ListReader<'a, S>> {
-                self.iter()
-            }
-        }
-
-        impl<'a, S: ReaderSegments> FromPointerReader<'a, S> for ListReader<'a, S> {
-            ghost shows = { λ pointer view.
-                IsUpgradedStructs pointer (upgraded_structs_of S.segments view.elements) };
-
-            ghost accepts = { λ pointer. Accepts pointer TakesAsStructs };
-
-            ghost fails = { λ pointer kind. ViewError pointer ElementsFormError kind };
-
-            ghost form_error = { λ pointer kind. FormError pointer ElementsFormError kind };
-
-            fn get_from_pointer(reader: any_pointer::Reader<'a, S>) -> Result<Self>
-                ensures { let pointer = pointer_of S.segments reader.entry in IsViewOf pointer
-                    (λ view. IsUpgradedStructs pointer (upgraded_structs_of S.segments view.elements))
-                    (Accepts pointer TakesAsStructs) (ViewError pointer ElementsFormError)
-                    (FormError pointer ElementsFormError) result }
-            {
-                match upgraded::StructList::get_from_pointer(reader) {
-                    Ok(elements) => Ok(ListReader { elements }),
-                    Err(error) => Err(error),
-                }
-            }
-        }
+        /// A list of such structs, or of their first fields where an older writer had these.
+        pub type ListReader<'a, S> = upgraded::Structs<'a, S, Reader<'a, S>>;
 
         /// Which pointer of the struct points to `type`, for `fields.get_pointer`.
         pub const TYPE_POINTER: u16 = 0;
@@ -4033,12 +2394,12 @@ pub mod brand {
 }
 
 /// Represents a value, e.g. a field default value, constant value, or annotation value.
+#[rattlefmt::skip]
 pub mod value {
-    use capnp_frame::Result;
-    use capnp_frame::message::ReaderSegments;
     use capnp_wire::any_struct::StructReader;
-    use capnp_wire::traits::{self, FromPointerReader, IndexMove, ListIter};
-    use capnp_wire::{any_pointer, text, upgraded};
+    use capnp_frame::message::ReaderSegments;
+    use capnp_frame::Result;
+    use capnp_wire::{any_pointer, text, traits, upgraded};
 
     /// The type of the schema.
     pub struct Owned;
@@ -4149,11 +2510,7 @@ pub mod value {
         /// The field `text`.
         pub fn get_text(&self) -> Result<text::Reader<'a>>
             ensures { let fields = struct_of S.segments self.now.fields in
-                let pointer = pointer_in fields 0 in
-                IsViewOf pointer
-                (λ view. Reads pointer (λ form. IsText form view.bytes.now))
-                (Accepts pointer TakesText) (ViewError pointer TextFormError)
-                (FormError pointer TextFormError) result }
+                IsTextView (pointer_in fields 0) result }
         {
             self.fields.get_pointer_as(0)
         }
@@ -4169,11 +2526,7 @@ pub mod value {
         /// The field `data`.
         pub fn get_data(&self) -> Result<&'a [u8]>
             ensures { let fields = struct_of S.segments self.now.fields in
-                let pointer = pointer_in fields 0 in
-                IsViewOf pointer
-                (λ view. Reads pointer (λ form. IsData form view.now))
-                (Accepts pointer (TakesNumbers 2)) (ViewError pointer (NumbersFormError 2))
-                (FormError pointer (NumbersFormError 2)) result }
+                IsDataView (pointer_in fields 0) result }
         {
             self.fields.get_pointer_as(0)
         }
@@ -4253,34 +2606,36 @@ pub mod value {
                 let number = field fields.words 16 0 in
                 elim result [
                   | Which.Void ↦ number ≡ 0
-                  | Which.Bool value ↦ (number ≡ 1) × (value ≡ (field fields.words 1 16 == 1))
-                  | Which.Int8 value ↦ (number ≡ 2) × (value ≡ cast_signed w8 (field fields.words 8 2))
-                  | Which.Int16 value ↦ (number ≡ 3) × (value ≡ cast_signed w16 (field fields.words 16 1))
-                  | Which.Int32 value ↦ (number ≡ 4) × (value ≡ cast_signed w32 (field fields.words 32 1))
-                  | Which.Int64 value ↦ (number ≡ 5) × (value ≡ cast_signed w64 (field fields.words 64 1))
+                  | Which.Bool value ↦ (number ≡ 1) ×
+                      (value ≡ (field fields.words 1 16 == 1))
+                  | Which.Int8 value ↦ (number ≡ 2) ×
+                      (value ≡ cast_signed w8 (field fields.words 8 2))
+                  | Which.Int16 value ↦ (number ≡ 3) ×
+                      (value ≡ cast_signed w16 (field fields.words 16 1))
+                  | Which.Int32 value ↦ (number ≡ 4) ×
+                      (value ≡ cast_signed w32 (field fields.words 32 1))
+                  | Which.Int64 value ↦ (number ≡ 5) ×
+                      (value ≡ cast_signed w64 (field fields.words 64 1))
                   | Which.Uint8 value ↦ (number ≡ 6) × (value ≡ field fields.words 8 2)
                   | Which.Uint16 value ↦ (number ≡ 7) × (value ≡ field fields.words 16 1)
                   | Which.Uint32 value ↦ (number ≡ 8) × (value ≡ field fields.words 32 1)
                   | Which.Uint64 value ↦ (number ≡ 9) × (value ≡ field fields.words 64 1)
-                  | Which.Float32 value ↦ (number ≡ 10) × (value ≡ from_bits binary32 (field fields.words 32 1))
-                  | Which.Float64 value ↦ (number ≡ 11) × (value ≡ from_bits binary64 (field fields.words 64 1))
+                  | Which.Float32 value ↦ (number ≡ 10) ×
+                      (value ≡ from_bits binary32 (field fields.words 32 1))
+                  | Which.Float64 value ↦ (number ≡ 11) ×
+                      (value ≡ from_bits binary64 (field fields.words 64 1))
                   | Which.Text value ↦ (number ≡ 12) ×
-                      (let pointer = pointer_in fields 0 in
-                      IsViewOf pointer
-                      (λ view. Reads pointer (λ form. IsText form view.bytes.now))
-                      (Accepts pointer TakesText) (ViewError pointer TextFormError)
-                      (FormError pointer TextFormError) value)
+                      (IsTextView (pointer_in fields 0) value)
                   | Which.Data value ↦ (number ≡ 13) ×
-                      (let pointer = pointer_in fields 0 in
-                      IsViewOf pointer
-                      (λ view. Reads pointer (λ form. IsData form view.now))
-                      (Accepts pointer (TakesNumbers 2)) (ViewError pointer (NumbersFormError 2))
-                      (FormError pointer (NumbersFormError 2)) value)
-                  | Which.List value ↦ (number ≡ 14) × (pointer_of S.segments value ≡ pointer_in fields 0)
+                      (IsDataView (pointer_in fields 0) value)
+                  | Which.List value ↦ (number ≡ 14) ×
+                      (pointer_of S.segments value ≡ pointer_in fields 0)
                   | Which.Enum value ↦ (number ≡ 15) × (value ≡ field fields.words 16 1)
-                  | Which.Struct value ↦ (number ≡ 16) × (pointer_of S.segments value ≡ pointer_in fields 0)
+                  | Which.Struct value ↦ (number ≡ 16) ×
+                      (pointer_of S.segments value ≡ pointer_in fields 0)
                   | Which.Interface ↦ number ≡ 17
-                  | Which.AnyPointer value ↦ (number ≡ 18) × (pointer_of S.segments value ≡ pointer_in fields 0)
+                  | Which.AnyPointer value ↦ (number ≡ 18) ×
+                      (pointer_of S.segments value ≡ pointer_in fields 0)
                   | Which.NotInSchema unknown ↦ (unknown ≡ number) × (19 ≤ number)
                 ] }
         {
@@ -4335,127 +2690,17 @@ pub mod value {
         NotInSchema(u16),
     }
 
-    impl<'a, S: ReaderSegments> FromPointerReader<'a, S> for Reader<'a, S> {
-        ghost shows = { λ pointer view. IsStruct pointer (struct_of S.segments view.fields) };
-
-        ghost accepts = { λ pointer. Accepts pointer TakesStruct };
-
-        ghost fails = { λ pointer kind. ViewError pointer StructFormError kind };
-
-        ghost form_error = { λ pointer kind. FormError pointer StructFormError kind };
+    impl<'a, S: ReaderSegments> upgraded::FromStruct<StructReader<'a, S>> for Reader<'a, S> {
+        ghost shown = { λ view. struct_of S.segments view.fields };
 
         #[inline(always)]
-        fn get_from_pointer(reader: any_pointer::Reader<'a, S>) -> Result<Self>
-            ensures { let pointer = pointer_of S.segments reader.entry in IsViewOf pointer
-                (λ view. IsStruct pointer (struct_of S.segments view.fields))
-                (Accepts pointer TakesStruct) (ViewError pointer StructFormError)
-                (FormError pointer StructFormError) result }
-        {
-            match StructReader::get_from_pointer(reader) {
-                Ok(fields) => Ok(Reader { fields }),
-                Err(error) => Err(error),
-            }
+        fn from_struct(fields: StructReader<'a, S>) -> Reader<'a, S> {
+            Reader { fields }
         }
     }
 
-    /// A list of such structs in a message, or of their first fields where an older writer had these.
-    #[derive(Drop)]
-    pub struct ListReader<'a, S: ReaderSegments> {
-        /// The list whose elements these are.
-        pub elements: upgraded::StructList<'a, S>,
-    }
-
-    impl<'a, S: ReaderSegments> ListReader<'a, S> {
-        /// The number of elements.
-        pub fn len(&self) -> u32
-            ensures { result ≡ length (upgraded_structs_of S.segments self.now.elements).elements }
-        {
-            self.elements.len()
-        }
-
-        /// The element of this index.
-        pub fn get(&self, index: u32) -> Reader<'a, S>
-            requires { index < length (upgraded_structs_of S.segments self.now.elements).elements }
-            ensures { struct_of S.segments result.fields
-                ≡ element_of (upgraded_structs_of S.segments self.now.elements) index }
-        {
-            Reader {
-                fields: self.elements.get(index),
-            }
-        }
-
-        /// The element of this index, or `None` past the last element.
-        pub fn try_get(&self, index: u32) -> Option<Reader<'a, S>>
-            ensures { let list = upgraded_structs_of S.segments self.now.elements in
-                FindsElement (length list.elements) index
-                (λ item. struct_of S.segments item.fields ≡ element_of list index) result }
-        {
-            self.try_index_move(index)
-        }
-
-        /// An iterator over the elements.
-        pub fn iter(&self) -> ListIter<'_, Self>
-            ensures { IsIterator self.now result }
-        {
-            ListIter::new(self)
-        }
-    }
-
-    impl<'a, S: ReaderSegments> IndexMove for ListReader<'a, S> {
-        type Item = Reader<'a, S>;
-
-        ghost Element = { Struct };
-
-        ghost seen = { λ item. struct_of S.segments item.fields };
-
-        ghost size = { λ list. length (upgraded_structs_of S.segments list.elements).elements };
-
-        ghost element = { λ list index.
-            element_of (upgraded_structs_of S.segments list.elements) index };
-
-        fn len(&self) -> u32 {
-            self.len()
-        }
-
-        fn index_move(&self, index: u32) -> Reader<'a, S> {
-            self.get(index)
-        }
-    }
-
-    impl<'l, 'a, S: ReaderSegments> IntoIterator for &'l ListReader<'a, S> {
-        type Item = Reader<'a, S>;
-
-        type IntoIter = ListIter<'l, ListReader<'a, S>>;
-
-        ghost into_iter_gives = { λ list elements. IsIterator list.now elements };
-
-        fn into_iter(self) -> ListIter<'l, ListReader<'a, S>> {
-            self.iter()
-        }
-    }
-
-    impl<'a, S: ReaderSegments> FromPointerReader<'a, S> for ListReader<'a, S> {
-        ghost shows = { λ pointer view.
-            IsUpgradedStructs pointer (upgraded_structs_of S.segments view.elements) };
-
-        ghost accepts = { λ pointer. Accepts pointer TakesAsStructs };
-
-        ghost fails = { λ pointer kind. ViewError pointer ElementsFormError kind };
-
-        ghost form_error = { λ pointer kind. FormError pointer ElementsFormError kind };
-
-        fn get_from_pointer(reader: any_pointer::Reader<'a, S>) -> Result<Self>
-            ensures { let pointer = pointer_of S.segments reader.entry in IsViewOf pointer
-                (λ view. IsUpgradedStructs pointer (upgraded_structs_of S.segments view.elements))
-                (Accepts pointer TakesAsStructs) (ViewError pointer ElementsFormError)
-                (FormError pointer ElementsFormError) result }
-        {
-            match upgraded::StructList::get_from_pointer(reader) {
-                Ok(elements) => Ok(ListReader { elements }),
-                Err(error) => Err(error),
-            }
-        }
-    }
+    /// A list of such structs, or of their first fields where an older writer had these.
+    pub type ListReader<'a, S> = upgraded::Structs<'a, S, Reader<'a, S>>;
 
     /// Which pointer of the struct points to `text`, for `fields.get_pointer`.
     pub const TEXT_POINTER: u16 = 0;
@@ -4475,12 +2720,12 @@ pub mod value {
 
 /// Describes an annotation applied to a declaration.  Note AnnotationNode describes the
 /// annotation's declaration, while this describes a use of the annotation.
+#[rattlefmt::skip]
 pub mod annotation {
-    use capnp_frame::Result;
-    use capnp_frame::message::ReaderSegments;
     use capnp_wire::any_struct::StructReader;
-    use capnp_wire::traits::{self, FromPointerReader, IndexMove, ListIter};
-    use capnp_wire::{any_pointer, upgraded};
+    use capnp_frame::message::ReaderSegments;
+    use capnp_frame::Result;
+    use capnp_wire::{traits, upgraded};
 
     /// The type of the schema.
     pub struct Owned;
@@ -4508,16 +2753,10 @@ pub mod annotation {
         /// The field `value`.
         pub fn get_value(&self) -> Result<super::value::Reader<'a, S>>
             ensures { let fields = struct_of S.segments self.now.fields in
-                let pointer = pointer_in fields 0 in
-                IsViewOf pointer
-                (λ view. IsStruct pointer (struct_of S.segments view.fields))
-                (Accepts pointer TakesStruct) (ViewError pointer StructFormError)
-                (FormError pointer StructFormError) result }
+                IsStructView (pointer_in fields 0)
+                (λ view. struct_of S.segments view.fields) result }
         {
-            match self.fields.get_pointer_as(0) {
-                Ok(fields) => Ok(super::value::Reader { fields }),
-                Err(error) => Err(error),
-            }
+            self.fields.get_pointer_as(0)
         }
 
         /// Whether `value` is there, and is not null.
@@ -4533,16 +2772,10 @@ pub mod annotation {
         /// Note that the annotation itself is not allowed to be parameterized, but its scope might be.
         pub fn get_brand(&self) -> Result<super::brand::Reader<'a, S>>
             ensures { let fields = struct_of S.segments self.now.fields in
-                let pointer = pointer_in fields 1 in
-                IsViewOf pointer
-                (λ view. IsStruct pointer (struct_of S.segments view.fields))
-                (Accepts pointer TakesStruct) (ViewError pointer StructFormError)
-                (FormError pointer StructFormError) result }
+                IsStructView (pointer_in fields 1)
+                (λ view. struct_of S.segments view.fields) result }
         {
-            match self.fields.get_pointer_as(1) {
-                Ok(fields) => Ok(super::brand::Reader { fields }),
-                Err(error) => Err(error),
-            }
+            self.fields.get_pointer_as(1)
         }
 
         /// Whether `brand` is there, and is not null.
@@ -4554,127 +2787,17 @@ pub mod annotation {
         }
     }
 
-    impl<'a, S: ReaderSegments> FromPointerReader<'a, S> for Reader<'a, S> {
-        ghost shows = { λ pointer view. IsStruct pointer (struct_of S.segments view.fields) };
-
-        ghost accepts = { λ pointer. Accepts pointer TakesStruct };
-
-        ghost fails = { λ pointer kind. ViewError pointer StructFormError kind };
-
-        ghost form_error = { λ pointer kind. FormError pointer StructFormError kind };
+    impl<'a, S: ReaderSegments> upgraded::FromStruct<StructReader<'a, S>> for Reader<'a, S> {
+        ghost shown = { λ view. struct_of S.segments view.fields };
 
         #[inline(always)]
-        fn get_from_pointer(reader: any_pointer::Reader<'a, S>) -> Result<Self>
-            ensures { let pointer = pointer_of S.segments reader.entry in IsViewOf pointer
-                (λ view. IsStruct pointer (struct_of S.segments view.fields))
-                (Accepts pointer TakesStruct) (ViewError pointer StructFormError)
-                (FormError pointer StructFormError) result }
-        {
-            match StructReader::get_from_pointer(reader) {
-                Ok(fields) => Ok(Reader { fields }),
-                Err(error) => Err(error),
-            }
+        fn from_struct(fields: StructReader<'a, S>) -> Reader<'a, S> {
+            Reader { fields }
         }
     }
 
-    /// A list of such structs in a message, or of their first fields where an older writer had these.
-    #[derive(Drop)]
-    pub struct ListReader<'a, S: ReaderSegments> {
-        /// The list whose elements these are.
-        pub elements: upgraded::StructList<'a, S>,
-    }
-
-    impl<'a, S: ReaderSegments> ListReader<'a, S> {
-        /// The number of elements.
-        pub fn len(&self) -> u32
-            ensures { result ≡ length (upgraded_structs_of S.segments self.now.elements).elements }
-        {
-            self.elements.len()
-        }
-
-        /// The element of this index.
-        pub fn get(&self, index: u32) -> Reader<'a, S>
-            requires { index < length (upgraded_structs_of S.segments self.now.elements).elements }
-            ensures { struct_of S.segments result.fields
-                ≡ element_of (upgraded_structs_of S.segments self.now.elements) index }
-        {
-            Reader {
-                fields: self.elements.get(index),
-            }
-        }
-
-        /// The element of this index, or `None` past the last element.
-        pub fn try_get(&self, index: u32) -> Option<Reader<'a, S>>
-            ensures { let list = upgraded_structs_of S.segments self.now.elements in
-                FindsElement (length list.elements) index
-                (λ item. struct_of S.segments item.fields ≡ element_of list index) result }
-        {
-            self.try_index_move(index)
-        }
-
-        /// An iterator over the elements.
-        pub fn iter(&self) -> ListIter<'_, Self>
-            ensures { IsIterator self.now result }
-        {
-            ListIter::new(self)
-        }
-    }
-
-    impl<'a, S: ReaderSegments> IndexMove for ListReader<'a, S> {
-        type Item = Reader<'a, S>;
-
-        ghost Element = { Struct };
-
-        ghost seen = { λ item. struct_of S.segments item.fields };
-
-        ghost size = { λ list. length (upgraded_structs_of S.segments list.elements).elements };
-
-        ghost element = { λ list index.
-            element_of (upgraded_structs_of S.segments list.elements) index };
-
-        fn len(&self) -> u32 {
-            self.len()
-        }
-
-        fn index_move(&self, index: u32) -> Reader<'a, S> {
-            self.get(index)
-        }
-    }
-
-    impl<'l, 'a, S: ReaderSegments> IntoIterator for &'l ListReader<'a, S> {
-        type Item = Reader<'a, S>;
-
-        type IntoIter = ListIter<'l, ListReader<'a, S>>;
-
-        ghost into_iter_gives = { λ list elements. IsIterator list.now elements };
-
-        fn into_iter(self) -> ListIter<'l, ListReader<'a, S>> {
-            self.iter()
-        }
-    }
-
-    impl<'a, S: ReaderSegments> FromPointerReader<'a, S> for ListReader<'a, S> {
-        ghost shows = { λ pointer view.
-            IsUpgradedStructs pointer (upgraded_structs_of S.segments view.elements) };
-
-        ghost accepts = { λ pointer. Accepts pointer TakesAsStructs };
-
-        ghost fails = { λ pointer kind. ViewError pointer ElementsFormError kind };
-
-        ghost form_error = { λ pointer kind. FormError pointer ElementsFormError kind };
-
-        fn get_from_pointer(reader: any_pointer::Reader<'a, S>) -> Result<Self>
-            ensures { let pointer = pointer_of S.segments reader.entry in IsViewOf pointer
-                (λ view. IsUpgradedStructs pointer (upgraded_structs_of S.segments view.elements))
-                (Accepts pointer TakesAsStructs) (ViewError pointer ElementsFormError)
-                (FormError pointer ElementsFormError) result }
-        {
-            match upgraded::StructList::get_from_pointer(reader) {
-                Ok(elements) => Ok(ListReader { elements }),
-                Err(error) => Err(error),
-            }
-        }
-    }
+    /// A list of such structs, or of their first fields where an older writer had these.
+    pub type ListReader<'a, S> = upgraded::Structs<'a, S, Reader<'a, S>>;
 
     /// Which pointer of the struct points to `value`, for `fields.get_pointer`.
     pub const VALUE_POINTER: u16 = 0;
@@ -4685,6 +2808,7 @@ pub mod annotation {
 
 /// Possible element sizes for encoded lists.  These correspond exactly to the possible values of
 /// the 3-bit element size component of a list pointer.
+#[rattlefmt::skip]
 #[derive(Clone, Copy, PartialEq, Eq, Hash, Debug)]
 pub enum ElementSize {
     /// aka "void", but that's a keyword.
@@ -4700,6 +2824,7 @@ pub enum ElementSize {
     NotInSchema(u16),
 }
 
+#[rattlefmt::skip]
 impl ElementSize {
     /// The enumerant of this number.
     pub fn from_number(number: u16) -> ElementSize
@@ -4729,6 +2854,7 @@ impl ElementSize {
     }
 }
 
+#[rattlefmt::skip]
 impl capnp_wire::upgraded::EnumElement for ElementSize {
     ghost named = { 8 };
 
@@ -4737,12 +2863,11 @@ impl capnp_wire::upgraded::EnumElement for ElementSize {
     }
 }
 
+#[rattlefmt::skip]
 pub mod capnp_version {
-    use capnp_frame::Result;
-    use capnp_frame::message::ReaderSegments;
     use capnp_wire::any_struct::StructReader;
-    use capnp_wire::traits::{self, FromPointerReader, IndexMove, ListIter};
-    use capnp_wire::{any_pointer, upgraded};
+    use capnp_frame::message::ReaderSegments;
+    use capnp_wire::{traits, upgraded};
 
     /// The type of the schema.
     pub struct Owned;
@@ -4784,135 +2909,25 @@ pub mod capnp_version {
         }
     }
 
-    impl<'a, S: ReaderSegments> FromPointerReader<'a, S> for Reader<'a, S> {
-        ghost shows = { λ pointer view. IsStruct pointer (struct_of S.segments view.fields) };
-
-        ghost accepts = { λ pointer. Accepts pointer TakesStruct };
-
-        ghost fails = { λ pointer kind. ViewError pointer StructFormError kind };
-
-        ghost form_error = { λ pointer kind. FormError pointer StructFormError kind };
+    impl<'a, S: ReaderSegments> upgraded::FromStruct<StructReader<'a, S>> for Reader<'a, S> {
+        ghost shown = { λ view. struct_of S.segments view.fields };
 
         #[inline(always)]
-        fn get_from_pointer(reader: any_pointer::Reader<'a, S>) -> Result<Self>
-            ensures { let pointer = pointer_of S.segments reader.entry in IsViewOf pointer
-                (λ view. IsStruct pointer (struct_of S.segments view.fields))
-                (Accepts pointer TakesStruct) (ViewError pointer StructFormError)
-                (FormError pointer StructFormError) result }
-        {
-            match StructReader::get_from_pointer(reader) {
-                Ok(fields) => Ok(Reader { fields }),
-                Err(error) => Err(error),
-            }
+        fn from_struct(fields: StructReader<'a, S>) -> Reader<'a, S> {
+            Reader { fields }
         }
     }
 
-    /// A list of such structs in a message, or of their first fields where an older writer had these.
-    #[derive(Drop)]
-    pub struct ListReader<'a, S: ReaderSegments> {
-        /// The list whose elements these are.
-        pub elements: upgraded::StructList<'a, S>,
-    }
-
-    impl<'a, S: ReaderSegments> ListReader<'a, S> {
-        /// The number of elements.
-        pub fn len(&self) -> u32
-            ensures { result ≡ length (upgraded_structs_of S.segments self.now.elements).elements }
-        {
-            self.elements.len()
-        }
-
-        /// The element of this index.
-        pub fn get(&self, index: u32) -> Reader<'a, S>
-            requires { index < length (upgraded_structs_of S.segments self.now.elements).elements }
-            ensures { struct_of S.segments result.fields
-                ≡ element_of (upgraded_structs_of S.segments self.now.elements) index }
-        {
-            Reader {
-                fields: self.elements.get(index),
-            }
-        }
-
-        /// The element of this index, or `None` past the last element.
-        pub fn try_get(&self, index: u32) -> Option<Reader<'a, S>>
-            ensures { let list = upgraded_structs_of S.segments self.now.elements in
-                FindsElement (length list.elements) index
-                (λ item. struct_of S.segments item.fields ≡ element_of list index) result }
-        {
-            self.try_index_move(index)
-        }
-
-        /// An iterator over the elements.
-        pub fn iter(&self) -> ListIter<'_, Self>
-            ensures { IsIterator self.now result }
-        {
-            ListIter::new(self)
-        }
-    }
-
-    impl<'a, S: ReaderSegments> IndexMove for ListReader<'a, S> {
-        type Item = Reader<'a, S>;
-
-        ghost Element = { Struct };
-
-        ghost seen = { λ item. struct_of S.segments item.fields };
-
-        ghost size = { λ list. length (upgraded_structs_of S.segments list.elements).elements };
-
-        ghost element = { λ list index.
-            element_of (upgraded_structs_of S.segments list.elements) index };
-
-        fn len(&self) -> u32 {
-            self.len()
-        }
-
-        fn index_move(&self, index: u32) -> Reader<'a, S> {
-            self.get(index)
-        }
-    }
-
-    impl<'l, 'a, S: ReaderSegments> IntoIterator for &'l ListReader<'a, S> {
-        type Item = Reader<'a, S>;
-
-        type IntoIter = ListIter<'l, ListReader<'a, S>>;
-
-        ghost into_iter_gives = { λ list elements. IsIterator list.now elements };
-
-        fn into_iter(self) -> ListIter<'l, ListReader<'a, S>> {
-            self.iter()
-        }
-    }
-
-    impl<'a, S: ReaderSegments> FromPointerReader<'a, S> for ListReader<'a, S> {
-        ghost shows = { λ pointer view.
-            IsUpgradedStructs pointer (upgraded_structs_of S.segments view.elements) };
-
-        ghost accepts = { λ pointer. Accepts pointer TakesAsStructs };
-
-        ghost fails = { λ pointer kind. ViewError pointer ElementsFormError kind };
-
-        ghost form_error = { λ pointer kind. FormError pointer ElementsFormError kind };
-
-        fn get_from_pointer(reader: any_pointer::Reader<'a, S>) -> Result<Self>
-            ensures { let pointer = pointer_of S.segments reader.entry in IsViewOf pointer
-                (λ view. IsUpgradedStructs pointer (upgraded_structs_of S.segments view.elements))
-                (Accepts pointer TakesAsStructs) (ViewError pointer ElementsFormError)
-                (FormError pointer ElementsFormError) result }
-        {
-            match upgraded::StructList::get_from_pointer(reader) {
-                Ok(elements) => Ok(ListReader { elements }),
-                Err(error) => Err(error),
-            }
-        }
-    }
+    /// A list of such structs, or of their first fields where an older writer had these.
+    pub type ListReader<'a, S> = upgraded::Structs<'a, S, Reader<'a, S>>;
 }
 
+#[rattlefmt::skip]
 pub mod code_generator_request {
-    use capnp_frame::Result;
-    use capnp_frame::message::ReaderSegments;
     use capnp_wire::any_struct::StructReader;
-    use capnp_wire::traits::{self, FromPointerReader, IndexMove, ListIter};
-    use capnp_wire::{any_pointer, upgraded};
+    use capnp_frame::message::ReaderSegments;
+    use capnp_frame::Result;
+    use capnp_wire::{traits, upgraded};
 
     /// The type of the schema.
     pub struct Owned;
@@ -4933,16 +2948,9 @@ pub mod code_generator_request {
         /// imports.
         pub fn get_nodes(&self) -> Result<super::node::ListReader<'a, S>>
             ensures { let fields = struct_of S.segments self.now.fields in
-                let pointer = pointer_in fields 0 in
-                IsViewOf pointer
-                (λ view. IsUpgradedStructs pointer (upgraded_structs_of S.segments view.elements))
-                (Accepts pointer TakesAsStructs) (ViewError pointer ElementsFormError)
-                (FormError pointer ElementsFormError) result }
+                IsStructsView S.segments (pointer_in fields 0) result }
         {
-            match self.fields.get_pointer_as(0) {
-                Ok(elements) => Ok(super::node::ListReader { elements }),
-                Err(error) => Err(error),
-            }
+            self.fields.get_pointer_as(0)
         }
 
         /// Whether `nodes` is there, and is not null.
@@ -4956,16 +2964,9 @@ pub mod code_generator_request {
         /// Files which were listed on the command line.
         pub fn get_requested_files(&self) -> Result<requested_file::ListReader<'a, S>>
             ensures { let fields = struct_of S.segments self.now.fields in
-                let pointer = pointer_in fields 1 in
-                IsViewOf pointer
-                (λ view. IsUpgradedStructs pointer (upgraded_structs_of S.segments view.elements))
-                (Accepts pointer TakesAsStructs) (ViewError pointer ElementsFormError)
-                (FormError pointer ElementsFormError) result }
+                IsStructsView S.segments (pointer_in fields 1) result }
         {
-            match self.fields.get_pointer_as(1) {
-                Ok(elements) => Ok(requested_file::ListReader { elements }),
-                Err(error) => Err(error),
-            }
+            self.fields.get_pointer_as(1)
         }
 
         /// Whether `requestedFiles` is there, and is not null.
@@ -4984,16 +2985,10 @@ pub mod code_generator_request {
         /// is older than that.
         pub fn get_capnp_version(&self) -> Result<super::capnp_version::Reader<'a, S>>
             ensures { let fields = struct_of S.segments self.now.fields in
-                let pointer = pointer_in fields 2 in
-                IsViewOf pointer
-                (λ view. IsStruct pointer (struct_of S.segments view.fields))
-                (Accepts pointer TakesStruct) (ViewError pointer StructFormError)
-                (FormError pointer StructFormError) result }
+                IsStructView (pointer_in fields 2)
+                (λ view. struct_of S.segments view.fields) result }
         {
-            match self.fields.get_pointer_as(2) {
-                Ok(fields) => Ok(super::capnp_version::Reader { fields }),
-                Err(error) => Err(error),
-            }
+            self.fields.get_pointer_as(2)
         }
 
         /// Whether `capnpVersion` is there, and is not null.
@@ -5008,16 +3003,9 @@ pub mod code_generator_request {
         /// omitted or may be missing some nodes if no info is available for them.
         pub fn get_source_info(&self) -> Result<super::node::source_info::ListReader<'a, S>>
             ensures { let fields = struct_of S.segments self.now.fields in
-                let pointer = pointer_in fields 3 in
-                IsViewOf pointer
-                (λ view. IsUpgradedStructs pointer (upgraded_structs_of S.segments view.elements))
-                (Accepts pointer TakesAsStructs) (ViewError pointer ElementsFormError)
-                (FormError pointer ElementsFormError) result }
+                IsStructsView S.segments (pointer_in fields 3) result }
         {
-            match self.fields.get_pointer_as(3) {
-                Ok(elements) => Ok(super::node::source_info::ListReader { elements }),
-                Err(error) => Err(error),
-            }
+            self.fields.get_pointer_as(3)
         }
 
         /// Whether `sourceInfo` is there, and is not null.
@@ -5029,127 +3017,17 @@ pub mod code_generator_request {
         }
     }
 
-    impl<'a, S: ReaderSegments> FromPointerReader<'a, S> for Reader<'a, S> {
-        ghost shows = { λ pointer view. IsStruct pointer (struct_of S.segments view.fields) };
-
-        ghost accepts = { λ pointer. Accepts pointer TakesStruct };
-
-        ghost fails = { λ pointer kind. ViewError pointer StructFormError kind };
-
-        ghost form_error = { λ pointer kind. FormError pointer StructFormError kind };
+    impl<'a, S: ReaderSegments> upgraded::FromStruct<StructReader<'a, S>> for Reader<'a, S> {
+        ghost shown = { λ view. struct_of S.segments view.fields };
 
         #[inline(always)]
-        fn get_from_pointer(reader: any_pointer::Reader<'a, S>) -> Result<Self>
-            ensures { let pointer = pointer_of S.segments reader.entry in IsViewOf pointer
-                (λ view. IsStruct pointer (struct_of S.segments view.fields))
-                (Accepts pointer TakesStruct) (ViewError pointer StructFormError)
-                (FormError pointer StructFormError) result }
-        {
-            match StructReader::get_from_pointer(reader) {
-                Ok(fields) => Ok(Reader { fields }),
-                Err(error) => Err(error),
-            }
+        fn from_struct(fields: StructReader<'a, S>) -> Reader<'a, S> {
+            Reader { fields }
         }
     }
 
-    /// A list of such structs in a message, or of their first fields where an older writer had these.
-    #[derive(Drop)]
-    pub struct ListReader<'a, S: ReaderSegments> {
-        /// The list whose elements these are.
-        pub elements: upgraded::StructList<'a, S>,
-    }
-
-    impl<'a, S: ReaderSegments> ListReader<'a, S> {
-        /// The number of elements.
-        pub fn len(&self) -> u32
-            ensures { result ≡ length (upgraded_structs_of S.segments self.now.elements).elements }
-        {
-            self.elements.len()
-        }
-
-        /// The element of this index.
-        pub fn get(&self, index: u32) -> Reader<'a, S>
-            requires { index < length (upgraded_structs_of S.segments self.now.elements).elements }
-            ensures { struct_of S.segments result.fields
-                ≡ element_of (upgraded_structs_of S.segments self.now.elements) index }
-        {
-            Reader {
-                fields: self.elements.get(index),
-            }
-        }
-
-        /// The element of this index, or `None` past the last element.
-        pub fn try_get(&self, index: u32) -> Option<Reader<'a, S>>
-            ensures { let list = upgraded_structs_of S.segments self.now.elements in
-                FindsElement (length list.elements) index
-                (λ item. struct_of S.segments item.fields ≡ element_of list index) result }
-        {
-            self.try_index_move(index)
-        }
-
-        /// An iterator over the elements.
-        pub fn iter(&self) -> ListIter<'_, Self>
-            ensures { IsIterator self.now result }
-        {
-            ListIter::new(self)
-        }
-    }
-
-    impl<'a, S: ReaderSegments> IndexMove for ListReader<'a, S> {
-        type Item = Reader<'a, S>;
-
-        ghost Element = { Struct };
-
-        ghost seen = { λ item. struct_of S.segments item.fields };
-
-        ghost size = { λ list. length (upgraded_structs_of S.segments list.elements).elements };
-
-        ghost element = { λ list index.
-            element_of (upgraded_structs_of S.segments list.elements) index };
-
-        fn len(&self) -> u32 {
-            self.len()
-        }
-
-        fn index_move(&self, index: u32) -> Reader<'a, S> {
-            self.get(index)
-        }
-    }
-
-    impl<'l, 'a, S: ReaderSegments> IntoIterator for &'l ListReader<'a, S> {
-        type Item = Reader<'a, S>;
-
-        type IntoIter = ListIter<'l, ListReader<'a, S>>;
-
-        ghost into_iter_gives = { λ list elements. IsIterator list.now elements };
-
-        fn into_iter(self) -> ListIter<'l, ListReader<'a, S>> {
-            self.iter()
-        }
-    }
-
-    impl<'a, S: ReaderSegments> FromPointerReader<'a, S> for ListReader<'a, S> {
-        ghost shows = { λ pointer view.
-            IsUpgradedStructs pointer (upgraded_structs_of S.segments view.elements) };
-
-        ghost accepts = { λ pointer. Accepts pointer TakesAsStructs };
-
-        ghost fails = { λ pointer kind. ViewError pointer ElementsFormError kind };
-
-        ghost form_error = { λ pointer kind. FormError pointer ElementsFormError kind };
-
-        fn get_from_pointer(reader: any_pointer::Reader<'a, S>) -> Result<Self>
-            ensures { let pointer = pointer_of S.segments reader.entry in IsViewOf pointer
-                (λ view. IsUpgradedStructs pointer (upgraded_structs_of S.segments view.elements))
-                (Accepts pointer TakesAsStructs) (ViewError pointer ElementsFormError)
-                (FormError pointer ElementsFormError) result }
-        {
-            match upgraded::StructList::get_from_pointer(reader) {
-                Ok(elements) => Ok(ListReader { elements }),
-                Err(error) => Err(error),
-            }
-        }
-    }
+    /// A list of such structs, or of their first fields where an older writer had these.
+    pub type ListReader<'a, S> = upgraded::Structs<'a, S, Reader<'a, S>>;
 
     /// Which pointer of the struct points to `nodes`, for `fields.get_pointer`.
     pub const NODES_POINTER: u16 = 0;
@@ -5164,11 +3042,10 @@ pub mod code_generator_request {
     pub const SOURCE_INFO_POINTER: u16 = 3;
 
     pub mod requested_file {
-        use capnp_frame::Result;
-        use capnp_frame::message::ReaderSegments;
         use capnp_wire::any_struct::StructReader;
-        use capnp_wire::traits::{self, FromPointerReader, IndexMove, ListIter};
-        use capnp_wire::{any_pointer, text, upgraded};
+        use capnp_frame::message::ReaderSegments;
+        use capnp_frame::Result;
+        use capnp_wire::{text, traits, upgraded};
 
         /// The type of the schema.
         pub struct Owned;
@@ -5197,11 +3074,7 @@ pub mod code_generator_request {
             /// this to decide where to write the output.
             pub fn get_filename(&self) -> Result<text::Reader<'a>>
                 ensures { let fields = struct_of S.segments self.now.fields in
-                    let pointer = pointer_in fields 0 in
-                    IsViewOf pointer
-                    (λ view. Reads pointer (λ form. IsText form view.bytes.now))
-                    (Accepts pointer TakesText) (ViewError pointer TextFormError)
-                    (FormError pointer TextFormError) result }
+                    IsTextView (pointer_in fields 0) result }
             {
                 self.fields.get_pointer_as(0)
             }
@@ -5217,16 +3090,9 @@ pub mod code_generator_request {
             /// List of all imported paths seen in this file.
             pub fn get_imports(&self) -> Result<import::ListReader<'a, S>>
                 ensures { let fields = struct_of S.segments self.now.fields in
-                    let pointer = pointer_in fields 1 in
-                    IsViewOf pointer
-                    (λ view. IsUpgradedStructs pointer (upgraded_structs_of S.segments view.elements))
-                    (Accepts pointer TakesAsStructs) (ViewError pointer ElementsFormError)
-                    (FormError pointer ElementsFormError) result }
+                    IsStructsView S.segments (pointer_in fields 1) result }
             {
-                match self.fields.get_pointer_as(1) {
-                    Ok(elements) => Ok(import::ListReader { elements }),
-                    Err(error) => Err(error),
-                }
+                self.fields.get_pointer_as(1)
             }
 
             /// Whether `imports` is there, and is not null.
@@ -5238,127 +3104,17 @@ pub mod code_generator_request {
             }
         }
 
-        impl<'a, S: ReaderSegments> FromPointerReader<'a, S> for Reader<'a, S> {
-            ghost shows = { λ pointer view. IsStruct pointer (struct_of S.segments view.fields) };
-
-            ghost accepts = { λ pointer. Accepts pointer TakesStruct };
-
-            ghost fails = { λ pointer kind. ViewError pointer StructFormError kind };
-
-            ghost form_error = { λ pointer kind. FormError pointer StructFormError kind };
+        impl<'a, S: ReaderSegments> upgraded::FromStruct<StructReader<'a, S>> for Reader<'a, S> {
+            ghost shown = { λ view. struct_of S.segments view.fields };
 
             #[inline(always)]
-            fn get_from_pointer(reader: any_pointer::Reader<'a, S>) -> Result<Self>
-                ensures { let pointer = pointer_of S.segments reader.entry in IsViewOf pointer
-                    (λ view. IsStruct pointer (struct_of S.segments view.fields))
-                    (Accepts pointer TakesStruct) (ViewError pointer StructFormError)
-                    (FormError pointer StructFormError) result }
-            {
-                match StructReader::get_from_pointer(reader) {
-                    Ok(fields) => Ok(Reader { fields }),
-                    Err(error) => Err(error),
-                }
+            fn from_struct(fields: StructReader<'a, S>) -> Reader<'a, S> {
+                Reader { fields }
             }
         }
 
-        /// A list of such structs in a message, or of their first fields where an older writer had these.
-        #[derive(Drop)]
-        pub struct ListReader<'a, S: ReaderSegments> {
-            /// The list whose elements these are.
-            pub elements: upgraded::StructList<'a, S>,
-        }
-
-        impl<'a, S: ReaderSegments> ListReader<'a, S> {
-            /// The number of elements.
-            pub fn len(&self) -> u32
-                ensures { result ≡ length (upgraded_structs_of S.segments self.now.elements).elements }
-            {
-                self.elements.len()
-            }
-
-            /// The element of this index.
-            pub fn get(&self, index: u32) -> Reader<'a, S>
-                requires { index < length (upgraded_structs_of S.segments self.now.elements).elements }
-                ensures { struct_of S.segments result.fields
-                    ≡ element_of (upgraded_structs_of S.segments self.now.elements) index }
-            {
-                Reader {
-                    fields: self.elements.get(index),
-                }
-            }
-
-            /// The element of this index, or `None` past the last element.
-            pub fn try_get(&self, index: u32) -> Option<Reader<'a, S>>
-                ensures { let list = upgraded_structs_of S.segments self.now.elements in
-                    FindsElement (length list.elements) index
-                    (λ item. struct_of S.segments item.fields ≡ element_of list index) result }
-            {
-                self.try_index_move(index)
-            }
-
-            /// An iterator over the elements.
-            pub fn iter(&self) -> ListIter<'_, Self>
-                ensures { IsIterator self.now result }
-            {
-                ListIter::new(self)
-            }
-        }
-
-        impl<'a, S: ReaderSegments> IndexMove for ListReader<'a, S> {
-            type Item = Reader<'a, S>;
-
-            ghost Element = { Struct };
-
-            ghost seen = { λ item. struct_of S.segments item.fields };
-
-            ghost size = { λ list. length (upgraded_structs_of S.segments list.elements).elements };
-
-            ghost element = { λ list index.
-                element_of (upgraded_structs_of S.segments list.elements) index };
-
-            fn len(&self) -> u32 {
-                self.len()
-            }
-
-            fn index_move(&self, index: u32) -> Reader<'a, S> {
-                self.get(index)
-            }
-        }
-
-        impl<'l, 'a, S: ReaderSegments> IntoIterator for &'l ListReader<'a, S> {
-            type Item = Reader<'a, S>;
-
-            type IntoIter = ListIter<'l, ListReader<'a, S>>;
-
-            ghost into_iter_gives = { λ list elements. IsIterator list.now elements };
-
-            fn into_iter(self) -> ListIter<'l, ListReader<'a, S>> {
-                self.iter()
-            }
-        }
-
-        impl<'a, S: ReaderSegments> FromPointerReader<'a, S> for ListReader<'a, S> {
-            ghost shows = { λ pointer view.
-                IsUpgradedStructs pointer (upgraded_structs_of S.segments view.elements) };
-
-            ghost accepts = { λ pointer. Accepts pointer TakesAsStructs };
-
-            ghost fails = { λ pointer kind. ViewError pointer ElementsFormError kind };
-
-            ghost form_error = { λ pointer kind. FormError pointer ElementsFormError kind };
-
-            fn get_from_pointer(reader: any_pointer::Reader<'a, S>) -> Result<Self>
-                ensures { let pointer = pointer_of S.segments reader.entry in IsViewOf pointer
-                    (λ view. IsUpgradedStructs pointer (upgraded_structs_of S.segments view.elements))
-                    (Accepts pointer TakesAsStructs) (ViewError pointer ElementsFormError)
-                    (FormError pointer ElementsFormError) result }
-            {
-                match upgraded::StructList::get_from_pointer(reader) {
-                    Ok(elements) => Ok(ListReader { elements }),
-                    Err(error) => Err(error),
-                }
-            }
-        }
+        /// A list of such structs, or of their first fields where an older writer had these.
+        pub type ListReader<'a, S> = upgraded::Structs<'a, S, Reader<'a, S>>;
 
         /// Which pointer of the struct points to `filename`, for `fields.get_pointer`.
         pub const FILENAME_POINTER: u16 = 0;
@@ -5367,11 +3123,10 @@ pub mod code_generator_request {
         pub const IMPORTS_POINTER: u16 = 1;
 
         pub mod import {
-            use capnp_frame::Result;
-            use capnp_frame::message::ReaderSegments;
             use capnp_wire::any_struct::StructReader;
-            use capnp_wire::traits::{self, FromPointerReader, IndexMove, ListIter};
-            use capnp_wire::{any_pointer, text, upgraded};
+            use capnp_frame::message::ReaderSegments;
+            use capnp_frame::Result;
+            use capnp_wire::{text, traits, upgraded};
 
             /// The type of the schema.
             pub struct Owned;
@@ -5404,11 +3159,7 @@ pub mod code_generator_request {
                 /// (On Zooko's triangle, this is the import's petname according to the importing file.)
                 pub fn get_name(&self) -> Result<text::Reader<'a>>
                     ensures { let fields = struct_of S.segments self.now.fields in
-                        let pointer = pointer_in fields 0 in
-                        IsViewOf pointer
-                        (λ view. Reads pointer (λ form. IsText form view.bytes.now))
-                        (Accepts pointer TakesText) (ViewError pointer TextFormError)
-                        (FormError pointer TextFormError) result }
+                        IsTextView (pointer_in fields 0) result }
                 {
                     self.fields.get_pointer_as(0)
                 }
@@ -5422,127 +3173,17 @@ pub mod code_generator_request {
                 }
             }
 
-            impl<'a, S: ReaderSegments> FromPointerReader<'a, S> for Reader<'a, S> {
-                ghost shows = { λ pointer view. IsStruct pointer (struct_of S.segments view.fields) };
-
-                ghost accepts = { λ pointer. Accepts pointer TakesStruct };
-
-                ghost fails = { λ pointer kind. ViewError pointer StructFormError kind };
-
-                ghost form_error = { λ pointer kind. FormError pointer StructFormError kind };
+            impl<'a, S: ReaderSegments> upgraded::FromStruct<StructReader<'a, S>> for Reader<'a, S> {
+                ghost shown = { λ view. struct_of S.segments view.fields };
 
                 #[inline(always)]
-                fn get_from_pointer(reader: any_pointer::Reader<'a, S>) -> Result<Self>
-                    ensures { let pointer = pointer_of S.segments reader.entry in IsViewOf pointer
-                        (λ view. IsStruct pointer (struct_of S.segments view.fields))
-                        (Accepts pointer TakesStruct) (ViewError pointer StructFormError)
-                        (FormError pointer StructFormError) result }
-                {
-                    match StructReader::get_from_pointer(reader) {
-                        Ok(fields) => Ok(Reader { fields }),
-                        Err(error) => Err(error),
-                    }
+                fn from_struct(fields: StructReader<'a, S>) -> Reader<'a, S> {
+                    Reader { fields }
                 }
             }
 
-            /// A list of such structs in a message, or of their first fields where an older writer had these.
-            #[derive(Drop)]
-            pub struct ListReader<'a, S: ReaderSegments> {
-                /// The list whose elements these are.
-                pub elements: upgraded::StructList<'a, S>,
-            }
-
-            impl<'a, S: ReaderSegments> ListReader<'a, S> {
-                /// The number of elements.
-                pub fn len(&self) -> u32
-                    ensures { result ≡ length (upgraded_structs_of S.segments self.now.elements).elements }
-                {
-                    self.elements.len()
-                }
-
-                /// The element of this index.
-                pub fn get(&self, index: u32) -> Reader<'a, S>
-                    requires { index < length (upgraded_structs_of S.segments self.now.elements).elements }
-                    ensures { struct_of S.segments result.fields
-                        ≡ element_of (upgraded_structs_of S.segments self.now.elements) index }
-                {
-                    Reader {
-                        fields: self.elements.get(index),
-                    }
-                }
-
-                /// The element of this index, or `None` past the last element.
-                pub fn try_get(&self, index: u32) -> Option<Reader<'a, S>>
-                    ensures { let list = upgraded_structs_of S.segments self.now.elements in
-                        FindsElement (length list.elements) index
-                        (λ item. struct_of S.segments item.fields ≡ element_of list index) result }
-                {
-                    self.try_index_move(index)
-                }
-
-                /// An iterator over the elements.
-                pub fn iter(&self) -> ListIter<'_, Self>
-                    ensures { IsIterator self.now result }
-                {
-                    ListIter::new(self)
-                }
-            }
-
-            impl<'a, S: ReaderSegments> IndexMove for ListReader<'a, S> {
-                type Item = Reader<'a, S>;
-
-                ghost Element = { Struct };
-
-                ghost seen = { λ item. struct_of S.segments item.fields };
-
-                ghost size = { λ list. length (upgraded_structs_of S.segments list.elements).elements };
-
-                ghost element = { λ list index.
-                    element_of (upgraded_structs_of S.segments list.elements) index };
-
-                fn len(&self) -> u32 {
-                    self.len()
-                }
-
-                fn index_move(&self, index: u32) -> Reader<'a, S> {
-                    self.get(index)
-                }
-            }
-
-            impl<'l, 'a, S: ReaderSegments> IntoIterator for &'l ListReader<'a, S> {
-                type Item = Reader<'a, S>;
-
-                type IntoIter = ListIter<'l, ListReader<'a, S>>;
-
-                ghost into_iter_gives = { λ list elements. IsIterator list.now elements };
-
-                fn into_iter(self) -> ListIter<'l, ListReader<'a, S>> {
-                    self.iter()
-                }
-            }
-
-            impl<'a, S: ReaderSegments> FromPointerReader<'a, S> for ListReader<'a, S> {
-                ghost shows = { λ pointer view.
-                    IsUpgradedStructs pointer (upgraded_structs_of S.segments view.elements) };
-
-                ghost accepts = { λ pointer. Accepts pointer TakesAsStructs };
-
-                ghost fails = { λ pointer kind. ViewError pointer ElementsFormError kind };
-
-                ghost form_error = { λ pointer kind. FormError pointer ElementsFormError kind };
-
-                fn get_from_pointer(reader: any_pointer::Reader<'a, S>) -> Result<Self>
-                    ensures { let pointer = pointer_of S.segments reader.entry in IsViewOf pointer
-                        (λ view. IsUpgradedStructs pointer (upgraded_structs_of S.segments view.elements))
-                        (Accepts pointer TakesAsStructs) (ViewError pointer ElementsFormError)
-                        (FormError pointer ElementsFormError) result }
-                {
-                    match upgraded::StructList::get_from_pointer(reader) {
-                        Ok(elements) => Ok(ListReader { elements }),
-                        Err(error) => Err(error),
-                    }
-                }
-            }
+            /// A list of such structs, or of their first fields where an older writer had these.
+            pub type ListReader<'a, S> = upgraded::Structs<'a, S, Reader<'a, S>>;
 
             /// Which pointer of the struct points to `name`, for `fields.get_pointer`.
             pub const NAME_POINTER: u16 = 0;

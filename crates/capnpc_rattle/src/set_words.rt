@@ -1,6 +1,6 @@
 //! What clauses say of the data words in which a field is set.
 use crate::builder_templates::{ENUM_CLAUSE, OLD_WORDS, WORDS_CLAUSE, WORDS_STAY};
-use crate::code::{Holes, fill, fill_with};
+use crate::code::{Holes, fill, fill_with, joined};
 use crate::enums::{enum_name, enumerants_of, lines_of};
 use crate::getters::Site;
 use crate::numbers::{NumberKind, Stored};
@@ -12,7 +12,7 @@ pub fn words_with(alloc: Global, tags: &[(u32, u16)]) -> Result<String, AllocErr
     let mut words = String::from_str(alloc, OLD_WORDS)?;
     for (offset, number) in tags {
         let before = words.as_str();
-        words = format!(in alloc; "(with_field {before} 16 {offset} {number})")?;
+        words = format!(in alloc; "($with_field {before} 16 {offset} {number})")?;
     }
     Ok(words)
 }
@@ -42,7 +42,9 @@ pub fn number_clause(
     let (width, offset) = (stored.number.width, stored.offset);
     let bits = bits_of(alloc, stored, "value")?;
     let bits = bits.as_str();
-    let words = format!(in alloc; "with_field {words} {width} {offset} {bits}")?;
+    let before = format!(in alloc; "$with_field {words}")?;
+    let field = format!(in alloc; "{width} {offset} {bits}")?;
+    let words = joined(alloc, before.as_str(), field.as_str())?;
     words_clause(alloc, words.as_str())
 }
 
@@ -52,16 +54,16 @@ fn bits_of(alloc: Global, stored: &Stored, value: &str) -> Result<String, AllocE
     let width = stored.number.width;
     let default = stored.default;
     let bits = match stored.number.kind {
-        NumberKind::Bool => format!(in alloc; "(if {value} then 1 else 0)")?,
+        NumberKind::Bool => format!(in alloc; "($if {value} then 1 else 0)")?,
         NumberKind::Unsigned => String::from_str(alloc, value)?,
-        NumberKind::Signed => format!(in alloc; "(cast_unsigned w{width} {value})")?,
-        NumberKind::Float => format!(in alloc; "(to_bits binary{width} {value})")?,
+        NumberKind::Signed => format!(in alloc; "($cast_unsigned $w{width} {value})")?,
+        NumberKind::Float => format!(in alloc; "($to_bits $binary{width} {value})")?,
     };
     if default == 0 {
         return Ok(bits);
     }
     let bits = bits.as_str();
-    format!(in alloc; "(bit_xor {bits} {default})")
+    format!(in alloc; "($bit_xor {bits} {default})")
 }
 
 // The cases of a clause over an enum: the bits that are set for each enumerant.
@@ -78,7 +80,7 @@ fn enum_cases(
     lines_of(alloc, name.as_str(), names, line.as_str(), last.as_str())
 }
 
-// The case of a variant: that the field has the bits of a value, where `words` has the numbers of
+// The case of a variant: that the field has the bits of a value, where `old` has the numbers of
 // unions.
 fn enum_case(
     alloc: Global,
@@ -89,7 +91,5 @@ fn enum_case(
     let offset = stored.offset;
     let bits = bits_of(alloc, stored, value)?;
     let bits = bits.as_str();
-    format!(in alloc;
-        "  | @type@.{variant} ↦ self.new.draft.words ≡ with_field words 16 {offset} {bits}"
-    )
+    format!(in alloc; "  | @type@.{variant} ↦ new $≡ $with_field old 16 {offset} {bits}")
 }

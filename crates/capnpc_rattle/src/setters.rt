@@ -190,6 +190,6 @@ fn float_call(alloc: Global, stored: &Stored) -> Result<String, AllocError> {
     };
     let set = "self.draft.set_data_field_mask";
     format!(in alloc;
-        "let bits = PrimitiveElement::to_bits(value){all};\n{set}::<{bits}>({offset}, bits, {default});"
+        "let bits = $PrimitiveElement::to_bits(value){all};\n{set}::<{bits}>({offset}, bits, {default});"
     )
 }

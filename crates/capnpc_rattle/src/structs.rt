@@ -6,12 +6,11 @@ use crate::defaults::push_defaults;
 use crate::enums::enum_paths;
 use crate::fields::push_field;
 use crate::getters::{Site, shown_of};
-use crate::imports::push_imports;
-use crate::list_templates::LIST_READER;
+use crate::imports::push_module;
 use crate::names::module;
 use crate::pointer_names::push_pointers;
 use crate::schema::{Field, Node, Request, Struct};
-use crate::templates::{FROM_POINTER, GROUP_IMPL, GROUP_READER, READER, READER_IMPL};
+use crate::templates::{FROM_STRUCT, GROUP_IMPL, GROUP_READER, READER, READER_IMPL};
 use crate::unions::{Members, push_members, push_which};
 use std::alloc::{AllocError, Global};
 
@@ -30,9 +29,7 @@ pub fn push_struct(
     push_reader(alloc, &mut inner, site, body)?;
     push_constants(alloc, &mut inner, request, node)?;
     let enums = enum_paths(alloc, site)?;
-    push_imports(alloc, code, enums.as_slice(), inner.lines.as_str())?;
-    code.add_gap()?;
-    code.lines.push_str(inner.lines.as_str())
+    push_module(alloc, code, request, enums.as_slice(), inner.lines.as_str())
 }
 
 /// Opens the module of a node.
@@ -73,8 +70,7 @@ fn push_reader(
         }
     }
     if !body.is_group {
-        code.add_lines(FROM_POINTER)?;
-        code.add_lines(LIST_READER)?;
+        code.add_lines(FROM_STRUCT)?;
     }
     if site.request.wanted.builders {
         push_builder(alloc, code, site, body)?;

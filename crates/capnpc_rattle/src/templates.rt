@@ -3,70 +3,61 @@
 /// The head of each file.
 pub const FILE: &str =
     "//! Types of `@file@`, made by `capnpc-rattle`: change that file, and make them again.
+//!
+//! In a crate of their own they are proved once. A program is proved soonest where a loop over
+//! messages or a list has one line, a call: `add_message(&message?, &mut totals)?` (docs/GUIDE.md).
 ";
 
 /// The types and the reader of a struct, before its fields.
 pub const READER: &str = "/// The type of the schema.
 pub struct Owned;
 
-impl<'a, S: ReaderSegments + 'a> traits::Owned<'a, S> for Owned {
+impl<'a, S: $ReaderSegments + 'a> $traits::Owned<'a, S> for Owned {
     type Reader = Reader<'a, S>;
 }
 
 /// A struct of this type in a message. What its writer left out reads as the default.
 #[derive(Drop)]
-pub struct Reader<'a, S: ReaderSegments> {
+pub struct Reader<'a, S: $ReaderSegments> {
     /// The struct whose fields these are.
-    pub fields: StructReader<'a, S>,
+    pub fields: $StructReader<'a, S>,
 }
 ";
 
 /// What comes before the getters of a struct.
 pub const READER_IMPL: &str = "
-impl<'a, S: ReaderSegments> Reader<'a, S> {
+impl<'a, S: $ReaderSegments> Reader<'a, S> {
 ";
 
 /// The reader of a group.
 pub const GROUP_READER: &str = "/// The group, in a struct in a message.
 #[derive(Drop)]
-pub struct Reader<'b, 'a, S: ReaderSegments> {
+pub struct Reader<'b, 'a, S: $ReaderSegments> {
     /// The struct whose fields these are.
-    pub fields: &'b StructReader<'a, S>,
+    pub fields: &'b $StructReader<'a, S>,
 }
 ";
 
 /// What comes before the getters of a group.
 pub const GROUP_IMPL: &str = "
-impl<'b, 'a, S: ReaderSegments> Reader<'b, 'a, S> {
+impl<'b, 'a, S: $ReaderSegments> Reader<'b, 'a, S> {
 ";
 
-/// How a struct is read from a pointer.
+/// How a struct is read, from a pointer and as an element of a list, and a list of such structs.
 ///
-/// Speed: always inlined, since its result would be passed in memory: `eval` takes 0.86 of the
-/// instructions (`tools/time classic`).
-pub const FROM_POINTER: &str = "
-impl<'a, S: ReaderSegments> FromPointerReader<'a, S> for Reader<'a, S> {
-    ghost shows = { λ pointer view. IsStruct pointer (struct_of S.segments view.fields) };
-
-    ghost accepts = { λ pointer. Accepts pointer TakesStruct };
-
-    ghost fails = { λ pointer kind. ViewError pointer StructFormError kind };
-
-    ghost form_error = { λ pointer kind. FormError pointer StructFormError kind };
+/// Speed: always inlined, since its result would be passed in memory.
+pub const FROM_STRUCT: &str = "
+impl<'a, S: $ReaderSegments> $upgraded::FromStruct<$StructReader<'a, S>> for Reader<'a, S> {
+    ghost shown = { λ view. $struct_of S.segments view.fields };
 
     #[inline(always)]
-    fn get_from_pointer(reader: any_pointer::Reader<'a, S>) -> Result<Self>
-        ensures { let pointer = pointer_of S.segments reader.entry in IsViewOf pointer
-            (λ view. IsStruct pointer (struct_of S.segments view.fields))
-            (Accepts pointer TakesStruct) (ViewError pointer StructFormError)
-            (FormError pointer StructFormError) result }
-    {
-        match StructReader::get_from_pointer(reader) {
-            Ok(fields) => Ok(Reader { fields }),
-            Err(error) => Err(error),
-        }
+    fn from_struct(fields: $StructReader<'a, S>) -> Reader<'a, S> {
+        Reader { fields }
     }
 }
+
+/// A list of such structs, or of their first fields where an older writer had these.
+pub type ListReader<'a, S> = $upgraded::Structs<'a, S, Reader<'a, S>>;
 ";
 
 /// The getter of a field.
@@ -88,80 +79,69 @@ elim @value@ [
 @cases@
 ]";
 
-/// What a clause says of a view of what a pointer points to.
-pub const VIEW_FACT: &str = "IsViewOf pointer
-(λ view. @shows@)
-(Accepts pointer @takes@) (ViewError pointer @form_error@)
-(FormError pointer @form_error@) @result@";
-
-/// What a clause says of a view of what a pointer of a struct points to.
-pub const POINTER_FACT: &str = "let pointer = pointer_in fields @offset@ in
-@fact@";
+/// What a clause says of a view of a list of numbers.
+pub const NUMBERS_FACT: &str = "let pointer = @pointer@ in
+$IsViewBy pointer ($TakesFields @code@) ($FieldsFormError @code@)
+(λ view. $Reads pointer (λ form.
+$ReadsAsNumbers @code@ form ($upgraded_numbers_of @code@ @value@))) @result@";
 
 /// What a clause says of a pointer that has a default.
-pub const DEFAULT_FACT: &str = "let pointer = pointer_in fields @offset@ in
-((Denotes pointer nothing → ⊥) → @stored@)
-× (Denotes pointer nothing → (let pointer = root_of @default@ in
+pub const DEFAULT_FACT: &str = "let pointer = $pointer_in fields @offset@ in
+(($Denotes pointer $nothing → ⊥) → @stored@)
+× ($Denotes pointer $nothing → (let pointer = $root_of @default@ in
 @fact@))";
 
 /// What a clause says of a struct whose default sets no pointers.
-pub const DEFAULT_DATA_FACT: &str = "let pointer = pointer_in fields @offset@ in
-((Denotes pointer nothing → ⊥) → @stored@)
-× (Denotes pointer nothing → (let constant = root_of @default@ in
-IsViewOf constant
-(λ view. IsDefaultData constant pointer (struct_of S.segments view.fields))
-(Accepts constant TakesStruct) (ViewError constant StructFormError)
-(FormError constant StructFormError) @value@))";
+pub const DEFAULT_DATA_FACT: &str = "let pointer = $pointer_in fields @offset@ in
+(($Denotes pointer $nothing → ⊥) → @stored@)
+× ($Denotes pointer $nothing → (let constant = $root_of @default@ in
+$IsViewBy constant $TakesStruct $StructFormError
+(λ view. $IsDefaultData constant pointer
+($struct_of S.segments view.fields)) @value@))";
 
 /// What it says of a view that is bound to the segments that it reads.
-pub const OR_DEFAULT_FACT: &str = "let pointer = pointer_in fields @offset@ in
+pub const OR_DEFAULT_FACT: &str = "let pointer = $pointer_in fields @offset@ in
 elim @value@ [
-  | OrDefault.Stored view ↦ (Denotes pointer nothing → ⊥) ×
+  | $OrDefault.Stored view ↦ ($Denotes pointer $nothing → ⊥) ×
       (@stored@)
-  | OrDefault.Default view ↦ Denotes pointer nothing ×
-      (let pointer = root_of @default@ in
+  | $OrDefault.Default view ↦ $Denotes pointer $nothing ×
+      (let pointer = $root_of @default@ in
       @fact@)
 ]";
 
 /// How a view is read.
 pub const VIEW_BODY: &str = "self.fields.get_pointer_as(@offset@)";
 
-/// How a struct is read, or a list of structs.
-pub const STRUCT_BODY: &str = "match self.fields.get_pointer_as(@offset@) {
-    Ok(@part@) => Ok(@path@::@reader@ { @part@ }),
-    Err(error) => Err(error),
-}";
-
 /// How a view that has a default is read.
 pub const DEFAULT_BODY: &str = "let pointer = self.fields.get_pointer(@offset@);
 if pointer.is_null() {
     get_@name@_default()
 } else {
-    FromPointerReader::get_from_pointer(pointer)
+    $FromPointerReader::get_from_pointer(pointer)
 }";
 
 /// How a struct whose default sets no pointers is read.
 pub const DEFAULT_DATA_BODY: &str = "let pointer = self.fields.get_pointer(@offset@);
 if pointer.is_null() {
-    match capnp_wire::constant::default_data(&pointer, &@default@) {
+    match $capnp_wire::constant::default_data(&pointer, &@default@) {
         Ok(fields) => Ok(@path@::Reader { fields }),
         Err(error) => Err(error),
     }
 } else {
-    FromPointerReader::get_from_pointer(pointer)
+    $FromPointerReader::get_from_pointer(pointer)
 }";
 
 /// How a view that is bound to the segments that it reads is read.
 pub const OR_DEFAULT_BODY: &str = "let pointer = self.fields.get_pointer(@offset@);
 if pointer.is_null() {
-    OrDefault::Default(get_@name@_default())
+    $OrDefault::Default(get_@name@_default())
 } else {
-    OrDefault::Stored(FromPointerReader::get_from_pointer(pointer))
+    $OrDefault::Stored($FromPointerReader::get_from_pointer(pointer))
 }";
 
 /// A constant or a default, as the words of a message.
 pub const WORDS: &str = "#[rattlefmt::skip]
-pub static @name@: Words<@size@> = Words { bytes: [
+pub static @name@: $Words<@size@> = $Words { bytes: [
     @lines@
 ] };
 ";
@@ -170,7 +150,7 @@ pub static @name@: Words<@size@> = Words { bytes: [
 pub const LAYOUT: &str = "
 /// The words of `@name@` are the layout of the schema's value.
 pub fn @law@_is_laid_out()
-    ensures { words_of @name@.bytes ≡ layout
+    ensures { $words_of @name@.bytes $≡ $layout
         @tree@ }
 {}
 ";
@@ -184,15 +164,15 @@ pub const NO_LAYOUT: &str = "
 pub const GET_WORDS: &str = "
 /// @title@
 @signature@
-    ensures { let pointer = root_of @name@ in
+    ensures { let pointer = $root_of @name@ in
         @fact@ }
 {
-    capnp_wire::constant::view_of(&@name@)
+    $capnp_wire::constant::view_of(&@name@)
 }
 ";
 
 /// What a clause says of a pointer, whatever it points to.
-pub const ANY_POINTER_FACT: &str = "pointer_of S.segments @value@ ≡ pointer_in fields @offset@";
+pub const ANY_POINTER_FACT: &str = "$pointer_of S.segments @value@ $≡ $pointer_in fields @offset@";
 
 /// How a pointer that may point to anything is read.
 pub const ANY_POINTER_BODY: &str = "self.fields.get_pointer(@offset@)";
@@ -200,14 +180,14 @@ pub const ANY_POINTER_BODY: &str = "self.fields.get_pointer(@offset@)";
 /// How a float that has a default is read: by its bits, since a default may be a NaN.
 pub const FLOAT_BODY: &str =
     "let bits: @bits@ = self.fields.get_data_field_mask(@offset@, @default@);
-PrimitiveElement::from_bits(@all@)";
+$PrimitiveElement::from_bits(@all@)";
 
 /// Whether a pointer is there.
 pub const HAS: &str = "
 /// Whether `@field@` is there, and is not null.
 pub fn has_@name@(&self) -> bool
     ensures { let fields = @fields@ in
-        IsTrue result ↔ (Denotes (pointer_in fields @offset@) nothing → ⊥) }
+        $IsTrue result $↔ ($Denotes ($pointer_in fields @offset@) $nothing → ⊥) }
 {
     self.fields.has_pointer(@offset@)
 }
@@ -234,7 +214,7 @@ pub const ENUM_HEAD: &str = "#[derive(Clone, Copy, PartialEq, Eq, Hash, Debug)]
 pub enum @type@ {
 ";
 
-/// What follows the enumerants of an enum.
+/// What follows the enumerants of an enum, and how a list's element is read as one of them.
 pub const ENUM_END: &str = "    /// A number that the schema doesn't name.
     NotInSchema(u16),
 }
@@ -251,6 +231,14 @@ impl @type@ {
         }
     }
 }
+
+impl $capnp_wire::upgraded::EnumElement for @type@ {
+    ghost named = { @count@ };
+
+    fn from_number(number: u16) -> @type@ {
+        @type@::from_number(number)
+    }
+}
 ";
 
 /// Which member of a union is set.
@@ -262,7 +250,7 @@ pub const WHICH: &str = "
 #[inline(always)]
 pub fn which(&self) -> Which@arguments@
     ensures { let fields = @fields@ in
-        let number = field fields.words 16 @offset@ in
+        let number = $field fields.words 16 @offset@ in
         elim result [
         @cases@
         ] }
@@ -274,11 +262,11 @@ pub fn which(&self) -> Which@arguments@
 ";
 
 /// The case of a member that has a value, in a clause over the union.
-pub const CASE: &str = "  | Which.@variant@ value ↦ (number ≡ @number@) × (@fact@)
+pub const CASE: &str = "  | Which.@variant@ value ↦ (number $≡ @number@) × (@fact@)
 ";
 
 /// The same case for a fact of several lines.
-pub const LONG_CASE: &str = "  | Which.@variant@ value ↦ (number ≡ @number@) ×
+pub const LONG_CASE: &str = "  | Which.@variant@ value ↦ (number $≡ @number@) ×
       (@fact@)
 ";
 

@@ -1,6 +1,5 @@
 //! Trees of values that pointers point to, as clauses have them: terms of `Trees` of `capnp_wire`,
-//! in the names under which `imports.rt` imports its constructors.
-use crate::part::WIDTH;
+//! in the names by which `importable.rt` has its constructors.
 use anyhow::Result;
 use capnp_frame::message::ReaderSegments;
 use capnp_wire::any_object::Numbers;
@@ -8,6 +7,9 @@ use capnp_wire::any_struct::StructReader;
 use capnp_wire::{any_object, any_pointer, struct_list};
 use std::alloc::{AllocError, Global};
 use std::fmt::Write;
+
+/// The most columns of a line of a tree.
+const WIDTH: usize = 100;
 
 /// The most bytes of a tree's code; a clause with a longer tree takes a second and more to prove.
 const MAX_TREE: usize = 32768;
@@ -196,7 +198,8 @@ pub fn tree_of_bytes(alloc: Global, bytes: &[u8], is_text: bool) -> Result<Strin
     Ok(written)
 }
 
-/// A term in lines that are not too wide for a clause at some depth of modules.
+/// A term in lines that are not too wide for a clause at some depth of modules. What is no number in
+/// it is cited.
 pub fn wrapped(alloc: Global, depth: usize, term: &str) -> Result<String, AllocError> {
     let width = WIDTH.saturating_sub(depth.saturating_mul(4).saturating_add(12));
     let mut written = String::new(alloc);
@@ -209,8 +212,19 @@ pub fn wrapped(alloc: Global, depth: usize, term: &str) -> Result<String, AllocE
         } else if !written.is_empty() {
             written.push(' ')?;
         }
-        written.push_str(word)?;
+        push_cited(&mut written, word)?;
         column = column.saturating_add(letters).saturating_add(1);
     }
     Ok(written)
+}
+
+// Adds a word of a term, whose name or operator is cited.
+fn push_cited(written: &mut String, word: &str) -> Result<(), AllocError> {
+    let name = word.trim_start_matches('(');
+    let brackets = word.len().saturating_sub(name.len());
+    written.push_str(word.get(..brackets).unwrap_or(""))?;
+    if !name.is_empty() && !name.starts_with(|letter: char| letter.is_ascii_digit()) {
+        written.push('$')?;
+    }
+    written.push_str(name)
 }

@@ -7,6 +7,9 @@ use crate::templates::{CASE, LONG_CASE, MEMBERS, WHICH};
 use std::alloc::{AllocError, Global};
 use std::fmt::Write;
 
+/// How many bytes of a member's fact are too many for the line of its case.
+const LONG_FACT: usize = 39;
+
 /// The members of a union, as they are written.
 #[derive(Drop)]
 pub struct Members {
@@ -55,7 +58,7 @@ impl Members {
 
     // Adds a member that has no value.
     fn push_nothing(&mut self, variant: &str, number: u16) -> Result<(), AllocError> {
-        write!(self.cases, "  | Which.{variant} ↦ number ≡ {number}\n")?;
+        write!(self.cases, "  | Which.{variant} ↦ number $≡ {number}\n")?;
         write!(self.arms, "{number} => Which::{variant},\n")?;
         write!(self.variants, "{variant},\n")
     }
@@ -87,7 +90,7 @@ impl Members {
             .with("variant", variant)
             .holding("number", format!(in alloc; "{number}"));
         let fact = fill_with(alloc, shown.fact.as_str(), "value", "value")?;
-        let template = if fact.as_str().contains("\n") {
+        let template = if fact.len() > LONG_FACT || fact.as_str().contains("\n") {
             LONG_CASE
         } else {
             CASE
@@ -139,7 +142,7 @@ pub fn push_which(
     let count = members.count;
     let before = members.cases.as_str();
     let cases = format!(in alloc;
-        "{before}  | Which.NotInSchema unknown ↦ (unknown ≡ number) × ({count} ≤ number)"
+        "{before}  | Which.NotInSchema unknown ↦ (unknown $≡ number) × ({count} $≤ number)"
     );
     let before = members.arms.as_str();
     let arms = format!(in alloc; "{before}unknown => Which::NotInSchema(unknown),");
@@ -154,7 +157,7 @@ pub fn push_which(
 
 /// Adds the enum of the members.
 pub fn push_members(alloc: Global, code: &mut Code, members: &Members) -> Result<(), AllocError> {
-    let parameters = members.parameters(alloc, "'b", "S: ReaderSegments");
+    let parameters = members.parameters(alloc, "'b", "S: $ReaderSegments");
     let holes = Holes::new(alloc)
         .holding("parameters", parameters)
         .with("variants", members.variants.as_str().trim_end());

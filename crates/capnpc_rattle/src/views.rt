@@ -3,7 +3,7 @@ use crate::code::{Holes, fill};
 use crate::numbers::number_of;
 use crate::paths::path_to;
 use crate::schema::{Base, Request, Type};
-use crate::templates::VIEW_FACT;
+use crate::templates::NUMBERS_FACT;
 use std::alloc::{AllocError, Global};
 
 /// What a view borrows from, as a type and a clause name it.
@@ -26,8 +26,8 @@ pub const MESSAGE: Lender = Lender {
 /// A constant or a default; `@size@` stands for the number of its bytes.
 pub const CONSTANT: Lender = Lender {
     lifetime: "'static",
-    segments: "Words<@size@>",
-    segments_of: "segments_of",
+    segments: "$Words<@size@>",
+    segments_of: "$segments_of",
 };
 
 /// A view of what a pointer points to, as a getter and its contract name it.
@@ -35,38 +35,22 @@ pub const CONSTANT: Lender = Lender {
 pub struct View {
     /// Its type.
     pub type_name: String,
-    /// What it shows of a pointer.
-    pub shows: String,
-    /// Which forms it accepts.
-    pub takes: String,
-    /// How it rejects the others.
-    pub form_error: String,
+    /// What a clause says of a result, `@result@`, that views what `@pointer@` points to.
+    fact: String,
 }
 
 impl View {
-    // A view by its parts, unless an allocation failed for one of them.
-    fn new(
-        type_name: Result<String, AllocError>,
-        shows: Result<String, AllocError>,
-        takes: Result<String, AllocError>,
-        form_error: Result<String, AllocError>,
-    ) -> Result<Option<View>, AllocError> {
-        Ok(Some(View {
-            type_name: type_name?,
-            shows: shows?,
-            takes: takes?,
-            form_error: form_error?,
-        }))
+    /// The type of what returns it, or an error.
+    pub fn result_type(&self, alloc: Global) -> Result<String, AllocError> {
+        format!(in alloc; "$Result<{}>", self.type_name)
     }
 
-    /// What a clause says of a view by this name, of what the pointer `pointer` points to.
-    pub fn fact(&self, alloc: Global, name: &str) -> Result<String, AllocError> {
+    /// What a clause says of a result by this name, of what this pointer points to.
+    pub fn fact(&self, alloc: Global, pointer: &str, name: &str) -> Result<String, AllocError> {
         let holes = Holes::new(alloc)
-            .with("shows", self.shows.as_str())
-            .with("takes", self.takes.as_str())
-            .with("form_error", self.form_error.as_str())
+            .with("pointer", pointer)
             .with("result", name);
-        fill(alloc, VIEW_FACT, &holes)
+        fill(alloc, self.fact.as_str(), &holes)
     }
 }
 
@@ -91,12 +75,10 @@ pub fn view_of(
         .with("lifetime", lender.lifetime)
         .with("segments", lender.segments)
         .with("segments_of", lender.segments_of);
-    View::new(
-        fill(alloc, view.type_name.as_str(), &holes),
-        fill(alloc, view.shows.as_str(), &holes),
-        Ok(view.takes),
-        Ok(view.form_error),
-    )
+    Ok(Some(View {
+        type_name: fill(alloc, view.type_name.as_str(), &holes)?,
+        fact: fill(alloc, view.fact.as_str(), &holes)?,
+    }))
 }
 
 /// Whether the views of a type have one type, whatever segments they read.
@@ -108,20 +90,12 @@ pub fn is_plain(of: Type) -> bool {
     }
 }
 
-// A view by its parts.
-fn view_from(
-    alloc: Global,
-    type_name: &str,
-    shows: &str,
-    takes: &str,
-    form_error: &str,
-) -> Result<Option<View>, AllocError> {
-    View::new(
-        String::from_str(alloc, type_name),
-        String::from_str(alloc, shows),
-        String::from_str(alloc, takes),
-        String::from_str(alloc, form_error),
-    )
+// A view by its type, and by what a clause says of it.
+fn view_from(alloc: Global, type_name: &str, fact: &str) -> Result<Option<View>, AllocError> {
+    Ok(Some(View {
+        type_name: String::from_str(alloc, type_name)?,
+        fact: String::from_str(alloc, fact)?,
+    }))
 }
 
 // The view of a type that is no list.
@@ -134,27 +108,18 @@ fn single(
     match base {
         Base::Text => view_from(
             alloc,
-            "text::Reader<@lifetime@>",
-            "Reads pointer (λ form. IsText form view.bytes.now)",
-            "TakesText",
-            "TextFormError",
+            "$text::Reader<@lifetime@>",
+            "$IsTextView @pointer@ @result@",
         ),
-        Base::Data => view_from(
-            alloc,
-            "&@lifetime@ [u8]",
-            "Reads pointer (λ form. IsData form view.now)",
-            "(TakesNumbers 2)",
-            "(NumbersFormError 2)",
-        ),
+        Base::Data => view_from(alloc, "&@lifetime@ [u8]", "$IsDataView @pointer@ @result@"),
         Base::Struct(id) => {
             let path = path_to(alloc, request, site, id)?;
             let name = format!(in alloc; "{path}::Reader<@lifetime@, @segments@>")?;
             view_from(
                 alloc,
                 name.as_str(),
-                "IsStruct pointer (struct_of @segments_of@ view.fields)",
-                "TakesStruct",
-                "StructFormError",
+                "$IsStructView @pointer@
+(λ view. $struct_of @segments_of@ view.fields) @result@",
             )
         }
         _ => Ok(None),
@@ -177,13 +142,11 @@ fn list(
             view_from(
                 alloc,
                 name.as_str(),
-                "IsUpgradedStructs pointer (upgraded_structs_of @segments_of@ view.elements)",
-                "TakesAsStructs",
-                "ElementsFormError",
+                "$IsStructsView @segments_of@ @pointer@ @result@",
             )
         }
-        Base::AnyPointer => list_of_pointers(alloc, "any_pointer::Reader<@lifetime@, @segments@>"),
-        Base::Text => list_of_pointers(alloc, "text::Reader<@lifetime@>"),
+        Base::AnyPointer => list_of_pointers(alloc, "$any_pointer::Reader<@lifetime@, @segments@>"),
+        Base::Text => list_of_pointers(alloc, "$text::Reader<@lifetime@>"),
         Base::Data => list_of_pointers(alloc, "&@lifetime@ [u8]"),
         _ => match number_of(base) {
             Some(number) => list_of_numbers(alloc, number.type_name, number.code),
@@ -211,14 +174,12 @@ fn list_of_lists(
 
 // The view of a list of numbers.
 fn list_of_numbers(alloc: Global, element: &str, code: u32) -> Result<Option<View>, AllocError> {
-    View::new(
-        format!(in alloc; "upgraded::NumberList<@lifetime@, {element}>"),
-        format!(in alloc;
-            "Reads pointer (λ form. ReadsAsNumbers {code} form (upgraded_numbers_of {code} view))"
-        ),
-        format!(in alloc; "(TakesFields {code})"),
-        format!(in alloc; "(FieldsFormError {code})"),
-    )
+    let name = format!(in alloc; "$upgraded::NumberList<@lifetime@, {element}>")?;
+    let holes = Holes::new(alloc)
+        .with("value", "view")
+        .holding("code", format!(in alloc; "{code}"));
+    let fact = fill(alloc, NUMBERS_FACT, &holes)?;
+    view_from(alloc, name.as_str(), fact.as_str())
 }
 
 // The view of a list of an enum's values, which a message holds as numbers of 16 bits.
@@ -229,24 +190,23 @@ fn list_of_enums(
     id: u64,
 ) -> Result<Option<View>, AllocError> {
     let path = path_to(alloc, request, site, id)?;
-    let name = format!(in alloc; "upgraded::EnumList<@lifetime@, {path}>")?;
-    view_from(
-        alloc,
-        name.as_str(),
-        "Reads pointer (λ form.\nReadsAsNumbers 3 form (upgraded_numbers_of 3 view.numbers))",
-        "(TakesFields 3)",
-        "(FieldsFormError 3)",
-    )
+    let name = format!(in alloc; "$upgraded::EnumList<@lifetime@, {path}>")?;
+    let holes = Holes::new(alloc)
+        .with("value", "view.numbers")
+        .with("code", "3");
+    let fact = fill(alloc, NUMBERS_FACT, &holes)?;
+    view_from(alloc, name.as_str(), fact.as_str())
 }
 
 // The view of a list of pointers.
 fn list_of_pointers(alloc: Global, element: &str) -> Result<Option<View>, AllocError> {
-    let name = format!(in alloc; "upgraded::ListList<@lifetime@, @segments@, {element}>")?;
+    let name = format!(in alloc; "$upgraded::ListList<@lifetime@, @segments@, {element}>")?;
     view_from(
         alloc,
         name.as_str(),
-        "IsUpgradedPointers pointer (upgraded_pointers_of @segments_of@ view.pointers)",
-        "TakesFirstPointers",
-        "FirstPointersFormError",
+        "let pointer = @pointer@ in
+$IsViewBy pointer $TakesFirstPointers $FirstPointersFormError
+(λ view. $IsUpgradedPointers pointer
+($upgraded_pointers_of @segments_of@ view.pointers)) @result@",
     )
 }

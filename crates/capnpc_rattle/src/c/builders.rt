@@ -37,6 +37,17 @@ pub fn push_adding(
         .holding("data_words", format!(in alloc; "{}", body.data_words))
         .holding("pointers", format!(in alloc; "{}", body.pointers))
         .holding("size", format!(in alloc; "{size}"));
+    // A call that copies takes no words, or no pointers, where there are none.
+    let copied_words = if body.data_words > 0 {
+        "draft->words"
+    } else {
+        "NULL"
+    };
+    let copied_orphans = if body.pointers > 0 {
+        "draft->orphans"
+    } else {
+        "NULL"
+    };
     // C has no array without elements, so a struct has none where it has no words, or no pointers.
     let words = if body.data_words > 0 {
         "draft->words"
@@ -48,6 +59,10 @@ pub fn push_adding(
     } else {
         "(const uint64_t *)draft"
     };
-    let holes = holes.with("words", words).with("orphans", orphans);
+    let holes = holes
+        .with("words", words)
+        .with("orphans", orphans)
+        .with("copied_words", copied_words)
+        .with("copied_orphans", copied_orphans);
     code.add(ADD, &holes)
 }

@@ -6,12 +6,13 @@ use crate::schema::{Body, Node};
 use anyhow::{Result, bail};
 use std::alloc::Global;
 
-// What is said of names that collide.
-const COLLIDES: &str = "names collide (see rattle.capnp)";
+/// What is said of names that collide.
+pub const COLLIDES: &str = "names collide (see rattle.capnp)";
 
 /// Fails for what is not a name, of a node, its fields or its enumerants.
 pub fn check_names(node: &Node) -> Result<()> {
     match &node.body {
+        Body::File if !node.prefix.is_empty() => return expect_name(node.prefix.as_str()),
         Body::File | Body::Other => return Ok(()),
         Body::Struct(body) => {
             for field in body.fields.as_slice() {

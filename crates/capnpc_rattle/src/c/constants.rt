@@ -1,12 +1,12 @@
 //! Constants, and the words of constants and defaults that pointers point to.
 use crate::c::comments::push_comment;
-use crate::c::names::{constant_scope, type_name};
+use crate::c::names::{constant_scope, enum_tag, type_name};
 use crate::c::numbers::{number_literal, number_type};
 use crate::c::templates::{CONSTANT_NUMBER, CONSTANT_POINTER, LEFT_OUT_CONSTANT, WORDS};
-use crate::c::views::{View, view_of};
+use crate::c::views::{View, has_enumerants, view_of};
 use crate::code::{Code, Holes};
 use crate::constants::enumerant_of;
-use crate::numbers::{Number, number_of};
+use crate::numbers::number_of;
 use crate::schema::{Base, Node, Request, Type, Value};
 use crate::words::{lines_of, words_of};
 use std::alloc::{AllocError, Global};
@@ -22,11 +22,17 @@ pub fn push_constant(
 ) -> Result<(), AllocError> {
     match (value, number_of(of.base)) {
         (Value::Bits(bits), Some(number)) if of.lists == 0 => {
-            let value = match of.base {
-                Base::Enum(id) => enumerator(alloc, request, id, *bits),
-                _ => number_literal(alloc, number, *bits),
-            };
-            push_number(alloc, code, request, node, number, value)
+            if let Base::Enum(id) = of.base
+                && has_enumerants(request, id)
+            {
+                let tag = enum_tag(alloc, request, id)?;
+                let tag = tag.as_str();
+                let of_enum = format!(in alloc; "enum {tag}")?;
+                let value = enumerator(alloc, request, id, tag, *bits);
+                return push_number(alloc, code, request, node, of_enum.as_str(), value);
+            }
+            let value = number_literal(alloc, number, *bits);
+            push_number(alloc, code, request, node, number_type(number), value)
         }
         (Value::Bits(_) | Value::Null, _) => push_left_out(code, node),
         _ => match view_of(alloc, request, of)? {
@@ -47,28 +53,34 @@ fn push_number(
     code: &mut Code,
     request: &Request,
     node: &Node,
-    number: Number,
+    type_name: &str,
     value: Result<String, AllocError>,
 ) -> Result<(), AllocError> {
     let holes = Holes::new(alloc)
         .holding("scope", constant_scope(alloc, request, node.scope))
         .with("name", node.name.as_str())
-        .with("type", number_type(number))
+        .with("type", type_name)
         .holding("value", value);
     code.add_gap()?;
     push_comment(alloc, code, node.comment.as_str())?;
     code.add(CONSTANT_NUMBER, &holes)
 }
 
-// The enumerator of this number; the number where the enum has none.
-fn enumerator(alloc: Global, request: &Request, id: u64, bits: u64) -> Result<String, AllocError> {
+// The enumerator of this number of an enum with this tag; the number where the enum has none.
+fn enumerator(
+    alloc: Global,
+    request: &Request,
+    id: u64,
+    tag: &str,
+    bits: u64,
+) -> Result<String, AllocError> {
     match enumerant_of(request, id, bits) {
         Some(name) => {
             let prefix = type_name(alloc, request, id)?;
             let prefix = prefix.as_str();
             format!(in alloc; "{prefix}_{name}")
         }
-        None => format!(in alloc; "{bits}"),
+        None => format!(in alloc; "(enum {tag}){bits}"),
     }
 }
 
@@ -88,7 +100,7 @@ fn push_object(
         .with("scope", scope)
         .with("name", name)
         .with("words", words.as_str())
-        .with("view", view.type_name.as_str())
+        .with("view", view.name.as_str())
         .with("call", view.call.as_str());
     code.add_gap()?;
     push_words(alloc, code, words.as_str(), value)?;

@@ -1,7 +1,8 @@
 //! Enums, and the members of unions as enums.
+use crate::c::builder_templates::ADD_ENUMS;
 use crate::c::comments::push_comment;
 use crate::c::names::{enum_tag, type_name};
-use crate::c::templates::{ENUM, ENUMERATOR, LEFT_OUT_ENUM};
+use crate::c::templates::{ENUM, ENUM_LIST, ENUMERATOR, LEFT_OUT_ENUM};
 use crate::code::{Code, Holes};
 use crate::schema::{Node, Request, Struct};
 use std::alloc::{AllocError, Global};
@@ -29,8 +30,15 @@ pub fn push_enum(
         number = number.saturating_add(1);
     }
     let tag = enum_tag(alloc, request, node.id)?;
+    let tag = tag.as_str();
     push_comment(alloc, code, node.comment.as_str())?;
-    push_lines(alloc, code, tag.as_str(), inner.lines.as_str())
+    push_lines(alloc, code, tag, prefix, inner.lines.as_str(), names.len())?;
+    let holes = Holes::new(alloc).with("tag", tag).with("prefix", prefix);
+    code.add(ENUM_LIST, &holes)?;
+    if request.wanted.builders {
+        code.add(ADD_ENUMS, &holes)?;
+    }
+    Ok(())
 }
 
 /// Adds the enum of the members of a union, if a struct or a group has one.
@@ -49,21 +57,39 @@ pub fn push_members(
     let tag = format!(in alloc; "{name}_which")?;
     let tag = tag.as_str();
     let mut inner = Code::new(alloc, 1);
+    let mut count: usize = 0;
     for field in body.fields.as_slice() {
         if let Some(number) = field.member {
+            count = count.saturating_add(1);
             let field = field.name.as_str();
             push_enumerator(alloc, &mut inner, tag, field, number as usize)?;
         }
     }
     code.add_gap()?;
     code.add_with("/* The members of the union in @name@. */", "name", name)?;
-    push_lines(alloc, code, tag, inner.lines.as_str())
+    push_lines(alloc, code, tag, tag, inner.lines.as_str(), count)
 }
 
-// Adds an enum of this tag, by the lines of its enumerators.
-fn push_lines(alloc: Global, code: &mut Code, tag: &str, lines: &str) -> Result<(), AllocError> {
+// Adds an enum of this tag and prefix, by the lines of its enumerators and how many they are.
+fn push_lines(
+    alloc: Global,
+    code: &mut Code,
+    tag: &str,
+    prefix: &str,
+    lines: &str,
+    count: usize,
+) -> Result<(), AllocError> {
     let lines = lines.strip_suffix('\n').unwrap_or(lines);
-    let holes = Holes::new(alloc).with("tag", tag).with("lines", lines);
+    let unknown = format!(in alloc; "{prefix}_notInSchema")?;
+    let unknown = unknown.as_str();
+    // A schema may have an enumerant of this name.
+    let mark = if lines.contains(unknown) { "_" } else { "" };
+    let holes = Holes::new(alloc)
+        .with("tag", tag)
+        .with("prefix", prefix)
+        .holding("unknown", format!(in alloc; "{unknown}{mark}"))
+        .with("lines", lines)
+        .holding("count", format!(in alloc; "{count}"));
     code.add(ENUM, &holes)
 }
 

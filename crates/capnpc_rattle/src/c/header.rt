@@ -2,12 +2,13 @@
 use crate::c::constants::push_constant;
 use crate::c::declared::declared_in;
 use crate::c::enums::{push_enum, push_members};
-use crate::c::names::file_of;
+use crate::c::included::included_by;
+use crate::c::list_lists::push_lists_of_lists;
 use crate::c::structs::{push_struct, push_types};
 use crate::c::templates::{END, HEAD, INCLUDE, LEFT_OUT_INTERFACE};
 use crate::code::{Code, Holes};
 use crate::names::{base_name, file_module};
-use crate::schema::{Base, Body, Request, Slot, Struct, Type};
+use crate::schema::{Body, Request};
 use std::alloc::{AllocError, Global};
 
 /// The header of a file: its types come first, then the headers of the files whose types its own
@@ -18,13 +19,14 @@ pub fn header_of(alloc: Global, request: &Request, file: u64) -> Result<String, 
     let nodes = declared_in(alloc, request, file)?;
     let holes = Holes::new(alloc)
         .with("file", base_name(name))
-        .holding("guard", guard_of(alloc, module.as_str()));
+        .holding("guard", guard_of(alloc, module.as_str(), file));
     let mut code = Code::new(alloc, 0);
     code.add(HEAD, &holes)?;
     for id in nodes.as_slice() {
         push_types_of(alloc, &mut code, request, *id)?;
     }
-    push_includes(alloc, &mut code, request, file, nodes.as_slice())?;
+    push_includes(alloc, &mut code, request, file)?;
+    push_lists_of_lists(alloc, &mut code, request, nodes.as_slice())?;
     for id in nodes.as_slice() {
         push_code_of(alloc, &mut code, request, *id)?;
     }
@@ -33,9 +35,9 @@ pub fn header_of(alloc: Global, request: &Request, file: u64) -> Result<String, 
 }
 
 // The name that says that a header was read.
-fn guard_of(alloc: Global, module: &str) -> Result<String, AllocError> {
+fn guard_of(alloc: Global, module: &str, file: u64) -> Result<String, AllocError> {
     let module = module.to_ascii_uppercase(alloc)?;
-    format!(in alloc; "LINSJOAR_{module}_H")
+    format!(in alloc; "LINSJOAR_{module}_{file:x}_H")
 }
 
 // Adds the types of a node.
@@ -81,54 +83,20 @@ fn push_code_of(
     }
 }
 
-// Adds the headers of the files that declare the types of what some nodes of a file have.
+// Adds the headers of the files that declare the types of what a file has.
 fn push_includes(
     alloc: Global,
     code: &mut Code,
     request: &Request,
     file: u64,
-    nodes: &[u64],
 ) -> Result<(), AllocError> {
-    let mut files: Vec<u64> = Vec::new(alloc);
-    files.push(file)?;
-    for id in nodes {
-        match request.find(*id) {
-            Some(node) => match &node.body {
-                Body::Struct(body) => push_files(&mut files, request, body)?,
-                Body::Constant(of, _) => push_file(&mut files, request, *of)?,
-                _ => {}
-            },
-            None => {}
-        }
-    }
+    let files = included_by(alloc, request, file)?;
     for other in files.get(1..).unwrap_or(&[]) {
         if let Some(name) = request.file_name(*other) {
             code.add_gap()?;
             let module = file_module(alloc, name)?;
             code.add_with(INCLUDE, "name", module.as_str())?;
         }
-    }
-    Ok(())
-}
-
-// Adds the files of the types of a struct's fields.
-fn push_files(files: &mut Vec<u64>, request: &Request, body: &Struct) -> Result<(), AllocError> {
-    for field in body.fields.as_slice() {
-        if let Slot::At(place) = &field.slot {
-            push_file(files, request, place.of)?;
-        }
-    }
-    Ok(())
-}
-
-// Adds the file of a type, unless it is there.
-fn push_file(files: &mut Vec<u64>, request: &Request, of: Type) -> Result<(), AllocError> {
-    let file = match of.base {
-        Base::Struct(id) | Base::Enum(id) => file_of(request, id),
-        _ => return Ok(()),
-    };
-    if !files.contains(&file) {
-        files.push(file)?;
     }
     Ok(())
 }

@@ -19,22 +19,42 @@ pub fn number_type(number: Number) -> &'static str {
     }
 }
 
-/// The code that reads a number of the struct `read`.
-pub fn read_number(alloc: Global, stored: &Stored) -> Result<String, AllocError> {
+/// Where a number is read.
+#[derive(Clone, Copy)]
+pub struct Source {
+    /// What the names of the calls begin with.
+    pub calls: &'static str,
+    /// The words that they take.
+    pub words: &'static str,
+}
+
+/// What is read, as `read`.
+pub const READ: Source = Source {
+    calls: "linsjoar_get",
+    words: "&read->fields",
+};
+
+/// What is built, as `draft`.
+pub const DRAFT: Source = Source {
+    calls: "linsjoar_draft",
+    words: "draft->words",
+};
+
+/// The code that reads a number.
+pub fn read_number(alloc: Global, source: Source, stored: &Stored) -> Result<String, AllocError> {
+    let (calls, words) = (source.calls, source.words);
     let offset = stored.offset;
     let default = stored.default;
     if stored.number.kind == NumberKind::Bool {
         let sign = if default == 0 { "" } else { "!" };
-        return format!(in alloc; "{sign}linsjoar_get_bool(&read->fields, {offset})");
+        return format!(in alloc; "{sign}{calls}_bool({words}, {offset})");
     }
     let width = stored.number.width;
     if default == 0 {
-        let bits = format!(in alloc; "linsjoar_get_u{width}(&read->fields, {offset})")?;
+        let bits = format!(in alloc; "{calls}_u{width}({words}, {offset})")?;
         return of_bits(alloc, stored.number, bits.as_str());
     }
-    let bits = format!(in alloc;
-        "linsjoar_get_u{width}(&read->fields, {offset}) ^ UINT{width}_C({default})"
-    )?;
+    let bits = format!(in alloc; "{calls}_u{width}({words}, {offset}) ^ UINT{width}_C({default})")?;
     match stored.number.kind {
         NumberKind::Float => of_bits(alloc, stored.number, bits.as_str()),
         _ => {
@@ -67,19 +87,17 @@ pub fn set_number(alloc: Global, stored: &Stored) -> Result<String, AllocError> 
         return format!(in alloc; "linsjoar_set_bool(draft->words, {offset}, {sign}value);");
     }
     let bits = match stored.number.kind {
-        NumberKind::Signed => format!(in alloc; "(uint{width}_t)value")?,
-        NumberKind::Float if width == 32 => {
-            String::from_str(alloc, "linsjoar_bits_of_float(value)")?
-        }
-        NumberKind::Float => String::from_str(alloc, "linsjoar_bits_of_double(value)")?,
-        _ => String::from_str(alloc, "value")?,
+        NumberKind::Float if width == 32 => "linsjoar_bits_of_float(value)",
+        NumberKind::Float => "linsjoar_bits_of_double(value)",
+        _ => "value",
     };
-    let bits = bits.as_str();
     if default == 0 {
-        return format!(in alloc; "linsjoar_set_u{width}(draft->words, {offset}, {bits});");
+        return format!(in alloc;
+            "linsjoar_set_u{width}(draft->words, {offset}, (uint{width}_t){bits});"
+        );
     }
     format!(in alloc;
-        "linsjoar_set_u{width}(draft->words, {offset}, {bits} ^ UINT{width}_C({default}));"
+        "linsjoar_set_u{width}(draft->words, {offset}, (uint{width}_t)((uint{width}_t){bits} ^ UINT{width}_C({default})));"
     )
 }
 

@@ -1,4 +1,5 @@
 //! Structs and groups: their types, what reads them and what builds them.
+use crate::c::builder_templates::DRAFT_WHICH;
 use crate::c::builders::{push_adding, push_draft};
 use crate::c::comments::push_comment;
 use crate::c::getters::{Scope, push_getter};
@@ -50,7 +51,7 @@ pub fn push_struct(
         code.add_with(READ, "name", scope.prefix.as_str())?;
     }
     if let Some(offset) = body.discriminant {
-        push_which(alloc, code, &scope, offset)?;
+        push_which(alloc, code, WHICH, &scope, offset)?;
     }
     push_getters(alloc, code, site, &scope, body)?;
     if !request.wanted.builders {
@@ -59,6 +60,9 @@ pub fn push_struct(
     if !body.is_group {
         push_adding(alloc, code, scope.prefix.as_str(), body)?;
     }
+    if let Some(offset) = body.discriminant {
+        push_which(alloc, code, DRAFT_WHICH, &scope, offset)?;
+    }
     push_setters(alloc, code, site, &scope, &owner, body)
 }
 
@@ -66,6 +70,7 @@ pub fn push_struct(
 fn push_which(
     alloc: Global,
     code: &mut Code,
+    template: &str,
     scope: &Scope,
     offset: u32,
 ) -> Result<(), AllocError> {
@@ -73,7 +78,7 @@ fn push_which(
         .with("prefix", scope.prefix.as_str())
         .with("struct", scope.owner.as_str())
         .holding("offset", format!(in alloc; "{offset}"));
-    code.add(WHICH, &holes)
+    code.add(template, &holes)
 }
 
 // Adds the getters of a struct's or a group's own fields.

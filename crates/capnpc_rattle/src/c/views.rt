@@ -1,77 +1,92 @@
 //! What a pointer points to, as C reads it: a type, and the call that reads it.
 use crate::c::names::type_name;
 use crate::numbers::number_of;
-use crate::schema::{Base, Request, Type};
+use crate::schema::{Base, Body, Request, Type};
 use std::alloc::{AllocError, Global};
 
 /// How what a pointer points to is read.
 #[derive(Drop)]
 pub struct View {
-    /// The struct of C into which it is read, without `struct`.
-    pub type_name: String,
+    /// The name with which its types begin: its reader's has `_reader` after it, and its orphan's
+    /// `_orphan`.
+    pub name: String,
     /// The call that reads it of `pointer` into `value`.
     pub call: String,
 }
 
 /// The view of a type; `None` for numbers by themselves, interfaces, and any pointer by itself.
 pub fn view_of(alloc: Global, request: &Request, of: Type) -> Result<Option<View>, AllocError> {
-    match (of.lists, of.base) {
-        (0, Base::Text) => make_view(
-            alloc,
-            "linsjoar_text_reader",
-            "linsjoar_read_text(&pointer, value)",
-        ),
-        (0, Base::Data) => make_view(
-            alloc,
-            "linsjoar_data_reader",
-            "linsjoar_read_data(&pointer, value)",
-        ),
-        (0, Base::Struct(id)) => {
-            let name = reader_name(alloc, request, id, "_reader")?;
-            let call = "linsjoar_read_struct(&pointer, &value->fields)";
-            make_view(alloc, name.as_str(), call)
+    let call = match (of.lists, of.base) {
+        (_, Base::Interface) => return Ok(None),
+        (0, Base::Text) => String::from_str(alloc, "linsjoar_read_text(&pointer, value)")?,
+        (0, Base::Data) => String::from_str(alloc, "linsjoar_read_data(&pointer, value)")?,
+        (0, Base::Struct(_)) => {
+            String::from_str(alloc, "linsjoar_read_struct(&pointer, &value->fields)")?
         }
-        (0, _) | (_, Base::Interface) => Ok(None),
-        (1, Base::Struct(id)) => {
-            let name = reader_name(alloc, request, id, "_list_reader")?;
-            let call = "linsjoar_read_list(&pointer, LINSJOAR_STRUCTS, &value->elements)";
-            make_view(alloc, name.as_str(), call)
-        }
+        (0, _) => return Ok(None),
         _ => {
             let code = element_code(of);
-            let call = format!(in alloc; "linsjoar_read_list(&pointer, {code}, value)")?;
-            make_view(alloc, "linsjoar_list_reader", call.as_str())
+            format!(in alloc; "linsjoar_read_list(&pointer, {code}, &value->elements)")?
         }
-    }
+    };
+    let name = view_name(alloc, request, of)?;
+    Ok(Some(View { name, call }))
 }
 
-// The name of the reader of a struct, or of a list of structs.
-fn reader_name(
-    alloc: Global,
-    request: &Request,
-    id: u64,
-    suffix: &str,
-) -> Result<String, AllocError> {
-    let mut name = type_name(alloc, request, id)?;
-    name.push_str(suffix)?;
+/// The name with which the types and the calls of a type begin.
+pub fn view_name(alloc: Global, request: &Request, of: Type) -> Result<String, AllocError> {
+    let mut name = match of.base {
+        Base::Struct(id) => type_name(alloc, request, id)?,
+        Base::Enum(id) if has_enumerants(request, id) => type_name(alloc, request, id)?,
+        _ => String::from_str(alloc, library_name(of.base))?,
+    };
+    for _ in 0..of.lists {
+        name.push_str("_list")?;
+    }
     Ok(name)
 }
 
-// A view by its type and its call.
-fn make_view(alloc: Global, type_name: &str, call: &str) -> Result<Option<View>, AllocError> {
-    Ok(Some(View {
-        type_name: String::from_str(alloc, type_name)?,
-        call: String::from_str(alloc, call)?,
-    }))
+/// Whether an enum is one of C.
+pub fn has_enumerants(request: &Request, id: u64) -> bool {
+    match request.find(id) {
+        Some(node) => match &node.body {
+            Body::Enum(names) => !names.is_empty(),
+            _ => false,
+        },
+        None => false,
+    }
 }
 
-/// The code of the elements of a list that is no list of structs.
+// The name with which the library's types and calls of a type begin.
+fn library_name(base: Base) -> &'static str {
+    match base {
+        Base::Void => "linsjoar_void",
+        Base::Bool => "linsjoar_bool",
+        Base::Int8 => "linsjoar_i8",
+        Base::Int16 => "linsjoar_i16",
+        Base::Int32 => "linsjoar_i32",
+        Base::Int64 => "linsjoar_i64",
+        Base::Uint8 => "linsjoar_u8",
+        Base::Uint16 | Base::Enum(_) => "linsjoar_u16",
+        Base::Uint32 => "linsjoar_u32",
+        Base::Uint64 => "linsjoar_u64",
+        Base::Float32 => "linsjoar_float",
+        Base::Float64 => "linsjoar_double",
+        Base::Text => "linsjoar_text",
+        Base::Data => "linsjoar_data",
+        _ => "linsjoar_pointer",
+    }
+}
+
+/// The code of the elements of a list.
 pub fn element_code(of: Type) -> &'static str {
     if of.lists > 1 {
         return "LINSJOAR_POINTERS";
     }
-    if of.base == Base::Void {
-        return "LINSJOAR_VOID";
+    match of.base {
+        Base::Void => return "LINSJOAR_VOID",
+        Base::Struct(_) => return "LINSJOAR_STRUCTS",
+        _ => {}
     }
     match number_of(of.base) {
         Some(number) => match number.width {
