@@ -2,7 +2,7 @@
 use crate::random::Random;
 use capnp::Result;
 use capnp::message::{Reader, ReaderSegments};
-use capnp_orphans::Orphanage;
+use capnp::orphans::Orphanage;
 use std::alloc::Global;
 
 /// Requests, their responses, and what a response has to say. Its value keeps the memory in which

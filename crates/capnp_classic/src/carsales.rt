@@ -6,7 +6,7 @@ use crate::carsales_capnp::{Color, car, engine, parking_lot, total_value, wheel}
 use crate::random::Random;
 use capnp::Result;
 use capnp::message::{Reader, ReaderSegments};
-use capnp_orphans::Orphanage;
+use capnp::orphans::Orphanage;
 use std::alloc::Global;
 
 const MAKES: [&str; 5] = ["Toyota", "GM", "Ford", "Honda", "Tesla"];

@@ -6,7 +6,7 @@ use crate::catrank_capnp::{search_result, search_result_list};
 use crate::random::Random;
 use capnp::Result;
 use capnp::message::{Reader, ReaderSegments};
-use capnp_orphans::Orphanage;
+use capnp::orphans::Orphanage;
 use std::alloc::Global;
 use std::cmp::Ordering;
 

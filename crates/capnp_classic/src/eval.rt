@@ -6,8 +6,8 @@ use crate::eval_capnp::expression::{left, right};
 use crate::eval_capnp::{Operation, evaluation_result, expression};
 use crate::random::Random;
 use capnp::message::{Reader, ReaderSegments};
+use capnp::orphans::{Orphan, Orphanage};
 use capnp::{Error, ErrorKind, Result};
-use capnp_orphans::{Orphan, Orphanage};
 use std::alloc::Global;
 
 /// How deep expressions may be nested in the root.

@@ -1,21 +1,12 @@
 //! Types of `eval.capnp`, made by `capnpc-rattle`: change that file, and make them again.
-ghost use Rattle.std.specs.Prelude.{◌≡◌, ◌≤◌, ◌<◌, ◌↔◌, ◌≢◌, IfOk, IsTrue, length, map, replicate, slice_index_or, slice_set};
+//!
+//! In a crate of their own they are proved once. A program is proved soonest where a loop over
+//! messages or a list has one line, a call: `add_message(&message?, &mut totals)?` (docs/GUIDE.md).
+ghost use Rattle.std.specs.Prelude.{◌≡◌, ◌≤◌, ◌↔◌, ◌≢◌, IfOk, IsTrue, length, map, replicate, slice_index_or, slice_set};
 ghost use Rattle.std.specs.Int.{w32, cast_signed, cast_unsigned};
-ghost use Rattle.capnp_orphans.specs.Adding.{AddsOrphan, AddsRoot, FailsToAdd, Writes};
-ghost use Rattle.capnp_orphans.specs.Copied.{data_up_to, CopiesPointers};
-ghost use Rattle.capnp_orphans.specs.Holds.{word_of, HoldsStruct, HoldsStructs, TakesStructWords as StructWords, TakesStructsWords, StructSizeError, ManyStructs};
-ghost use Rattle.capnp_orphans.specs.Segments.{body_of};
-ghost use Rattle.capnp_values.specs.DataSections.{with_field};
-ghost use Rattle.capnp_wire.specs.Fields.{field};
-ghost use Rattle.capnp_wire.specs.ListViews.{element_of};
-ghost use Rattle.capnp_wire.specs.Lists.{FindsElement, IsIterator};
-ghost use Rattle.capnp_wire.specs.Object.{nothing};
-ghost use Rattle.capnp_wire.specs.Readers.{struct_of, pointer_of};
-ghost use Rattle.capnp_wire.specs.UpgradedReaders.{upgraded_structs_of};
-ghost use Rattle.capnp_wire.specs.UpgradedValues.{IsStructListValue, StructListValueError, one_struct_list};
-ghost use Rattle.capnp_wire.specs.UpgradedViews.{IsUpgradedStructs, TakesAsStructs, ElementsFormError};
-ghost use Rattle.capnp_wire.specs.Views.{Struct, IsViewOf, IsStruct, Accepts, ViewError, FormError, Denotes, TakesStruct, StructFormError, pointer_in};
+ghost use Rattle.capnp.specs.Made.{AddsOrphan, AddsRoot, FailsToAdd, Writes, data_up_to, CopiesPointers, word_of, HoldsStruct, HoldsStructs, StructWords, TakesStructsWords, StructSizeError, ManyStructs, body_of, with_field, field, IsStructView, nothing, struct_of, Denotes, pointer_in};
 
+#[rattlefmt::skip]
 #[derive(Clone, Copy, PartialEq, Eq, Hash, Debug)]
 pub enum Operation {
     Add,
@@ -27,6 +18,7 @@ pub enum Operation {
     NotInSchema(u16),
 }
 
+#[rattlefmt::skip]
 impl Operation {
     /// The enumerant of this number.
     pub fn from_number(number: u16) -> Operation
@@ -50,7 +42,8 @@ impl Operation {
     }
 }
 
-impl capnp_wire::upgraded::EnumElement for Operation {
+#[rattlefmt::skip]
+impl capnp::upgraded::EnumElement for Operation {
     ghost named = { 5 };
 
     fn from_number(number: u16) -> Operation {
@@ -58,6 +51,7 @@ impl capnp_wire::upgraded::EnumElement for Operation {
     }
 }
 
+#[rattlefmt::skip]
 impl Operation {
     /// Its number.
     pub fn to_number(self) -> u16
@@ -81,14 +75,13 @@ impl Operation {
     }
 }
 
+#[rattlefmt::skip]
 pub mod expression {
     use super::Operation;
-    use capnp_frame::Result;
-    use capnp_frame::message::ReaderSegments;
-    use capnp_orphans::{Draft, GrowingSegment, Orphan, Orphanage, StructDraft};
-    use capnp_wire::any_struct::StructReader;
-    use capnp_wire::traits::{self, FromPointerReader, IndexMove, ListIter};
-    use capnp_wire::{any_pointer, upgraded};
+    use capnp::any_struct::StructReader;
+    use capnp::message::ReaderSegments;
+    use capnp::orphans::{Draft, GrowingSegment, Orphan, Orphanage, StructDraft};
+    use capnp::{Result, traits, upgraded};
 
     /// The type of the schema.
     pub struct Owned;
@@ -144,161 +137,20 @@ pub mod expression {
         }
     }
 
-    impl<'a, S: ReaderSegments> FromPointerReader<'a, S> for Reader<'a, S> {
-        ghost shows = { λ pointer view. IsStruct pointer (struct_of S.segments view.fields) };
-
-        ghost accepts = { λ pointer. Accepts pointer TakesStruct };
-
-        ghost fails = { λ pointer kind. ViewError pointer StructFormError kind };
-
-        ghost form_error = { λ pointer kind. FormError pointer StructFormError kind };
+    impl<'a, S: ReaderSegments> upgraded::FromStruct<StructReader<'a, S>> for Reader<'a, S> {
+        ghost shown = { λ view. struct_of S.segments view.fields };
 
         #[inline(always)]
-        fn get_from_pointer(reader: any_pointer::Reader<'a, S>) -> Result<Self>
-            ensures { let pointer = pointer_of S.segments reader.entry in IsViewOf pointer
-                (λ view. IsStruct pointer (struct_of S.segments view.fields))
-                (Accepts pointer TakesStruct) (ViewError pointer StructFormError)
-                (FormError pointer StructFormError) result }
-        {
-            match StructReader::get_from_pointer(reader) {
-                Ok(fields) => Ok(Reader { fields }),
-                Err(error) => Err(error),
-            }
+        fn from_struct(fields: StructReader<'a, S>) -> Reader<'a, S> {
+            Reader { fields }
         }
     }
 
-    /// A list of such structs in a message, or of their first fields where an older writer had these.
-    #[derive(Drop)]
-    pub struct ListReader<'a, S: ReaderSegments> {
-        /// The list whose elements these are.
-        pub elements: upgraded::StructList<'a, S>,
-    }
-
-    impl<'a, S: ReaderSegments> ListReader<'a, S> {
-        /// The number of elements.
-        pub fn len(&self) -> u32
-            ensures { result ≡ length (upgraded_structs_of S.segments self.now.elements).elements }
-        {
-            self.elements.len()
-        }
-
-        /// The element of this index.
-        pub fn get(&self, index: u32) -> Reader<'a, S>
-            requires { index < length (upgraded_structs_of S.segments self.now.elements).elements }
-            ensures { struct_of S.segments result.fields
-                ≡ element_of (upgraded_structs_of S.segments self.now.elements) index }
-        {
-            Reader {
-                fields: self.elements.get(index),
-            }
-        }
-
-        /// The element of this index, or `None` past the last element.
-        pub fn try_get(&self, index: u32) -> Option<Reader<'a, S>>
-            ensures { let list = upgraded_structs_of S.segments self.now.elements in
-                FindsElement (length list.elements) index
-                (λ item. struct_of S.segments item.fields ≡ element_of list index) result }
-        {
-            self.try_index_move(index)
-        }
-
-        /// An iterator over the elements.
-        pub fn iter(&self) -> ListIter<'_, Self>
-            ensures { IsIterator self.now result }
-        {
-            ListIter::new(self)
-        }
-    }
-
-    impl<'a, S: ReaderSegments> IndexMove for ListReader<'a, S> {
-        type Item = Reader<'a, S>;
-
-        ghost Element = { Struct };
-
-        ghost seen = { λ item. struct_of S.segments item.fields };
-
-        ghost size = { λ list. length (upgraded_structs_of S.segments list.elements).elements };
-
-        ghost element = { λ list index.
-            element_of (upgraded_structs_of S.segments list.elements) index };
-
-        fn len(&self) -> u32 {
-            self.len()
-        }
-
-        fn index_move(&self, index: u32) -> Reader<'a, S> {
-            self.get(index)
-        }
-    }
-
-    impl<'l, 'a, S: ReaderSegments> IntoIterator for &'l ListReader<'a, S> {
-        type Item = Reader<'a, S>;
-
-        type IntoIter = ListIter<'l, ListReader<'a, S>>;
-
-        ghost into_iter_gives = { λ list elements. IsIterator list.now elements };
-
-        fn into_iter(self) -> ListIter<'l, ListReader<'a, S>> {
-            self.iter()
-        }
-    }
-
-    impl<'a, S: ReaderSegments> FromPointerReader<'a, S> for ListReader<'a, S> {
-        ghost shows = { λ pointer view.
-            IsUpgradedStructs pointer (upgraded_structs_of S.segments view.elements) };
-
-        ghost accepts = { λ pointer. Accepts pointer TakesAsStructs };
-
-        ghost fails = { λ pointer kind. ViewError pointer ElementsFormError kind };
-
-        ghost form_error = { λ pointer kind. FormError pointer ElementsFormError kind };
-
-        fn get_from_pointer(reader: any_pointer::Reader<'a, S>) -> Result<Self>
-            ensures { let pointer = pointer_of S.segments reader.entry in IsViewOf pointer
-                (λ view. IsUpgradedStructs pointer (upgraded_structs_of S.segments view.elements))
-                (Accepts pointer TakesAsStructs) (ViewError pointer ElementsFormError)
-                (FormError pointer ElementsFormError) result }
-        {
-            match upgraded::StructList::get_from_pointer(reader) {
-                Ok(elements) => Ok(ListReader { elements }),
-                Err(error) => Err(error),
-            }
-        }
-    }
+    /// A list of such structs, or of their first fields where an older writer had these.
+    pub type ListReader<'a, S> = upgraded::Structs<'a, S, Reader<'a, S>>;
 
     /// A list of such structs, as a type of the schema.
-    pub struct OwnedList;
-
-    impl<'a, S: ReaderSegments + 'a> traits::Owned<'a, S> for OwnedList {
-        type Reader = ListReader<'a, S>;
-    }
-
-    // The value is the list of the structs, with all below them.
-    impl<'a, S: ReaderSegments> traits::SetterInput<OwnedList> for ListReader<'a, S> {
-        ghost has_tree = { λ list trees. IsStructListValue S.segments list.elements trees };
-
-        ghost fails = { λ list kind. StructListValueError S.segments list.elements kind };
-
-        ghost one = { λ list trees is. one_struct_list S.segments list.elements trees is };
-
-        fn measure(&self, canonical: bool) -> Result<u32> {
-            traits::SetterInput::measure(&self.elements, canonical)
-        }
-
-        fn is_null(&self) -> bool {
-            false
-        }
-
-        fn write(
-            &self,
-            canonical: bool,
-            block: &mut [u8],
-            following: usize,
-            next: usize,
-        ) -> traits::Copied {
-            traits::SetterInput::write(&self.elements, canonical, block, following, next)
-        }
-    }
+    pub type OwnedList = upgraded::OwnedStructs<Owned>;
 
     /// A struct of this type before it is written. What is not set has its default.
     #[derive(Clone, Copy)]
@@ -318,12 +170,12 @@ pub mod expression {
             }
         }
 
-        /// A builder with what a reader shows, to be changed and written again. Each object that its
-        /// pointers point to is copied, as an orphan, and null stays null. What a writer of another
-        /// version of the type left out is zero or null; what it had in addition is left out.
+        /// A builder with what a reader shows, to be changed and written again. What its
+        /// pointers point to is copied, as orphans; null stays null. What another version of
+        /// the type left out is zero or null, and what it had in addition is left out.
         ///
-        /// A copy that a setter then replaces stays in the bytes of the message, where no pointer
-        /// points to it. Canonical words of the message are without it.
+        /// A copy that a setter then replaces stays in the bytes of the message, without a
+        /// pointer to it. Canonical words of the message are without it.
         ///
         /// Fails as `Orphanage::set` does, for the first pointer that can't be copied.
         pub fn from_reader<R: ReaderSegments, S: GrowingSegment>(
@@ -341,8 +193,8 @@ pub mod expression {
             }
         }
 
-        /// A builder with the numbers, bools and enums that a reader shows, as `from_reader` has
-        /// them. Its pointers are null.
+        /// A builder with the numbers, bools and enums that a reader shows, as `from_reader`
+        /// has them. Its pointers are null.
         pub fn from_data_section<R: ReaderSegments>(read: &Reader<'_, R>) -> Builder
             ensures words { result.draft.words
                 ≡ data_up_to (struct_of R.segments read.now.fields) 2 }
@@ -378,8 +230,8 @@ pub mod expression {
             elements: &[Builder],
             objects: &mut Orphanage<S>,
         ) -> Result<Orphan<OwnedList>>
-            ensures adds { AddsOrphan (HoldsStructs (body_of objects.old)
-                (map (λ element. element.draft) elements.now)) objects.old objects.new word_of result }
+            ensures adds { let drafts = map (λ element. element.draft) elements.now in AddsOrphan
+                (HoldsStructs (body_of objects.old) drafts) objects.old objects.new word_of result }
             ensures writes { let count = length elements.now in
                 Writes (TakesStructsWords 2 2 count) (ManyStructs 2 2 count)
                 objects.old objects.new result }
@@ -399,14 +251,14 @@ pub mod expression {
     impl Builder {
         /// Sets the field `op`.
         pub fn set_op(&mut self, value: Operation)
-            ensures words { let words = self.old.draft.words in
-                elim value [
-                  | Operation.Add ↦ self.new.draft.words ≡ with_field words 16 0 0
-                  | Operation.Subtract ↦ self.new.draft.words ≡ with_field words 16 0 1
-                  | Operation.Multiply ↦ self.new.draft.words ≡ with_field words 16 0 2
-                  | Operation.Divide ↦ self.new.draft.words ≡ with_field words 16 0 3
-                  | Operation.Modulus ↦ self.new.draft.words ≡ with_field words 16 0 4
-                  | Operation.NotInSchema unknown ↦ self.new.draft.words ≡ with_field words 16 0 unknown
+            ensures words { let old = self.old.draft.words in
+                let new = self.new.draft.words in elim value [
+                  | Operation.Add ↦ new ≡ with_field old 16 0 0
+                  | Operation.Subtract ↦ new ≡ with_field old 16 0 1
+                  | Operation.Multiply ↦ new ≡ with_field old 16 0 2
+                  | Operation.Divide ↦ new ≡ with_field old 16 0 3
+                  | Operation.Modulus ↦ new ≡ with_field old 16 0 4
+                  | Operation.NotInSchema unknown ↦ new ≡ with_field old 16 0 unknown
                 ] }
             ensures pointers { self.new.draft.pointers ≡ self.old.draft.pointers }
         {
@@ -431,10 +283,10 @@ pub mod expression {
     }
 
     pub mod left {
-        use capnp_frame::Result;
-        use capnp_frame::message::ReaderSegments;
-        use capnp_orphans::Orphan;
-        use capnp_wire::any_struct::StructReader;
+        use capnp::any_struct::StructReader;
+        use capnp::message::ReaderSegments;
+        use capnp::orphans::Orphan;
+        use capnp::Result;
 
         /// The group, in a struct in a message.
         #[derive(Drop)]
@@ -455,16 +307,10 @@ pub mod expression {
             /// The field `expression`.
             pub fn get_expression(&self) -> Result<super::super::expression::Reader<'a, S>>
                 ensures { let fields = struct_of S.segments self.now.fields.now in
-                    let pointer = pointer_in fields 0 in
-                    IsViewOf pointer
-                    (λ view. IsStruct pointer (struct_of S.segments view.fields))
-                    (Accepts pointer TakesStruct) (ViewError pointer StructFormError)
-                    (FormError pointer StructFormError) result }
+                    IsStructView (pointer_in fields 0)
+                    (λ view. struct_of S.segments view.fields) result }
             {
-                match self.fields.get_pointer_as(0) {
-                    Ok(fields) => Ok(super::super::expression::Reader { fields }),
-                    Err(error) => Err(error),
-                }
+                self.fields.get_pointer_as(0)
             }
 
             /// Whether `expression` is there, and is not null.
@@ -481,13 +327,11 @@ pub mod expression {
                 ensures { let fields = struct_of S.segments self.now.fields.now in
                     let number = field fields.words 16 1 in
                     elim result [
-                      | Which.Value value ↦ (number ≡ 0) × (value ≡ cast_signed w32 (field fields.words 32 1))
+                      | Which.Value value ↦ (number ≡ 0) ×
+                          (value ≡ cast_signed w32 (field fields.words 32 1))
                       | Which.Expression value ↦ (number ≡ 1) ×
-                          (let pointer = pointer_in fields 0 in
-                          IsViewOf pointer
-                          (λ view. IsStruct pointer (struct_of S.segments view.fields))
-                          (Accepts pointer TakesStruct) (ViewError pointer StructFormError)
-                          (FormError pointer StructFormError) value)
+                          (IsStructView (pointer_in fields 0)
+                          (λ view. struct_of S.segments view.fields) value)
                       | Which.NotInSchema unknown ↦ (unknown ≡ number) × (2 ≤ number)
                     ] }
             {
@@ -512,7 +356,8 @@ pub mod expression {
             /// Sets the field `value`.
             pub fn set_left_value(&mut self, value: i32)
                 ensures words { self.new.draft.words
-                    ≡ with_field (with_field self.old.draft.words 16 1 0) 32 1 (cast_unsigned w32 value) }
+                    ≡ with_field (with_field self.old.draft.words 16 1 0)
+                    32 1 (cast_unsigned w32 value) }
                 ensures pointers { self.new.draft.pointers ≡ self.old.draft.pointers }
             {
                 self.draft.set_data_field::<u16>(1, 0);
@@ -553,10 +398,10 @@ pub mod expression {
     }
 
     pub mod right {
-        use capnp_frame::Result;
-        use capnp_frame::message::ReaderSegments;
-        use capnp_orphans::Orphan;
-        use capnp_wire::any_struct::StructReader;
+        use capnp::any_struct::StructReader;
+        use capnp::message::ReaderSegments;
+        use capnp::orphans::Orphan;
+        use capnp::Result;
 
         /// The group, in a struct in a message.
         #[derive(Drop)]
@@ -577,16 +422,10 @@ pub mod expression {
             /// The field `expression`.
             pub fn get_expression(&self) -> Result<super::super::expression::Reader<'a, S>>
                 ensures { let fields = struct_of S.segments self.now.fields.now in
-                    let pointer = pointer_in fields 1 in
-                    IsViewOf pointer
-                    (λ view. IsStruct pointer (struct_of S.segments view.fields))
-                    (Accepts pointer TakesStruct) (ViewError pointer StructFormError)
-                    (FormError pointer StructFormError) result }
+                    IsStructView (pointer_in fields 1)
+                    (λ view. struct_of S.segments view.fields) result }
             {
-                match self.fields.get_pointer_as(1) {
-                    Ok(fields) => Ok(super::super::expression::Reader { fields }),
-                    Err(error) => Err(error),
-                }
+                self.fields.get_pointer_as(1)
             }
 
             /// Whether `expression` is there, and is not null.
@@ -603,13 +442,11 @@ pub mod expression {
                 ensures { let fields = struct_of S.segments self.now.fields.now in
                     let number = field fields.words 16 6 in
                     elim result [
-                      | Which.Value value ↦ (number ≡ 0) × (value ≡ cast_signed w32 (field fields.words 32 2))
+                      | Which.Value value ↦ (number ≡ 0) ×
+                          (value ≡ cast_signed w32 (field fields.words 32 2))
                       | Which.Expression value ↦ (number ≡ 1) ×
-                          (let pointer = pointer_in fields 1 in
-                          IsViewOf pointer
-                          (λ view. IsStruct pointer (struct_of S.segments view.fields))
-                          (Accepts pointer TakesStruct) (ViewError pointer StructFormError)
-                          (FormError pointer StructFormError) value)
+                          (IsStructView (pointer_in fields 1)
+                          (λ view. struct_of S.segments view.fields) value)
                       | Which.NotInSchema unknown ↦ (unknown ≡ number) × (2 ≤ number)
                     ] }
             {
@@ -634,7 +471,8 @@ pub mod expression {
             /// Sets the field `value`.
             pub fn set_right_value(&mut self, value: i32)
                 ensures words { self.new.draft.words
-                    ≡ with_field (with_field self.old.draft.words 16 6 0) 32 2 (cast_unsigned w32 value) }
+                    ≡ with_field (with_field self.old.draft.words 16 6 0)
+                    32 2 (cast_unsigned w32 value) }
                 ensures pointers { self.new.draft.pointers ≡ self.old.draft.pointers }
             {
                 self.draft.set_data_field::<u16>(6, 0);
@@ -675,13 +513,12 @@ pub mod expression {
     }
 }
 
+#[rattlefmt::skip]
 pub mod evaluation_result {
-    use capnp_frame::Result;
-    use capnp_frame::message::ReaderSegments;
-    use capnp_orphans::{Draft, GrowingSegment, Orphan, Orphanage, StructDraft};
-    use capnp_wire::any_struct::StructReader;
-    use capnp_wire::traits::{self, FromPointerReader, IndexMove, ListIter};
-    use capnp_wire::{any_pointer, upgraded};
+    use capnp::any_struct::StructReader;
+    use capnp::message::ReaderSegments;
+    use capnp::orphans::{Draft, GrowingSegment, Orphan, Orphanage, StructDraft};
+    use capnp::{Result, traits, upgraded};
 
     /// The type of the schema.
     pub struct Owned;
@@ -707,161 +544,20 @@ pub mod evaluation_result {
         }
     }
 
-    impl<'a, S: ReaderSegments> FromPointerReader<'a, S> for Reader<'a, S> {
-        ghost shows = { λ pointer view. IsStruct pointer (struct_of S.segments view.fields) };
-
-        ghost accepts = { λ pointer. Accepts pointer TakesStruct };
-
-        ghost fails = { λ pointer kind. ViewError pointer StructFormError kind };
-
-        ghost form_error = { λ pointer kind. FormError pointer StructFormError kind };
+    impl<'a, S: ReaderSegments> upgraded::FromStruct<StructReader<'a, S>> for Reader<'a, S> {
+        ghost shown = { λ view. struct_of S.segments view.fields };
 
         #[inline(always)]
-        fn get_from_pointer(reader: any_pointer::Reader<'a, S>) -> Result<Self>
-            ensures { let pointer = pointer_of S.segments reader.entry in IsViewOf pointer
-                (λ view. IsStruct pointer (struct_of S.segments view.fields))
-                (Accepts pointer TakesStruct) (ViewError pointer StructFormError)
-                (FormError pointer StructFormError) result }
-        {
-            match StructReader::get_from_pointer(reader) {
-                Ok(fields) => Ok(Reader { fields }),
-                Err(error) => Err(error),
-            }
+        fn from_struct(fields: StructReader<'a, S>) -> Reader<'a, S> {
+            Reader { fields }
         }
     }
 
-    /// A list of such structs in a message, or of their first fields where an older writer had these.
-    #[derive(Drop)]
-    pub struct ListReader<'a, S: ReaderSegments> {
-        /// The list whose elements these are.
-        pub elements: upgraded::StructList<'a, S>,
-    }
-
-    impl<'a, S: ReaderSegments> ListReader<'a, S> {
-        /// The number of elements.
-        pub fn len(&self) -> u32
-            ensures { result ≡ length (upgraded_structs_of S.segments self.now.elements).elements }
-        {
-            self.elements.len()
-        }
-
-        /// The element of this index.
-        pub fn get(&self, index: u32) -> Reader<'a, S>
-            requires { index < length (upgraded_structs_of S.segments self.now.elements).elements }
-            ensures { struct_of S.segments result.fields
-                ≡ element_of (upgraded_structs_of S.segments self.now.elements) index }
-        {
-            Reader {
-                fields: self.elements.get(index),
-            }
-        }
-
-        /// The element of this index, or `None` past the last element.
-        pub fn try_get(&self, index: u32) -> Option<Reader<'a, S>>
-            ensures { let list = upgraded_structs_of S.segments self.now.elements in
-                FindsElement (length list.elements) index
-                (λ item. struct_of S.segments item.fields ≡ element_of list index) result }
-        {
-            self.try_index_move(index)
-        }
-
-        /// An iterator over the elements.
-        pub fn iter(&self) -> ListIter<'_, Self>
-            ensures { IsIterator self.now result }
-        {
-            ListIter::new(self)
-        }
-    }
-
-    impl<'a, S: ReaderSegments> IndexMove for ListReader<'a, S> {
-        type Item = Reader<'a, S>;
-
-        ghost Element = { Struct };
-
-        ghost seen = { λ item. struct_of S.segments item.fields };
-
-        ghost size = { λ list. length (upgraded_structs_of S.segments list.elements).elements };
-
-        ghost element = { λ list index.
-            element_of (upgraded_structs_of S.segments list.elements) index };
-
-        fn len(&self) -> u32 {
-            self.len()
-        }
-
-        fn index_move(&self, index: u32) -> Reader<'a, S> {
-            self.get(index)
-        }
-    }
-
-    impl<'l, 'a, S: ReaderSegments> IntoIterator for &'l ListReader<'a, S> {
-        type Item = Reader<'a, S>;
-
-        type IntoIter = ListIter<'l, ListReader<'a, S>>;
-
-        ghost into_iter_gives = { λ list elements. IsIterator list.now elements };
-
-        fn into_iter(self) -> ListIter<'l, ListReader<'a, S>> {
-            self.iter()
-        }
-    }
-
-    impl<'a, S: ReaderSegments> FromPointerReader<'a, S> for ListReader<'a, S> {
-        ghost shows = { λ pointer view.
-            IsUpgradedStructs pointer (upgraded_structs_of S.segments view.elements) };
-
-        ghost accepts = { λ pointer. Accepts pointer TakesAsStructs };
-
-        ghost fails = { λ pointer kind. ViewError pointer ElementsFormError kind };
-
-        ghost form_error = { λ pointer kind. FormError pointer ElementsFormError kind };
-
-        fn get_from_pointer(reader: any_pointer::Reader<'a, S>) -> Result<Self>
-            ensures { let pointer = pointer_of S.segments reader.entry in IsViewOf pointer
-                (λ view. IsUpgradedStructs pointer (upgraded_structs_of S.segments view.elements))
-                (Accepts pointer TakesAsStructs) (ViewError pointer ElementsFormError)
-                (FormError pointer ElementsFormError) result }
-        {
-            match upgraded::StructList::get_from_pointer(reader) {
-                Ok(elements) => Ok(ListReader { elements }),
-                Err(error) => Err(error),
-            }
-        }
-    }
+    /// A list of such structs, or of their first fields where an older writer had these.
+    pub type ListReader<'a, S> = upgraded::Structs<'a, S, Reader<'a, S>>;
 
     /// A list of such structs, as a type of the schema.
-    pub struct OwnedList;
-
-    impl<'a, S: ReaderSegments + 'a> traits::Owned<'a, S> for OwnedList {
-        type Reader = ListReader<'a, S>;
-    }
-
-    // The value is the list of the structs, with all below them.
-    impl<'a, S: ReaderSegments> traits::SetterInput<OwnedList> for ListReader<'a, S> {
-        ghost has_tree = { λ list trees. IsStructListValue S.segments list.elements trees };
-
-        ghost fails = { λ list kind. StructListValueError S.segments list.elements kind };
-
-        ghost one = { λ list trees is. one_struct_list S.segments list.elements trees is };
-
-        fn measure(&self, canonical: bool) -> Result<u32> {
-            traits::SetterInput::measure(&self.elements, canonical)
-        }
-
-        fn is_null(&self) -> bool {
-            false
-        }
-
-        fn write(
-            &self,
-            canonical: bool,
-            block: &mut [u8],
-            following: usize,
-            next: usize,
-        ) -> traits::Copied {
-            traits::SetterInput::write(&self.elements, canonical, block, following, next)
-        }
-    }
+    pub type OwnedList = upgraded::OwnedStructs<Owned>;
 
     /// A struct of this type before it is written. What is not set has its default.
     #[derive(Clone, Copy)]
@@ -881,12 +577,12 @@ pub mod evaluation_result {
             }
         }
 
-        /// A builder with what a reader shows, to be changed and written again. Each object that its
-        /// pointers point to is copied, as an orphan, and null stays null. What a writer of another
-        /// version of the type left out is zero or null; what it had in addition is left out.
+        /// A builder with what a reader shows, to be changed and written again. What its
+        /// pointers point to is copied, as orphans; null stays null. What another version of
+        /// the type left out is zero or null, and what it had in addition is left out.
         ///
-        /// A copy that a setter then replaces stays in the bytes of the message, where no pointer
-        /// points to it. Canonical words of the message are without it.
+        /// A copy that a setter then replaces stays in the bytes of the message, without a
+        /// pointer to it. Canonical words of the message are without it.
         ///
         /// Fails as `Orphanage::set` does, for the first pointer that can't be copied.
         pub fn from_reader<R: ReaderSegments, S: GrowingSegment>(
@@ -904,8 +600,8 @@ pub mod evaluation_result {
             }
         }
 
-        /// A builder with the numbers, bools and enums that a reader shows, as `from_reader` has
-        /// them. Its pointers are null.
+        /// A builder with the numbers, bools and enums that a reader shows, as `from_reader`
+        /// has them. Its pointers are null.
         pub fn from_data_section<R: ReaderSegments>(read: &Reader<'_, R>) -> Builder
             ensures words { result.draft.words
                 ≡ data_up_to (struct_of R.segments read.now.fields) 1 }
@@ -941,8 +637,8 @@ pub mod evaluation_result {
             elements: &[Builder],
             objects: &mut Orphanage<S>,
         ) -> Result<Orphan<OwnedList>>
-            ensures adds { AddsOrphan (HoldsStructs (body_of objects.old)
-                (map (λ element. element.draft) elements.now)) objects.old objects.new word_of result }
+            ensures adds { let drafts = map (λ element. element.draft) elements.now in AddsOrphan
+                (HoldsStructs (body_of objects.old) drafts) objects.old objects.new word_of result }
             ensures writes { let count = length elements.now in
                 Writes (TakesStructsWords 1 0 count) (ManyStructs 1 0 count)
                 objects.old objects.new result }
@@ -963,7 +659,8 @@ pub mod evaluation_result {
         /// Sets the field `value`.
         pub fn set_value(&mut self, value: i32)
             ensures words { self.new.draft.words
-                ≡ with_field self.old.draft.words 32 0 (cast_unsigned w32 value) }
+                ≡ with_field self.old.draft.words
+                32 0 (cast_unsigned w32 value) }
             ensures pointers { self.new.draft.pointers ≡ self.old.draft.pointers }
         {
             self.draft.set_data_field(0, value);

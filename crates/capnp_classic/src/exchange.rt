@@ -3,9 +3,9 @@ use crate::benchmark::Benchmark;
 use crate::random::Random;
 use crate::tally::Tally;
 use capnp::message::{DEFAULT_READER_OPTIONS, Reader, ReaderSegments};
+use capnp::orphans::Orphanage;
 use capnp::serialize::{self, OwnedSegments, Padding};
 use capnp::{Error, ErrorKind, Result, serialize_packed};
-use capnp_orphans::Orphanage;
 use std::alloc::Global;
 use std::mem;
 

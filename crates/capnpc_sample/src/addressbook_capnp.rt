@@ -1,27 +1,16 @@
 //! Types of `addressbook.capnp`, made by `capnpc-rattle`: change that file, and make them again.
-ghost use Rattle.std.specs.Prelude.{◌≡◌, ◌≤◌, ◌<◌, ◌↔◌, ◌≢◌, IfOk, IsTrue, length, map, replicate, slice_index_or, slice_set};
-ghost use Rattle.capnp_orphans.specs.Adding.{AddsOrphan, AddsRoot, FailsToAdd, Writes};
-ghost use Rattle.capnp_orphans.specs.Copied.{data_up_to, CopiesPointers};
-ghost use Rattle.capnp_orphans.specs.Holds.{word_of, HoldsStruct, HoldsStructs, TakesStructWords as StructWords, TakesStructsWords, StructSizeError, ManyStructs};
-ghost use Rattle.capnp_orphans.specs.Segments.{body_of};
-ghost use Rattle.capnp_values.specs.DataSections.{with_field};
-ghost use Rattle.capnp_wire.specs.Fields.{field};
-ghost use Rattle.capnp_wire.specs.ListViews.{element_of};
-ghost use Rattle.capnp_wire.specs.Lists.{FindsElement, IsIterator};
-ghost use Rattle.capnp_wire.specs.Object.{nothing};
-ghost use Rattle.capnp_wire.specs.Readers.{struct_of, pointer_of};
-ghost use Rattle.capnp_wire.specs.UpgradedReaders.{upgraded_structs_of};
-ghost use Rattle.capnp_wire.specs.UpgradedValues.{IsStructListValue, StructListValueError, one_struct_list};
-ghost use Rattle.capnp_wire.specs.UpgradedViews.{IsUpgradedStructs, TakesAsStructs, ElementsFormError};
-ghost use Rattle.capnp_wire.specs.Views.{Struct, IsViewOf, IsStruct, IsText, Accepts, ViewError, FormError, Denotes, Reads, TakesStruct, TakesText, StructFormError, TextFormError, pointer_in};
+//!
+//! In a crate of their own they are proved once. A program is proved soonest where a loop over
+//! messages or a list has one line, a call: `add_message(&message?, &mut totals)?` (docs/GUIDE.md).
+ghost use Rattle.std.specs.Prelude.{◌≡◌, ◌≤◌, ◌↔◌, ◌≢◌, IfOk, IsTrue, length, map, replicate, slice_index_or, slice_set};
+ghost use Rattle.capnp.specs.Made.{AddsOrphan, AddsRoot, FailsToAdd, Writes, data_up_to, CopiesPointers, word_of, HoldsStruct, HoldsStructs, StructWords, TakesStructsWords, StructSizeError, ManyStructs, body_of, with_field, field, IsTextView, IsStructsView, nothing, struct_of, Denotes, pointer_in};
 
+#[rattlefmt::skip]
 pub mod person {
-    use capnp_frame::Result;
-    use capnp_frame::message::ReaderSegments;
-    use capnp_orphans::{Draft, GrowingSegment, Orphan, Orphanage, StructDraft};
-    use capnp_wire::any_struct::StructReader;
-    use capnp_wire::traits::{self, FromPointerReader, IndexMove, ListIter};
-    use capnp_wire::{any_pointer, text, upgraded};
+    use capnp::any_struct::StructReader;
+    use capnp::message::ReaderSegments;
+    use capnp::orphans::{Draft, GrowingSegment, Orphan, Orphanage, StructDraft};
+    use capnp::{Result, text, traits, upgraded};
 
     /// The type of the schema.
     pub struct Owned;
@@ -49,11 +38,7 @@ pub mod person {
         /// The field `name`.
         pub fn get_name(&self) -> Result<text::Reader<'a>>
             ensures { let fields = struct_of S.segments self.now.fields in
-                let pointer = pointer_in fields 0 in
-                IsViewOf pointer
-                (λ view. Reads pointer (λ form. IsText form view.bytes.now))
-                (Accepts pointer TakesText) (ViewError pointer TextFormError)
-                (FormError pointer TextFormError) result }
+                IsTextView (pointer_in fields 0) result }
         {
             self.fields.get_pointer_as(0)
         }
@@ -69,11 +54,7 @@ pub mod person {
         /// The field `email`.
         pub fn get_email(&self) -> Result<text::Reader<'a>>
             ensures { let fields = struct_of S.segments self.now.fields in
-                let pointer = pointer_in fields 1 in
-                IsViewOf pointer
-                (λ view. Reads pointer (λ form. IsText form view.bytes.now))
-                (Accepts pointer TakesText) (ViewError pointer TextFormError)
-                (FormError pointer TextFormError) result }
+                IsTextView (pointer_in fields 1) result }
         {
             self.fields.get_pointer_as(1)
         }
@@ -89,16 +70,9 @@ pub mod person {
         /// The field `phones`.
         pub fn get_phones(&self) -> Result<phone_number::ListReader<'a, S>>
             ensures { let fields = struct_of S.segments self.now.fields in
-                let pointer = pointer_in fields 2 in
-                IsViewOf pointer
-                (λ view. IsUpgradedStructs pointer (upgraded_structs_of S.segments view.elements))
-                (Accepts pointer TakesAsStructs) (ViewError pointer ElementsFormError)
-                (FormError pointer ElementsFormError) result }
+                IsStructsView S.segments (pointer_in fields 2) result }
         {
-            match self.fields.get_pointer_as(2) {
-                Ok(elements) => Ok(phone_number::ListReader { elements }),
-                Err(error) => Err(error),
-            }
+            self.fields.get_pointer_as(2)
         }
 
         /// Whether `phones` is there, and is not null.
@@ -121,161 +95,20 @@ pub mod person {
         }
     }
 
-    impl<'a, S: ReaderSegments> FromPointerReader<'a, S> for Reader<'a, S> {
-        ghost shows = { λ pointer view. IsStruct pointer (struct_of S.segments view.fields) };
-
-        ghost accepts = { λ pointer. Accepts pointer TakesStruct };
-
-        ghost fails = { λ pointer kind. ViewError pointer StructFormError kind };
-
-        ghost form_error = { λ pointer kind. FormError pointer StructFormError kind };
+    impl<'a, S: ReaderSegments> upgraded::FromStruct<StructReader<'a, S>> for Reader<'a, S> {
+        ghost shown = { λ view. struct_of S.segments view.fields };
 
         #[inline(always)]
-        fn get_from_pointer(reader: any_pointer::Reader<'a, S>) -> Result<Self>
-            ensures { let pointer = pointer_of S.segments reader.entry in IsViewOf pointer
-                (λ view. IsStruct pointer (struct_of S.segments view.fields))
-                (Accepts pointer TakesStruct) (ViewError pointer StructFormError)
-                (FormError pointer StructFormError) result }
-        {
-            match StructReader::get_from_pointer(reader) {
-                Ok(fields) => Ok(Reader { fields }),
-                Err(error) => Err(error),
-            }
+        fn from_struct(fields: StructReader<'a, S>) -> Reader<'a, S> {
+            Reader { fields }
         }
     }
 
-    /// A list of such structs in a message, or of their first fields where an older writer had these.
-    #[derive(Drop)]
-    pub struct ListReader<'a, S: ReaderSegments> {
-        /// The list whose elements these are.
-        pub elements: upgraded::StructList<'a, S>,
-    }
-
-    impl<'a, S: ReaderSegments> ListReader<'a, S> {
-        /// The number of elements.
-        pub fn len(&self) -> u32
-            ensures { result ≡ length (upgraded_structs_of S.segments self.now.elements).elements }
-        {
-            self.elements.len()
-        }
-
-        /// The element of this index.
-        pub fn get(&self, index: u32) -> Reader<'a, S>
-            requires { index < length (upgraded_structs_of S.segments self.now.elements).elements }
-            ensures { struct_of S.segments result.fields
-                ≡ element_of (upgraded_structs_of S.segments self.now.elements) index }
-        {
-            Reader {
-                fields: self.elements.get(index),
-            }
-        }
-
-        /// The element of this index, or `None` past the last element.
-        pub fn try_get(&self, index: u32) -> Option<Reader<'a, S>>
-            ensures { let list = upgraded_structs_of S.segments self.now.elements in
-                FindsElement (length list.elements) index
-                (λ item. struct_of S.segments item.fields ≡ element_of list index) result }
-        {
-            self.try_index_move(index)
-        }
-
-        /// An iterator over the elements.
-        pub fn iter(&self) -> ListIter<'_, Self>
-            ensures { IsIterator self.now result }
-        {
-            ListIter::new(self)
-        }
-    }
-
-    impl<'a, S: ReaderSegments> IndexMove for ListReader<'a, S> {
-        type Item = Reader<'a, S>;
-
-        ghost Element = { Struct };
-
-        ghost seen = { λ item. struct_of S.segments item.fields };
-
-        ghost size = { λ list. length (upgraded_structs_of S.segments list.elements).elements };
-
-        ghost element = { λ list index.
-            element_of (upgraded_structs_of S.segments list.elements) index };
-
-        fn len(&self) -> u32 {
-            self.len()
-        }
-
-        fn index_move(&self, index: u32) -> Reader<'a, S> {
-            self.get(index)
-        }
-    }
-
-    impl<'l, 'a, S: ReaderSegments> IntoIterator for &'l ListReader<'a, S> {
-        type Item = Reader<'a, S>;
-
-        type IntoIter = ListIter<'l, ListReader<'a, S>>;
-
-        ghost into_iter_gives = { λ list elements. IsIterator list.now elements };
-
-        fn into_iter(self) -> ListIter<'l, ListReader<'a, S>> {
-            self.iter()
-        }
-    }
-
-    impl<'a, S: ReaderSegments> FromPointerReader<'a, S> for ListReader<'a, S> {
-        ghost shows = { λ pointer view.
-            IsUpgradedStructs pointer (upgraded_structs_of S.segments view.elements) };
-
-        ghost accepts = { λ pointer. Accepts pointer TakesAsStructs };
-
-        ghost fails = { λ pointer kind. ViewError pointer ElementsFormError kind };
-
-        ghost form_error = { λ pointer kind. FormError pointer ElementsFormError kind };
-
-        fn get_from_pointer(reader: any_pointer::Reader<'a, S>) -> Result<Self>
-            ensures { let pointer = pointer_of S.segments reader.entry in IsViewOf pointer
-                (λ view. IsUpgradedStructs pointer (upgraded_structs_of S.segments view.elements))
-                (Accepts pointer TakesAsStructs) (ViewError pointer ElementsFormError)
-                (FormError pointer ElementsFormError) result }
-        {
-            match upgraded::StructList::get_from_pointer(reader) {
-                Ok(elements) => Ok(ListReader { elements }),
-                Err(error) => Err(error),
-            }
-        }
-    }
+    /// A list of such structs, or of their first fields where an older writer had these.
+    pub type ListReader<'a, S> = upgraded::Structs<'a, S, Reader<'a, S>>;
 
     /// A list of such structs, as a type of the schema.
-    pub struct OwnedList;
-
-    impl<'a, S: ReaderSegments + 'a> traits::Owned<'a, S> for OwnedList {
-        type Reader = ListReader<'a, S>;
-    }
-
-    // The value is the list of the structs, with all below them.
-    impl<'a, S: ReaderSegments> traits::SetterInput<OwnedList> for ListReader<'a, S> {
-        ghost has_tree = { λ list trees. IsStructListValue S.segments list.elements trees };
-
-        ghost fails = { λ list kind. StructListValueError S.segments list.elements kind };
-
-        ghost one = { λ list trees is. one_struct_list S.segments list.elements trees is };
-
-        fn measure(&self, canonical: bool) -> Result<u32> {
-            traits::SetterInput::measure(&self.elements, canonical)
-        }
-
-        fn is_null(&self) -> bool {
-            false
-        }
-
-        fn write(
-            &self,
-            canonical: bool,
-            block: &mut [u8],
-            following: usize,
-            next: usize,
-        ) -> traits::Copied {
-            traits::SetterInput::write(&self.elements, canonical, block, following, next)
-        }
-    }
+    pub type OwnedList = upgraded::OwnedStructs<Owned>;
 
     /// A struct of this type before it is written. What is not set has its default.
     #[derive(Clone, Copy)]
@@ -295,12 +128,12 @@ pub mod person {
             }
         }
 
-        /// A builder with what a reader shows, to be changed and written again. Each object that its
-        /// pointers point to is copied, as an orphan, and null stays null. What a writer of another
-        /// version of the type left out is zero or null; what it had in addition is left out.
+        /// A builder with what a reader shows, to be changed and written again. What its
+        /// pointers point to is copied, as orphans; null stays null. What another version of
+        /// the type left out is zero or null, and what it had in addition is left out.
         ///
-        /// A copy that a setter then replaces stays in the bytes of the message, where no pointer
-        /// points to it. Canonical words of the message are without it.
+        /// A copy that a setter then replaces stays in the bytes of the message, without a
+        /// pointer to it. Canonical words of the message are without it.
         ///
         /// Fails as `Orphanage::set` does, for the first pointer that can't be copied.
         pub fn from_reader<R: ReaderSegments, S: GrowingSegment>(
@@ -318,8 +151,8 @@ pub mod person {
             }
         }
 
-        /// A builder with the numbers, bools and enums that a reader shows, as `from_reader` has
-        /// them. Its pointers are null.
+        /// A builder with the numbers, bools and enums that a reader shows, as `from_reader`
+        /// has them. Its pointers are null.
         pub fn from_data_section<R: ReaderSegments>(read: &Reader<'_, R>) -> Builder
             ensures words { result.draft.words
                 ≡ data_up_to (struct_of R.segments read.now.fields) 1 }
@@ -355,8 +188,8 @@ pub mod person {
             elements: &[Builder],
             objects: &mut Orphanage<S>,
         ) -> Result<Orphan<OwnedList>>
-            ensures adds { AddsOrphan (HoldsStructs (body_of objects.old)
-                (map (λ element. element.draft) elements.now)) objects.old objects.new word_of result }
+            ensures adds { let drafts = map (λ element. element.draft) elements.now in AddsOrphan
+                (HoldsStructs (body_of objects.old) drafts) objects.old objects.new word_of result }
             ensures writes { let count = length elements.now in
                 Writes (TakesStructsWords 1 4 count) (ManyStructs 1 4 count)
                 objects.old objects.new result }
@@ -456,11 +289,10 @@ pub mod person {
     pub const PHONES_POINTER: u16 = 2;
 
     pub mod employment {
-        use capnp_frame::Result;
-        use capnp_frame::message::ReaderSegments;
-        use capnp_orphans::Orphan;
-        use capnp_wire::any_struct::StructReader;
-        use capnp_wire::text;
+        use capnp::any_struct::StructReader;
+        use capnp::message::ReaderSegments;
+        use capnp::orphans::Orphan;
+        use capnp::{Result, text};
 
         /// The group, in a struct in a message.
         #[derive(Drop)]
@@ -476,11 +308,7 @@ pub mod person {
             /// The field `employer`.
             pub fn get_employer(&self) -> Result<text::Reader<'a>>
                 ensures { let fields = struct_of S.segments self.now.fields.now in
-                    let pointer = pointer_in fields 3 in
-                    IsViewOf pointer
-                    (λ view. Reads pointer (λ form. IsText form view.bytes.now))
-                    (Accepts pointer TakesText) (ViewError pointer TextFormError)
-                    (FormError pointer TextFormError) result }
+                    IsTextView (pointer_in fields 3) result }
             {
                 self.fields.get_pointer_as(3)
             }
@@ -496,11 +324,7 @@ pub mod person {
             /// The field `school`.
             pub fn get_school(&self) -> Result<text::Reader<'a>>
                 ensures { let fields = struct_of S.segments self.now.fields.now in
-                    let pointer = pointer_in fields 3 in
-                    IsViewOf pointer
-                    (λ view. Reads pointer (λ form. IsText form view.bytes.now))
-                    (Accepts pointer TakesText) (ViewError pointer TextFormError)
-                    (FormError pointer TextFormError) result }
+                    IsTextView (pointer_in fields 3) result }
             {
                 self.fields.get_pointer_as(3)
             }
@@ -524,17 +348,9 @@ pub mod person {
                     elim result [
                       | Which.Unemployed ↦ number ≡ 0
                       | Which.Employer value ↦ (number ≡ 1) ×
-                          (let pointer = pointer_in fields 3 in
-                          IsViewOf pointer
-                          (λ view. Reads pointer (λ form. IsText form view.bytes.now))
-                          (Accepts pointer TakesText) (ViewError pointer TextFormError)
-                          (FormError pointer TextFormError) value)
+                          (IsTextView (pointer_in fields 3) value)
                       | Which.School value ↦ (number ≡ 2) ×
-                          (let pointer = pointer_in fields 3 in
-                          IsViewOf pointer
-                          (λ view. Reads pointer (λ form. IsText form view.bytes.now))
-                          (Accepts pointer TakesText) (ViewError pointer TextFormError)
-                          (FormError pointer TextFormError) value)
+                          (IsTextView (pointer_in fields 3) value)
                       | Which.SelfEmployed ↦ number ≡ 3
                       | Which.NotInSchema unknown ↦ (unknown ≡ number) × (4 ≤ number)
                     ] }
@@ -629,12 +445,10 @@ pub mod person {
     }
 
     pub mod phone_number {
-        use capnp_frame::Result;
-        use capnp_frame::message::ReaderSegments;
-        use capnp_orphans::{Draft, GrowingSegment, Orphan, Orphanage, StructDraft};
-        use capnp_wire::any_struct::StructReader;
-        use capnp_wire::traits::{self, FromPointerReader, IndexMove, ListIter};
-        use capnp_wire::{any_pointer, text, upgraded};
+        use capnp::any_struct::StructReader;
+        use capnp::message::ReaderSegments;
+        use capnp::orphans::{Draft, GrowingSegment, Orphan, Orphanage, StructDraft};
+        use capnp::{Result, text, traits, upgraded};
 
         /// The type of the schema.
         pub struct Owned;
@@ -654,11 +468,7 @@ pub mod person {
             /// The field `number`.
             pub fn get_number(&self) -> Result<text::Reader<'a>>
                 ensures { let fields = struct_of S.segments self.now.fields in
-                    let pointer = pointer_in fields 0 in
-                    IsViewOf pointer
-                    (λ view. Reads pointer (λ form. IsText form view.bytes.now))
-                    (Accepts pointer TakesText) (ViewError pointer TextFormError)
-                    (FormError pointer TextFormError) result }
+                    IsTextView (pointer_in fields 0) result }
             {
                 self.fields.get_pointer_as(0)
             }
@@ -686,161 +496,20 @@ pub mod person {
             }
         }
 
-        impl<'a, S: ReaderSegments> FromPointerReader<'a, S> for Reader<'a, S> {
-            ghost shows = { λ pointer view. IsStruct pointer (struct_of S.segments view.fields) };
-
-            ghost accepts = { λ pointer. Accepts pointer TakesStruct };
-
-            ghost fails = { λ pointer kind. ViewError pointer StructFormError kind };
-
-            ghost form_error = { λ pointer kind. FormError pointer StructFormError kind };
+        impl<'a, S: ReaderSegments> upgraded::FromStruct<StructReader<'a, S>> for Reader<'a, S> {
+            ghost shown = { λ view. struct_of S.segments view.fields };
 
             #[inline(always)]
-            fn get_from_pointer(reader: any_pointer::Reader<'a, S>) -> Result<Self>
-                ensures { let pointer = pointer_of S.segments reader.entry in IsViewOf pointer
-                    (λ view. IsStruct pointer (struct_of S.segments view.fields))
-                    (Accepts pointer TakesStruct) (ViewError pointer StructFormError)
-                    (FormError pointer StructFormError) result }
-            {
-                match StructReader::get_from_pointer(reader) {
-                    Ok(fields) => Ok(Reader { fields }),
-                    Err(error) => Err(error),
-                }
+            fn from_struct(fields: StructReader<'a, S>) -> Reader<'a, S> {
+                Reader { fields }
             }
         }
 
-        /// A list of such structs in a message, or of their first fields where an older writer had these.
-        #[derive(Drop)]
-        pub struct ListReader<'a, S: ReaderSegments> {
-            /// The list whose elements these are.
-            pub elements: upgraded::StructList<'a, S>,
-        }
-
-        impl<'a, S: ReaderSegments> ListReader<'a, S> {
-            /// The number of elements.
-            pub fn len(&self) -> u32
-                ensures { result ≡ length (upgraded_structs_of S.segments self.now.elements).elements }
-            {
-                self.elements.len()
-            }
-
-            /// The element of this index.
-            pub fn get(&self, index: u32) -> Reader<'a, S>
-                requires { index < length (upgraded_structs_of S.segments self.now.elements).elements }
-                ensures { struct_of S.segments result.fields
-                    ≡ element_of (upgraded_structs_of S.segments self.now.elements) index }
-            {
-                Reader {
-                    fields: self.elements.get(index),
-                }
-            }
-
-            /// The element of this index, or `None` past the last element.
-            pub fn try_get(&self, index: u32) -> Option<Reader<'a, S>>
-                ensures { let list = upgraded_structs_of S.segments self.now.elements in
-                    FindsElement (length list.elements) index
-                    (λ item. struct_of S.segments item.fields ≡ element_of list index) result }
-            {
-                self.try_index_move(index)
-            }
-
-            /// An iterator over the elements.
-            pub fn iter(&self) -> ListIter<'_, Self>
-                ensures { IsIterator self.now result }
-            {
-                ListIter::new(self)
-            }
-        }
-
-        impl<'a, S: ReaderSegments> IndexMove for ListReader<'a, S> {
-            type Item = Reader<'a, S>;
-
-            ghost Element = { Struct };
-
-            ghost seen = { λ item. struct_of S.segments item.fields };
-
-            ghost size = { λ list. length (upgraded_structs_of S.segments list.elements).elements };
-
-            ghost element = { λ list index.
-                element_of (upgraded_structs_of S.segments list.elements) index };
-
-            fn len(&self) -> u32 {
-                self.len()
-            }
-
-            fn index_move(&self, index: u32) -> Reader<'a, S> {
-                self.get(index)
-            }
-        }
-
-        impl<'l, 'a, S: ReaderSegments> IntoIterator for &'l ListReader<'a, S> {
-            type Item = Reader<'a, S>;
-
-            type IntoIter = ListIter<'l, ListReader<'a, S>>;
-
-            ghost into_iter_gives = { λ list elements. IsIterator list.now elements };
-
-            fn into_iter(self) -> ListIter<'l, ListReader<'a, S>> {
-                self.iter()
-            }
-        }
-
-        impl<'a, S: ReaderSegments> FromPointerReader<'a, S> for ListReader<'a, S> {
-            ghost shows = { λ pointer view.
-                IsUpgradedStructs pointer (upgraded_structs_of S.segments view.elements) };
-
-            ghost accepts = { λ pointer. Accepts pointer TakesAsStructs };
-
-            ghost fails = { λ pointer kind. ViewError pointer ElementsFormError kind };
-
-            ghost form_error = { λ pointer kind. FormError pointer ElementsFormError kind };
-
-            fn get_from_pointer(reader: any_pointer::Reader<'a, S>) -> Result<Self>
-                ensures { let pointer = pointer_of S.segments reader.entry in IsViewOf pointer
-                    (λ view. IsUpgradedStructs pointer (upgraded_structs_of S.segments view.elements))
-                    (Accepts pointer TakesAsStructs) (ViewError pointer ElementsFormError)
-                    (FormError pointer ElementsFormError) result }
-            {
-                match upgraded::StructList::get_from_pointer(reader) {
-                    Ok(elements) => Ok(ListReader { elements }),
-                    Err(error) => Err(error),
-                }
-            }
-        }
+        /// A list of such structs, or of their first fields where an older writer had these.
+        pub type ListReader<'a, S> = upgraded::Structs<'a, S, Reader<'a, S>>;
 
         /// A list of such structs, as a type of the schema.
-        pub struct OwnedList;
-
-        impl<'a, S: ReaderSegments + 'a> traits::Owned<'a, S> for OwnedList {
-            type Reader = ListReader<'a, S>;
-        }
-
-        // The value is the list of the structs, with all below them.
-        impl<'a, S: ReaderSegments> traits::SetterInput<OwnedList> for ListReader<'a, S> {
-            ghost has_tree = { λ list trees. IsStructListValue S.segments list.elements trees };
-
-            ghost fails = { λ list kind. StructListValueError S.segments list.elements kind };
-
-            ghost one = { λ list trees is. one_struct_list S.segments list.elements trees is };
-
-            fn measure(&self, canonical: bool) -> Result<u32> {
-                traits::SetterInput::measure(&self.elements, canonical)
-            }
-
-            fn is_null(&self) -> bool {
-                false
-            }
-
-            fn write(
-                &self,
-                canonical: bool,
-                block: &mut [u8],
-                following: usize,
-                next: usize,
-            ) -> traits::Copied {
-                traits::SetterInput::write(&self.elements, canonical, block, following, next)
-            }
-        }
+        pub type OwnedList = upgraded::OwnedStructs<Owned>;
 
         /// A struct of this type before it is written. What is not set has its default.
         #[derive(Clone, Copy)]
@@ -860,12 +529,12 @@ pub mod person {
                 }
             }
 
-            /// A builder with what a reader shows, to be changed and written again. Each object that its
-            /// pointers point to is copied, as an orphan, and null stays null. What a writer of another
-            /// version of the type left out is zero or null; what it had in addition is left out.
+            /// A builder with what a reader shows, to be changed and written again. What its
+            /// pointers point to is copied, as orphans; null stays null. What another version of
+            /// the type left out is zero or null, and what it had in addition is left out.
             ///
-            /// A copy that a setter then replaces stays in the bytes of the message, where no pointer
-            /// points to it. Canonical words of the message are without it.
+            /// A copy that a setter then replaces stays in the bytes of the message, without a
+            /// pointer to it. Canonical words of the message are without it.
             ///
             /// Fails as `Orphanage::set` does, for the first pointer that can't be copied.
             pub fn from_reader<R: ReaderSegments, S: GrowingSegment>(
@@ -883,8 +552,8 @@ pub mod person {
                 }
             }
 
-            /// A builder with the numbers, bools and enums that a reader shows, as `from_reader` has
-            /// them. Its pointers are null.
+            /// A builder with the numbers, bools and enums that a reader shows, as `from_reader`
+            /// has them. Its pointers are null.
             pub fn from_data_section<R: ReaderSegments>(read: &Reader<'_, R>) -> Builder
                 ensures words { result.draft.words
                     ≡ data_up_to (struct_of R.segments read.now.fields) 1 }
@@ -896,10 +565,7 @@ pub mod person {
             }
 
             /// Writes it, as an object that a pointer can point to.
-            pub fn add<S: GrowingSegment>(
-                &self,
-                objects: &mut Orphanage<S>,
-            ) -> Result<Orphan<Owned>>
+            pub fn add<S: GrowingSegment>(&self, objects: &mut Orphanage<S>) -> Result<Orphan<Owned>>
                 ensures adds { AddsOrphan (HoldsStruct (body_of objects.old) self.now.draft.words
                     self.now.draft.pointers) objects.old objects.new word_of result }
                 ensures writes { Writes (StructWords 1 1) (StructSizeError 1 1)
@@ -923,8 +589,8 @@ pub mod person {
                 elements: &[Builder],
                 objects: &mut Orphanage<S>,
             ) -> Result<Orphan<OwnedList>>
-                ensures adds { AddsOrphan (HoldsStructs (body_of objects.old)
-                    (map (λ element. element.draft) elements.now)) objects.old objects.new word_of result }
+                ensures adds { let drafts = map (λ element. element.draft) elements.now in AddsOrphan
+                    (HoldsStructs (body_of objects.old) drafts) objects.old objects.new word_of result }
                 ensures writes { let count = length elements.now in
                     Writes (TakesStructsWords 1 1 count) (ManyStructs 1 1 count)
                     objects.old objects.new result }
@@ -962,12 +628,12 @@ pub mod person {
 
             /// Sets the field `type`.
             pub fn set_type(&mut self, value: Type)
-                ensures words { let words = self.old.draft.words in
-                    elim value [
-                      | Type.Mobile ↦ self.new.draft.words ≡ with_field words 16 0 0
-                      | Type.Home ↦ self.new.draft.words ≡ with_field words 16 0 1
-                      | Type.Work ↦ self.new.draft.words ≡ with_field words 16 0 2
-                      | Type.NotInSchema unknown ↦ self.new.draft.words ≡ with_field words 16 0 unknown
+                ensures words { let old = self.old.draft.words in
+                    let new = self.new.draft.words in elim value [
+                      | Type.Mobile ↦ new ≡ with_field old 16 0 0
+                      | Type.Home ↦ new ≡ with_field old 16 0 1
+                      | Type.Work ↦ new ≡ with_field old 16 0 2
+                      | Type.NotInSchema unknown ↦ new ≡ with_field old 16 0 unknown
                     ] }
                 ensures pointers { self.new.draft.pointers ≡ self.old.draft.pointers }
             {
@@ -1020,7 +686,7 @@ pub mod person {
             }
         }
 
-        impl capnp_wire::upgraded::EnumElement for Type {
+        impl capnp::upgraded::EnumElement for Type {
             ghost named = { 3 };
 
             fn from_number(number: u16) -> Type {
@@ -1049,13 +715,12 @@ pub mod person {
     }
 }
 
+#[rattlefmt::skip]
 pub mod address_book {
-    use capnp_frame::Result;
-    use capnp_frame::message::ReaderSegments;
-    use capnp_orphans::{Draft, GrowingSegment, Orphan, Orphanage, StructDraft};
-    use capnp_wire::any_struct::StructReader;
-    use capnp_wire::traits::{self, FromPointerReader, IndexMove, ListIter};
-    use capnp_wire::{any_pointer, upgraded};
+    use capnp::any_struct::StructReader;
+    use capnp::message::ReaderSegments;
+    use capnp::orphans::{Draft, GrowingSegment, Orphan, Orphanage, StructDraft};
+    use capnp::{Result, traits, upgraded};
 
     /// The type of the schema.
     pub struct Owned;
@@ -1075,16 +740,9 @@ pub mod address_book {
         /// The field `people`.
         pub fn get_people(&self) -> Result<super::person::ListReader<'a, S>>
             ensures { let fields = struct_of S.segments self.now.fields in
-                let pointer = pointer_in fields 0 in
-                IsViewOf pointer
-                (λ view. IsUpgradedStructs pointer (upgraded_structs_of S.segments view.elements))
-                (Accepts pointer TakesAsStructs) (ViewError pointer ElementsFormError)
-                (FormError pointer ElementsFormError) result }
+                IsStructsView S.segments (pointer_in fields 0) result }
         {
-            match self.fields.get_pointer_as(0) {
-                Ok(elements) => Ok(super::person::ListReader { elements }),
-                Err(error) => Err(error),
-            }
+            self.fields.get_pointer_as(0)
         }
 
         /// Whether `people` is there, and is not null.
@@ -1096,161 +754,20 @@ pub mod address_book {
         }
     }
 
-    impl<'a, S: ReaderSegments> FromPointerReader<'a, S> for Reader<'a, S> {
-        ghost shows = { λ pointer view. IsStruct pointer (struct_of S.segments view.fields) };
-
-        ghost accepts = { λ pointer. Accepts pointer TakesStruct };
-
-        ghost fails = { λ pointer kind. ViewError pointer StructFormError kind };
-
-        ghost form_error = { λ pointer kind. FormError pointer StructFormError kind };
+    impl<'a, S: ReaderSegments> upgraded::FromStruct<StructReader<'a, S>> for Reader<'a, S> {
+        ghost shown = { λ view. struct_of S.segments view.fields };
 
         #[inline(always)]
-        fn get_from_pointer(reader: any_pointer::Reader<'a, S>) -> Result<Self>
-            ensures { let pointer = pointer_of S.segments reader.entry in IsViewOf pointer
-                (λ view. IsStruct pointer (struct_of S.segments view.fields))
-                (Accepts pointer TakesStruct) (ViewError pointer StructFormError)
-                (FormError pointer StructFormError) result }
-        {
-            match StructReader::get_from_pointer(reader) {
-                Ok(fields) => Ok(Reader { fields }),
-                Err(error) => Err(error),
-            }
+        fn from_struct(fields: StructReader<'a, S>) -> Reader<'a, S> {
+            Reader { fields }
         }
     }
 
-    /// A list of such structs in a message, or of their first fields where an older writer had these.
-    #[derive(Drop)]
-    pub struct ListReader<'a, S: ReaderSegments> {
-        /// The list whose elements these are.
-        pub elements: upgraded::StructList<'a, S>,
-    }
-
-    impl<'a, S: ReaderSegments> ListReader<'a, S> {
-        /// The number of elements.
-        pub fn len(&self) -> u32
-            ensures { result ≡ length (upgraded_structs_of S.segments self.now.elements).elements }
-        {
-            self.elements.len()
-        }
-
-        /// The element of this index.
-        pub fn get(&self, index: u32) -> Reader<'a, S>
-            requires { index < length (upgraded_structs_of S.segments self.now.elements).elements }
-            ensures { struct_of S.segments result.fields
-                ≡ element_of (upgraded_structs_of S.segments self.now.elements) index }
-        {
-            Reader {
-                fields: self.elements.get(index),
-            }
-        }
-
-        /// The element of this index, or `None` past the last element.
-        pub fn try_get(&self, index: u32) -> Option<Reader<'a, S>>
-            ensures { let list = upgraded_structs_of S.segments self.now.elements in
-                FindsElement (length list.elements) index
-                (λ item. struct_of S.segments item.fields ≡ element_of list index) result }
-        {
-            self.try_index_move(index)
-        }
-
-        /// An iterator over the elements.
-        pub fn iter(&self) -> ListIter<'_, Self>
-            ensures { IsIterator self.now result }
-        {
-            ListIter::new(self)
-        }
-    }
-
-    impl<'a, S: ReaderSegments> IndexMove for ListReader<'a, S> {
-        type Item = Reader<'a, S>;
-
-        ghost Element = { Struct };
-
-        ghost seen = { λ item. struct_of S.segments item.fields };
-
-        ghost size = { λ list. length (upgraded_structs_of S.segments list.elements).elements };
-
-        ghost element = { λ list index.
-            element_of (upgraded_structs_of S.segments list.elements) index };
-
-        fn len(&self) -> u32 {
-            self.len()
-        }
-
-        fn index_move(&self, index: u32) -> Reader<'a, S> {
-            self.get(index)
-        }
-    }
-
-    impl<'l, 'a, S: ReaderSegments> IntoIterator for &'l ListReader<'a, S> {
-        type Item = Reader<'a, S>;
-
-        type IntoIter = ListIter<'l, ListReader<'a, S>>;
-
-        ghost into_iter_gives = { λ list elements. IsIterator list.now elements };
-
-        fn into_iter(self) -> ListIter<'l, ListReader<'a, S>> {
-            self.iter()
-        }
-    }
-
-    impl<'a, S: ReaderSegments> FromPointerReader<'a, S> for ListReader<'a, S> {
-        ghost shows = { λ pointer view.
-            IsUpgradedStructs pointer (upgraded_structs_of S.segments view.elements) };
-
-        ghost accepts = { λ pointer. Accepts pointer TakesAsStructs };
-
-        ghost fails = { λ pointer kind. ViewError pointer ElementsFormError kind };
-
-        ghost form_error = { λ pointer kind. FormError pointer ElementsFormError kind };
-
-        fn get_from_pointer(reader: any_pointer::Reader<'a, S>) -> Result<Self>
-            ensures { let pointer = pointer_of S.segments reader.entry in IsViewOf pointer
-                (λ view. IsUpgradedStructs pointer (upgraded_structs_of S.segments view.elements))
-                (Accepts pointer TakesAsStructs) (ViewError pointer ElementsFormError)
-                (FormError pointer ElementsFormError) result }
-        {
-            match upgraded::StructList::get_from_pointer(reader) {
-                Ok(elements) => Ok(ListReader { elements }),
-                Err(error) => Err(error),
-            }
-        }
-    }
+    /// A list of such structs, or of their first fields where an older writer had these.
+    pub type ListReader<'a, S> = upgraded::Structs<'a, S, Reader<'a, S>>;
 
     /// A list of such structs, as a type of the schema.
-    pub struct OwnedList;
-
-    impl<'a, S: ReaderSegments + 'a> traits::Owned<'a, S> for OwnedList {
-        type Reader = ListReader<'a, S>;
-    }
-
-    // The value is the list of the structs, with all below them.
-    impl<'a, S: ReaderSegments> traits::SetterInput<OwnedList> for ListReader<'a, S> {
-        ghost has_tree = { λ list trees. IsStructListValue S.segments list.elements trees };
-
-        ghost fails = { λ list kind. StructListValueError S.segments list.elements kind };
-
-        ghost one = { λ list trees is. one_struct_list S.segments list.elements trees is };
-
-        fn measure(&self, canonical: bool) -> Result<u32> {
-            traits::SetterInput::measure(&self.elements, canonical)
-        }
-
-        fn is_null(&self) -> bool {
-            false
-        }
-
-        fn write(
-            &self,
-            canonical: bool,
-            block: &mut [u8],
-            following: usize,
-            next: usize,
-        ) -> traits::Copied {
-            traits::SetterInput::write(&self.elements, canonical, block, following, next)
-        }
-    }
+    pub type OwnedList = upgraded::OwnedStructs<Owned>;
 
     /// A struct of this type before it is written. What is not set has its default.
     #[derive(Clone, Copy)]
@@ -1270,12 +787,12 @@ pub mod address_book {
             }
         }
 
-        /// A builder with what a reader shows, to be changed and written again. Each object that its
-        /// pointers point to is copied, as an orphan, and null stays null. What a writer of another
-        /// version of the type left out is zero or null; what it had in addition is left out.
+        /// A builder with what a reader shows, to be changed and written again. What its
+        /// pointers point to is copied, as orphans; null stays null. What another version of
+        /// the type left out is zero or null, and what it had in addition is left out.
         ///
-        /// A copy that a setter then replaces stays in the bytes of the message, where no pointer
-        /// points to it. Canonical words of the message are without it.
+        /// A copy that a setter then replaces stays in the bytes of the message, without a
+        /// pointer to it. Canonical words of the message are without it.
         ///
         /// Fails as `Orphanage::set` does, for the first pointer that can't be copied.
         pub fn from_reader<R: ReaderSegments, S: GrowingSegment>(
@@ -1293,8 +810,8 @@ pub mod address_book {
             }
         }
 
-        /// A builder with the numbers, bools and enums that a reader shows, as `from_reader` has
-        /// them. Its pointers are null.
+        /// A builder with the numbers, bools and enums that a reader shows, as `from_reader`
+        /// has them. Its pointers are null.
         pub fn from_data_section<R: ReaderSegments>(read: &Reader<'_, R>) -> Builder
             ensures words { result.draft.words
                 ≡ data_up_to (struct_of R.segments read.now.fields) 0 }
@@ -1330,8 +847,8 @@ pub mod address_book {
             elements: &[Builder],
             objects: &mut Orphanage<S>,
         ) -> Result<Orphan<OwnedList>>
-            ensures adds { AddsOrphan (HoldsStructs (body_of objects.old)
-                (map (λ element. element.draft) elements.now)) objects.old objects.new word_of result }
+            ensures adds { let drafts = map (λ element. element.draft) elements.now in AddsOrphan
+                (HoldsStructs (body_of objects.old) drafts) objects.old objects.new word_of result }
             ensures writes { let count = length elements.now in
                 Writes (TakesStructsWords 0 1 count) (ManyStructs 0 1 count)
                 objects.old objects.new result }

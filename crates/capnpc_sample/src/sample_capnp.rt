@@ -1,31 +1,21 @@
 //! Types of `sample.capnp`, made by `capnpc-rattle`: change that file, and make them again.
-ghost use Rattle.std.specs.Prelude.{◌≡◌, ◌≤◌, ◌<◌, ◌==◌, ◌↔◌, ◌≢◌, ◌∷◌, [], if◌then◌else◌, IfOk, IsTrue, bit_xor, from_bits, to_bits, length, map, replicate, slice_index_or, slice_set};
+//!
+//! In a crate of their own they are proved once. A program is proved soonest where a loop over
+//! messages or a list has one line, a call: `add_message(&message?, &mut totals)?` (docs/GUIDE.md).
+ghost use Rattle.std.specs.Prelude.{◌≡◌, ◌≤◌, ◌==◌, ◌↔◌, ◌≢◌, ◌∷◌, [], if◌then◌else◌, IfOk, IsTrue, bit_xor, from_bits, to_bits, length, map, replicate, slice_index_or, slice_set};
 ghost use Rattle.std.specs.Float.{binary64};
 ghost use Rattle.std.specs.Int.{w32, w64, cast_signed, cast_unsigned};
-ghost use Rattle.capnp_orphans.specs.Adding.{AddsOrphan, AddsRoot, FailsToAdd, Writes};
-ghost use Rattle.capnp_orphans.specs.Copied.{data_up_to, CopiesPointers};
-ghost use Rattle.capnp_orphans.specs.Holds.{word_of, HoldsStruct, HoldsStructs, TakesStructWords as StructWords, TakesStructsWords, StructSizeError, ManyStructs};
-ghost use Rattle.capnp_orphans.specs.Segments.{body_of};
-ghost use Rattle.capnp_values.specs.DataSections.{with_field};
-ghost use Rattle.capnp_wire.specs.Constants.{segments_of, root_of, IsDefaultData};
-ghost use Rattle.capnp_wire.specs.Fields.{field};
-ghost use Rattle.capnp_wire.specs.Layout.{layout};
-ghost use Rattle.capnp_wire.specs.ListViews.{element_of};
-ghost use Rattle.capnp_wire.specs.Lists.{FindsElement, IsIterator};
-ghost use Rattle.capnp_wire.specs.Object.{nothing};
-ghost use Rattle.capnp_wire.specs.Pointer.{words_of};
-ghost use Rattle.capnp_wire.specs.Readers.{struct_of, pointer_of};
-ghost use Rattle.capnp_wire.specs.Tree.{none as NoTrees, tree as TreeOf, struct as StructForm, numbers as NumbersForm, pointers as PointersForm};
-ghost use Rattle.capnp_wire.specs.UpgradedReaders.{upgraded_structs_of, upgraded_numbers_of, upgraded_pointers_of};
-ghost use Rattle.capnp_wire.specs.UpgradedValues.{IsStructListValue, StructListValueError, one_struct_list};
-ghost use Rattle.capnp_wire.specs.UpgradedViews.{IsUpgradedStructs, IsUpgradedPointers, ReadsAsNumbers, TakesAsStructs, TakesFields, TakesFirstPointers, ElementsFormError, FieldsFormError, FirstPointersFormError};
-ghost use Rattle.capnp_wire.specs.Views.{Struct, IsViewOf, IsStruct, IsText, IsData, Accepts, ViewError, FormError, Denotes, Reads, TakesStruct, TakesText, TakesNumbers, StructFormError, TextFormError, NumbersFormError, pointer_in};
+ghost use Rattle.capnp.specs.Made.{AddsOrphan, AddsRoot, FailsToAdd, Writes, data_up_to, CopiesPointers, word_of, HoldsStruct, HoldsStructs, StructWords, TakesStructsWords, StructSizeError, ManyStructs, body_of, with_field, segments_of, root_of, IsDefaultData, field, IsViewBy, IsTextView, IsDataView, IsStructView, IsStructsView, layout, nothing, words_of, struct_of, pointer_of, NoTrees, TreeOf, StructForm, NumbersForm, PointersForm, upgraded_numbers_of, upgraded_pointers_of, IsUpgradedPointers, ReadsAsNumbers, TakesFields, TakesFirstPointers, FieldsFormError, FirstPointersFormError, Denotes, Reads, TakesStruct, StructFormError, pointer_in};
 
-use capnp_frame::Result;
-use capnp_wire::constant::Words;
+#[rattlefmt::skip]
+use capnp::constant::Words;
+#[rattlefmt::skip]
+use capnp::Result;
 
+#[rattlefmt::skip]
 pub const LIMIT: u32 = 1000;
 
+#[rattlefmt::skip]
 #[rattlefmt::skip]
 pub static CORNER: Words<16> = Words { bytes: [
     0, 0, 0, 0, 1, 0, 0, 0,
@@ -33,30 +23,29 @@ pub static CORNER: Words<16> = Words { bytes: [
 ] };
 
 /// The words of `CORNER` are the layout of the schema's value.
+#[rattlefmt::skip]
 pub fn corner_is_laid_out()
     ensures { words_of CORNER.bytes ≡ layout
         (TreeOf (StructForm (0x1e000000280 ∷ [])) NoTrees NoTrees) }
 {}
 
 /// The constant `corner`.
+#[rattlefmt::skip]
 pub fn get_corner() -> Result<point::Reader<'static, Words<16>>>
     ensures { let pointer = root_of CORNER in
-        IsViewOf pointer
-        (λ view. IsStruct pointer (struct_of segments_of view.fields))
-        (Accepts pointer TakesStruct) (ViewError pointer StructFormError)
-        (FormError pointer StructFormError) result }
+        IsStructView pointer
+        (λ view. struct_of segments_of view.fields) result }
 {
-    capnp_wire::constant::view_of(&CORNER)
+    capnp::constant::view_of(&CORNER)
 }
 
 /// A point of a plane.
+#[rattlefmt::skip]
 pub mod point {
-    use capnp_frame::Result;
-    use capnp_frame::message::ReaderSegments;
-    use capnp_orphans::{Draft, GrowingSegment, Orphan, Orphanage, StructDraft};
-    use capnp_wire::any_struct::StructReader;
-    use capnp_wire::traits::{self, FromPointerReader, IndexMove, ListIter};
-    use capnp_wire::{any_pointer, upgraded};
+    use capnp::any_struct::StructReader;
+    use capnp::message::ReaderSegments;
+    use capnp::orphans::{Draft, GrowingSegment, Orphan, Orphanage, StructDraft};
+    use capnp::{Result, traits, upgraded};
 
     /// The type of the schema.
     pub struct Owned;
@@ -90,161 +79,20 @@ pub mod point {
         }
     }
 
-    impl<'a, S: ReaderSegments> FromPointerReader<'a, S> for Reader<'a, S> {
-        ghost shows = { λ pointer view. IsStruct pointer (struct_of S.segments view.fields) };
-
-        ghost accepts = { λ pointer. Accepts pointer TakesStruct };
-
-        ghost fails = { λ pointer kind. ViewError pointer StructFormError kind };
-
-        ghost form_error = { λ pointer kind. FormError pointer StructFormError kind };
+    impl<'a, S: ReaderSegments> upgraded::FromStruct<StructReader<'a, S>> for Reader<'a, S> {
+        ghost shown = { λ view. struct_of S.segments view.fields };
 
         #[inline(always)]
-        fn get_from_pointer(reader: any_pointer::Reader<'a, S>) -> Result<Self>
-            ensures { let pointer = pointer_of S.segments reader.entry in IsViewOf pointer
-                (λ view. IsStruct pointer (struct_of S.segments view.fields))
-                (Accepts pointer TakesStruct) (ViewError pointer StructFormError)
-                (FormError pointer StructFormError) result }
-        {
-            match StructReader::get_from_pointer(reader) {
-                Ok(fields) => Ok(Reader { fields }),
-                Err(error) => Err(error),
-            }
+        fn from_struct(fields: StructReader<'a, S>) -> Reader<'a, S> {
+            Reader { fields }
         }
     }
 
-    /// A list of such structs in a message, or of their first fields where an older writer had these.
-    #[derive(Drop)]
-    pub struct ListReader<'a, S: ReaderSegments> {
-        /// The list whose elements these are.
-        pub elements: upgraded::StructList<'a, S>,
-    }
-
-    impl<'a, S: ReaderSegments> ListReader<'a, S> {
-        /// The number of elements.
-        pub fn len(&self) -> u32
-            ensures { result ≡ length (upgraded_structs_of S.segments self.now.elements).elements }
-        {
-            self.elements.len()
-        }
-
-        /// The element of this index.
-        pub fn get(&self, index: u32) -> Reader<'a, S>
-            requires { index < length (upgraded_structs_of S.segments self.now.elements).elements }
-            ensures { struct_of S.segments result.fields
-                ≡ element_of (upgraded_structs_of S.segments self.now.elements) index }
-        {
-            Reader {
-                fields: self.elements.get(index),
-            }
-        }
-
-        /// The element of this index, or `None` past the last element.
-        pub fn try_get(&self, index: u32) -> Option<Reader<'a, S>>
-            ensures { let list = upgraded_structs_of S.segments self.now.elements in
-                FindsElement (length list.elements) index
-                (λ item. struct_of S.segments item.fields ≡ element_of list index) result }
-        {
-            self.try_index_move(index)
-        }
-
-        /// An iterator over the elements.
-        pub fn iter(&self) -> ListIter<'_, Self>
-            ensures { IsIterator self.now result }
-        {
-            ListIter::new(self)
-        }
-    }
-
-    impl<'a, S: ReaderSegments> IndexMove for ListReader<'a, S> {
-        type Item = Reader<'a, S>;
-
-        ghost Element = { Struct };
-
-        ghost seen = { λ item. struct_of S.segments item.fields };
-
-        ghost size = { λ list. length (upgraded_structs_of S.segments list.elements).elements };
-
-        ghost element = { λ list index.
-            element_of (upgraded_structs_of S.segments list.elements) index };
-
-        fn len(&self) -> u32 {
-            self.len()
-        }
-
-        fn index_move(&self, index: u32) -> Reader<'a, S> {
-            self.get(index)
-        }
-    }
-
-    impl<'l, 'a, S: ReaderSegments> IntoIterator for &'l ListReader<'a, S> {
-        type Item = Reader<'a, S>;
-
-        type IntoIter = ListIter<'l, ListReader<'a, S>>;
-
-        ghost into_iter_gives = { λ list elements. IsIterator list.now elements };
-
-        fn into_iter(self) -> ListIter<'l, ListReader<'a, S>> {
-            self.iter()
-        }
-    }
-
-    impl<'a, S: ReaderSegments> FromPointerReader<'a, S> for ListReader<'a, S> {
-        ghost shows = { λ pointer view.
-            IsUpgradedStructs pointer (upgraded_structs_of S.segments view.elements) };
-
-        ghost accepts = { λ pointer. Accepts pointer TakesAsStructs };
-
-        ghost fails = { λ pointer kind. ViewError pointer ElementsFormError kind };
-
-        ghost form_error = { λ pointer kind. FormError pointer ElementsFormError kind };
-
-        fn get_from_pointer(reader: any_pointer::Reader<'a, S>) -> Result<Self>
-            ensures { let pointer = pointer_of S.segments reader.entry in IsViewOf pointer
-                (λ view. IsUpgradedStructs pointer (upgraded_structs_of S.segments view.elements))
-                (Accepts pointer TakesAsStructs) (ViewError pointer ElementsFormError)
-                (FormError pointer ElementsFormError) result }
-        {
-            match upgraded::StructList::get_from_pointer(reader) {
-                Ok(elements) => Ok(ListReader { elements }),
-                Err(error) => Err(error),
-            }
-        }
-    }
+    /// A list of such structs, or of their first fields where an older writer had these.
+    pub type ListReader<'a, S> = upgraded::Structs<'a, S, Reader<'a, S>>;
 
     /// A list of such structs, as a type of the schema.
-    pub struct OwnedList;
-
-    impl<'a, S: ReaderSegments + 'a> traits::Owned<'a, S> for OwnedList {
-        type Reader = ListReader<'a, S>;
-    }
-
-    // The value is the list of the structs, with all below them.
-    impl<'a, S: ReaderSegments> traits::SetterInput<OwnedList> for ListReader<'a, S> {
-        ghost has_tree = { λ list trees. IsStructListValue S.segments list.elements trees };
-
-        ghost fails = { λ list kind. StructListValueError S.segments list.elements kind };
-
-        ghost one = { λ list trees is. one_struct_list S.segments list.elements trees is };
-
-        fn measure(&self, canonical: bool) -> Result<u32> {
-            traits::SetterInput::measure(&self.elements, canonical)
-        }
-
-        fn is_null(&self) -> bool {
-            false
-        }
-
-        fn write(
-            &self,
-            canonical: bool,
-            block: &mut [u8],
-            following: usize,
-            next: usize,
-        ) -> traits::Copied {
-            traits::SetterInput::write(&self.elements, canonical, block, following, next)
-        }
-    }
+    pub type OwnedList = upgraded::OwnedStructs<Owned>;
 
     /// A struct of this type before it is written. What is not set has its default.
     #[derive(Clone, Copy)]
@@ -264,12 +112,12 @@ pub mod point {
             }
         }
 
-        /// A builder with what a reader shows, to be changed and written again. Each object that its
-        /// pointers point to is copied, as an orphan, and null stays null. What a writer of another
-        /// version of the type left out is zero or null; what it had in addition is left out.
+        /// A builder with what a reader shows, to be changed and written again. What its
+        /// pointers point to is copied, as orphans; null stays null. What another version of
+        /// the type left out is zero or null, and what it had in addition is left out.
         ///
-        /// A copy that a setter then replaces stays in the bytes of the message, where no pointer
-        /// points to it. Canonical words of the message are without it.
+        /// A copy that a setter then replaces stays in the bytes of the message, without a
+        /// pointer to it. Canonical words of the message are without it.
         ///
         /// Fails as `Orphanage::set` does, for the first pointer that can't be copied.
         pub fn from_reader<R: ReaderSegments, S: GrowingSegment>(
@@ -287,8 +135,8 @@ pub mod point {
             }
         }
 
-        /// A builder with the numbers, bools and enums that a reader shows, as `from_reader` has
-        /// them. Its pointers are null.
+        /// A builder with the numbers, bools and enums that a reader shows, as `from_reader`
+        /// has them. Its pointers are null.
         pub fn from_data_section<R: ReaderSegments>(read: &Reader<'_, R>) -> Builder
             ensures words { result.draft.words
                 ≡ data_up_to (struct_of R.segments read.now.fields) 1 }
@@ -324,8 +172,8 @@ pub mod point {
             elements: &[Builder],
             objects: &mut Orphanage<S>,
         ) -> Result<Orphan<OwnedList>>
-            ensures adds { AddsOrphan (HoldsStructs (body_of objects.old)
-                (map (λ element. element.draft) elements.now)) objects.old objects.new word_of result }
+            ensures adds { let drafts = map (λ element. element.draft) elements.now in AddsOrphan
+                (HoldsStructs (body_of objects.old) drafts) objects.old objects.new word_of result }
             ensures writes { let count = length elements.now in
                 Writes (TakesStructsWords 1 0 count) (ManyStructs 1 0 count)
                 objects.old objects.new result }
@@ -346,7 +194,8 @@ pub mod point {
         /// Sets the field `x`.
         pub fn set_x(&mut self, value: i32)
             ensures words { self.new.draft.words
-                ≡ with_field self.old.draft.words 32 0 (cast_unsigned w32 value) }
+                ≡ with_field self.old.draft.words
+                32 0 (cast_unsigned w32 value) }
             ensures pointers { self.new.draft.pointers ≡ self.old.draft.pointers }
         {
             self.draft.set_data_field(0, value);
@@ -363,7 +212,8 @@ pub mod point {
         /// Sets the field `y`.
         pub fn set_y(&mut self, value: i32)
             ensures words { self.new.draft.words
-                ≡ with_field self.old.draft.words 32 1 (cast_unsigned w32 value) }
+                ≡ with_field self.old.draft.words
+                32 1 (cast_unsigned w32 value) }
             ensures pointers { self.new.draft.pointers ≡ self.old.draft.pointers }
         {
             self.draft.set_data_field(1, value);
@@ -380,13 +230,12 @@ pub mod point {
 }
 
 /// A binary tree of numbers.
+#[rattlefmt::skip]
 pub mod tree {
-    use capnp_frame::Result;
-    use capnp_frame::message::ReaderSegments;
-    use capnp_orphans::{Draft, GrowingSegment, Orphan, Orphanage, StructDraft};
-    use capnp_wire::any_struct::StructReader;
-    use capnp_wire::traits::{self, FromPointerReader, IndexMove, ListIter};
-    use capnp_wire::{any_pointer, upgraded};
+    use capnp::any_struct::StructReader;
+    use capnp::message::ReaderSegments;
+    use capnp::orphans::{Draft, GrowingSegment, Orphan, Orphanage, StructDraft};
+    use capnp::{Result, traits, upgraded};
 
     /// The type of the schema.
     pub struct Owned;
@@ -414,16 +263,10 @@ pub mod tree {
         /// The field `left`.
         pub fn get_left(&self) -> Result<super::tree::Reader<'a, S>>
             ensures { let fields = struct_of S.segments self.now.fields in
-                let pointer = pointer_in fields 0 in
-                IsViewOf pointer
-                (λ view. IsStruct pointer (struct_of S.segments view.fields))
-                (Accepts pointer TakesStruct) (ViewError pointer StructFormError)
-                (FormError pointer StructFormError) result }
+                IsStructView (pointer_in fields 0)
+                (λ view. struct_of S.segments view.fields) result }
         {
-            match self.fields.get_pointer_as(0) {
-                Ok(fields) => Ok(super::tree::Reader { fields }),
-                Err(error) => Err(error),
-            }
+            self.fields.get_pointer_as(0)
         }
 
         /// Whether `left` is there, and is not null.
@@ -437,16 +280,10 @@ pub mod tree {
         /// The field `right`.
         pub fn get_right(&self) -> Result<super::tree::Reader<'a, S>>
             ensures { let fields = struct_of S.segments self.now.fields in
-                let pointer = pointer_in fields 1 in
-                IsViewOf pointer
-                (λ view. IsStruct pointer (struct_of S.segments view.fields))
-                (Accepts pointer TakesStruct) (ViewError pointer StructFormError)
-                (FormError pointer StructFormError) result }
+                IsStructView (pointer_in fields 1)
+                (λ view. struct_of S.segments view.fields) result }
         {
-            match self.fields.get_pointer_as(1) {
-                Ok(fields) => Ok(super::tree::Reader { fields }),
-                Err(error) => Err(error),
-            }
+            self.fields.get_pointer_as(1)
         }
 
         /// Whether `right` is there, and is not null.
@@ -458,161 +295,20 @@ pub mod tree {
         }
     }
 
-    impl<'a, S: ReaderSegments> FromPointerReader<'a, S> for Reader<'a, S> {
-        ghost shows = { λ pointer view. IsStruct pointer (struct_of S.segments view.fields) };
-
-        ghost accepts = { λ pointer. Accepts pointer TakesStruct };
-
-        ghost fails = { λ pointer kind. ViewError pointer StructFormError kind };
-
-        ghost form_error = { λ pointer kind. FormError pointer StructFormError kind };
+    impl<'a, S: ReaderSegments> upgraded::FromStruct<StructReader<'a, S>> for Reader<'a, S> {
+        ghost shown = { λ view. struct_of S.segments view.fields };
 
         #[inline(always)]
-        fn get_from_pointer(reader: any_pointer::Reader<'a, S>) -> Result<Self>
-            ensures { let pointer = pointer_of S.segments reader.entry in IsViewOf pointer
-                (λ view. IsStruct pointer (struct_of S.segments view.fields))
-                (Accepts pointer TakesStruct) (ViewError pointer StructFormError)
-                (FormError pointer StructFormError) result }
-        {
-            match StructReader::get_from_pointer(reader) {
-                Ok(fields) => Ok(Reader { fields }),
-                Err(error) => Err(error),
-            }
+        fn from_struct(fields: StructReader<'a, S>) -> Reader<'a, S> {
+            Reader { fields }
         }
     }
 
-    /// A list of such structs in a message, or of their first fields where an older writer had these.
-    #[derive(Drop)]
-    pub struct ListReader<'a, S: ReaderSegments> {
-        /// The list whose elements these are.
-        pub elements: upgraded::StructList<'a, S>,
-    }
-
-    impl<'a, S: ReaderSegments> ListReader<'a, S> {
-        /// The number of elements.
-        pub fn len(&self) -> u32
-            ensures { result ≡ length (upgraded_structs_of S.segments self.now.elements).elements }
-        {
-            self.elements.len()
-        }
-
-        /// The element of this index.
-        pub fn get(&self, index: u32) -> Reader<'a, S>
-            requires { index < length (upgraded_structs_of S.segments self.now.elements).elements }
-            ensures { struct_of S.segments result.fields
-                ≡ element_of (upgraded_structs_of S.segments self.now.elements) index }
-        {
-            Reader {
-                fields: self.elements.get(index),
-            }
-        }
-
-        /// The element of this index, or `None` past the last element.
-        pub fn try_get(&self, index: u32) -> Option<Reader<'a, S>>
-            ensures { let list = upgraded_structs_of S.segments self.now.elements in
-                FindsElement (length list.elements) index
-                (λ item. struct_of S.segments item.fields ≡ element_of list index) result }
-        {
-            self.try_index_move(index)
-        }
-
-        /// An iterator over the elements.
-        pub fn iter(&self) -> ListIter<'_, Self>
-            ensures { IsIterator self.now result }
-        {
-            ListIter::new(self)
-        }
-    }
-
-    impl<'a, S: ReaderSegments> IndexMove for ListReader<'a, S> {
-        type Item = Reader<'a, S>;
-
-        ghost Element = { Struct };
-
-        ghost seen = { λ item. struct_of S.segments item.fields };
-
-        ghost size = { λ list. length (upgraded_structs_of S.segments list.elements).elements };
-
-        ghost element = { λ list index.
-            element_of (upgraded_structs_of S.segments list.elements) index };
-
-        fn len(&self) -> u32 {
-            self.len()
-        }
-
-        fn index_move(&self, index: u32) -> Reader<'a, S> {
-            self.get(index)
-        }
-    }
-
-    impl<'l, 'a, S: ReaderSegments> IntoIterator for &'l ListReader<'a, S> {
-        type Item = Reader<'a, S>;
-
-        type IntoIter = ListIter<'l, ListReader<'a, S>>;
-
-        ghost into_iter_gives = { λ list elements. IsIterator list.now elements };
-
-        fn into_iter(self) -> ListIter<'l, ListReader<'a, S>> {
-            self.iter()
-        }
-    }
-
-    impl<'a, S: ReaderSegments> FromPointerReader<'a, S> for ListReader<'a, S> {
-        ghost shows = { λ pointer view.
-            IsUpgradedStructs pointer (upgraded_structs_of S.segments view.elements) };
-
-        ghost accepts = { λ pointer. Accepts pointer TakesAsStructs };
-
-        ghost fails = { λ pointer kind. ViewError pointer ElementsFormError kind };
-
-        ghost form_error = { λ pointer kind. FormError pointer ElementsFormError kind };
-
-        fn get_from_pointer(reader: any_pointer::Reader<'a, S>) -> Result<Self>
-            ensures { let pointer = pointer_of S.segments reader.entry in IsViewOf pointer
-                (λ view. IsUpgradedStructs pointer (upgraded_structs_of S.segments view.elements))
-                (Accepts pointer TakesAsStructs) (ViewError pointer ElementsFormError)
-                (FormError pointer ElementsFormError) result }
-        {
-            match upgraded::StructList::get_from_pointer(reader) {
-                Ok(elements) => Ok(ListReader { elements }),
-                Err(error) => Err(error),
-            }
-        }
-    }
+    /// A list of such structs, or of their first fields where an older writer had these.
+    pub type ListReader<'a, S> = upgraded::Structs<'a, S, Reader<'a, S>>;
 
     /// A list of such structs, as a type of the schema.
-    pub struct OwnedList;
-
-    impl<'a, S: ReaderSegments + 'a> traits::Owned<'a, S> for OwnedList {
-        type Reader = ListReader<'a, S>;
-    }
-
-    // The value is the list of the structs, with all below them.
-    impl<'a, S: ReaderSegments> traits::SetterInput<OwnedList> for ListReader<'a, S> {
-        ghost has_tree = { λ list trees. IsStructListValue S.segments list.elements trees };
-
-        ghost fails = { λ list kind. StructListValueError S.segments list.elements kind };
-
-        ghost one = { λ list trees is. one_struct_list S.segments list.elements trees is };
-
-        fn measure(&self, canonical: bool) -> Result<u32> {
-            traits::SetterInput::measure(&self.elements, canonical)
-        }
-
-        fn is_null(&self) -> bool {
-            false
-        }
-
-        fn write(
-            &self,
-            canonical: bool,
-            block: &mut [u8],
-            following: usize,
-            next: usize,
-        ) -> traits::Copied {
-            traits::SetterInput::write(&self.elements, canonical, block, following, next)
-        }
-    }
+    pub type OwnedList = upgraded::OwnedStructs<Owned>;
 
     /// A struct of this type before it is written. What is not set has its default.
     #[derive(Clone, Copy)]
@@ -632,12 +328,12 @@ pub mod tree {
             }
         }
 
-        /// A builder with what a reader shows, to be changed and written again. Each object that its
-        /// pointers point to is copied, as an orphan, and null stays null. What a writer of another
-        /// version of the type left out is zero or null; what it had in addition is left out.
+        /// A builder with what a reader shows, to be changed and written again. What its
+        /// pointers point to is copied, as orphans; null stays null. What another version of
+        /// the type left out is zero or null, and what it had in addition is left out.
         ///
-        /// A copy that a setter then replaces stays in the bytes of the message, where no pointer
-        /// points to it. Canonical words of the message are without it.
+        /// A copy that a setter then replaces stays in the bytes of the message, without a
+        /// pointer to it. Canonical words of the message are without it.
         ///
         /// Fails as `Orphanage::set` does, for the first pointer that can't be copied.
         pub fn from_reader<R: ReaderSegments, S: GrowingSegment>(
@@ -655,8 +351,8 @@ pub mod tree {
             }
         }
 
-        /// A builder with the numbers, bools and enums that a reader shows, as `from_reader` has
-        /// them. Its pointers are null.
+        /// A builder with the numbers, bools and enums that a reader shows, as `from_reader`
+        /// has them. Its pointers are null.
         pub fn from_data_section<R: ReaderSegments>(read: &Reader<'_, R>) -> Builder
             ensures words { result.draft.words
                 ≡ data_up_to (struct_of R.segments read.now.fields) 1 }
@@ -692,8 +388,8 @@ pub mod tree {
             elements: &[Builder],
             objects: &mut Orphanage<S>,
         ) -> Result<Orphan<OwnedList>>
-            ensures adds { AddsOrphan (HoldsStructs (body_of objects.old)
-                (map (λ element. element.draft) elements.now)) objects.old objects.new word_of result }
+            ensures adds { let drafts = map (λ element. element.draft) elements.now in AddsOrphan
+                (HoldsStructs (body_of objects.old) drafts) objects.old objects.new word_of result }
             ensures writes { let count = length elements.now in
                 Writes (TakesStructsWords 1 2 count) (ManyStructs 1 2 count)
                 objects.old objects.new result }
@@ -714,7 +410,8 @@ pub mod tree {
         /// Sets the field `value`.
         pub fn set_value(&mut self, value: i64)
             ensures words { self.new.draft.words
-                ≡ with_field self.old.draft.words 64 0 (cast_unsigned w64 value) }
+                ≡ with_field self.old.draft.words
+                64 0 (cast_unsigned w64 value) }
             ensures pointers { self.new.draft.pointers ≡ self.old.draft.pointers }
         {
             self.draft.set_data_field(0, value);
@@ -773,6 +470,7 @@ pub mod tree {
 }
 
 /// Colors of a lamp.
+#[rattlefmt::skip]
 #[derive(Clone, Copy, PartialEq, Eq, Hash, Debug)]
 pub enum Color {
     Red,
@@ -782,6 +480,7 @@ pub enum Color {
     NotInSchema(u16),
 }
 
+#[rattlefmt::skip]
 impl Color {
     /// The enumerant of this number.
     pub fn from_number(number: u16) -> Color
@@ -801,7 +500,8 @@ impl Color {
     }
 }
 
-impl capnp_wire::upgraded::EnumElement for Color {
+#[rattlefmt::skip]
+impl capnp::upgraded::EnumElement for Color {
     ghost named = { 3 };
 
     fn from_number(number: u16) -> Color {
@@ -809,6 +509,7 @@ impl capnp_wire::upgraded::EnumElement for Color {
     }
 }
 
+#[rattlefmt::skip]
 impl Color {
     /// Its number.
     pub fn to_number(self) -> u16
@@ -829,16 +530,16 @@ impl Color {
 }
 
 /// A struct with a field of each kind.
+#[rattlefmt::skip]
 pub mod sample {
     use super::Color;
-    use capnp_frame::Result;
-    use capnp_frame::message::ReaderSegments;
-    use capnp_orphans::{Draft, GrowingSegment, Orphan, Orphanage, StructDraft};
-    use capnp_wire::any_struct::StructReader;
-    use capnp_wire::constant::Words;
-    use capnp_wire::primitive_element::PrimitiveElement;
-    use capnp_wire::traits::{self, FromPointerReader, IndexMove, ListIter};
-    use capnp_wire::{any_pointer, text, upgraded};
+    use capnp::any_struct::StructReader;
+    use capnp::constant::Words;
+    use capnp::message::ReaderSegments;
+    use capnp::orphans::{Draft, GrowingSegment, Orphan, Orphanage, StructDraft};
+    use capnp::primitive_element::PrimitiveElement;
+    use capnp::traits::FromPointerReader;
+    use capnp::{Result, any_pointer, text, traits, upgraded};
 
     /// The type of the schema.
     pub struct Owned;
@@ -866,7 +567,8 @@ pub mod sample {
         /// The field `balance`.
         pub fn get_balance(&self) -> i32
             ensures { let fields = struct_of S.segments self.now.fields in
-                result ≡ cast_signed w32 (bit_xor (field fields.words 32 1) 4294967291) }
+                result ≡
+                cast_signed w32 (bit_xor (field fields.words 32 1) 4294967291) }
         {
             self.fields.get_data_field_mask(1, -5)
         }
@@ -882,11 +584,7 @@ pub mod sample {
         /// The field `title`.
         pub fn get_title(&self) -> Result<text::Reader<'a>>
             ensures { let fields = struct_of S.segments self.now.fields in
-                let pointer = pointer_in fields 0 in
-                IsViewOf pointer
-                (λ view. Reads pointer (λ form. IsText form view.bytes.now))
-                (Accepts pointer TakesText) (ViewError pointer TextFormError)
-                (FormError pointer TextFormError) result }
+                IsTextView (pointer_in fields 0) result }
         {
             self.fields.get_pointer_as(0)
         }
@@ -902,11 +600,7 @@ pub mod sample {
         /// The field `payload`.
         pub fn get_payload(&self) -> Result<&'a [u8]>
             ensures { let fields = struct_of S.segments self.now.fields in
-                let pointer = pointer_in fields 1 in
-                IsViewOf pointer
-                (λ view. Reads pointer (λ form. IsData form view.now))
-                (Accepts pointer (TakesNumbers 2)) (ViewError pointer (NumbersFormError 2))
-                (FormError pointer (NumbersFormError 2)) result }
+                IsDataView (pointer_in fields 1) result }
         {
             self.fields.get_pointer_as(1)
         }
@@ -922,16 +616,9 @@ pub mod sample {
         /// The field `points`.
         pub fn get_points(&self) -> Result<super::point::ListReader<'a, S>>
             ensures { let fields = struct_of S.segments self.now.fields in
-                let pointer = pointer_in fields 2 in
-                IsViewOf pointer
-                (λ view. IsUpgradedStructs pointer (upgraded_structs_of S.segments view.elements))
-                (Accepts pointer TakesAsStructs) (ViewError pointer ElementsFormError)
-                (FormError pointer ElementsFormError) result }
+                IsStructsView S.segments (pointer_in fields 2) result }
         {
-            match self.fields.get_pointer_as(2) {
-                Ok(elements) => Ok(super::point::ListReader { elements }),
-                Err(error) => Err(error),
-            }
+            self.fields.get_pointer_as(2)
         }
 
         /// Whether `points` is there, and is not null.
@@ -945,11 +632,10 @@ pub mod sample {
         /// The field `numbers`.
         pub fn get_numbers(&self) -> Result<upgraded::NumberList<'a, u32>>
             ensures { let fields = struct_of S.segments self.now.fields in
-                let pointer = pointer_in fields 3 in
-                IsViewOf pointer
-                (λ view. Reads pointer (λ form. ReadsAsNumbers 4 form (upgraded_numbers_of 4 view)))
-                (Accepts pointer (TakesFields 4)) (ViewError pointer (FieldsFormError 4))
-                (FormError pointer (FieldsFormError 4)) result }
+                let pointer = (pointer_in fields 3) in
+                IsViewBy pointer (TakesFields 4) (FieldsFormError 4)
+                (λ view. Reads pointer (λ form.
+                ReadsAsNumbers 4 form (upgraded_numbers_of 4 view))) result }
         {
             self.fields.get_pointer_as(3)
         }
@@ -965,16 +651,10 @@ pub mod sample {
         /// The field `origin`.
         pub fn get_origin(&self) -> Result<super::point::Reader<'a, S>>
             ensures { let fields = struct_of S.segments self.now.fields in
-                let pointer = pointer_in fields 4 in
-                IsViewOf pointer
-                (λ view. IsStruct pointer (struct_of S.segments view.fields))
-                (Accepts pointer TakesStruct) (ViewError pointer StructFormError)
-                (FormError pointer StructFormError) result }
+                IsStructView (pointer_in fields 4)
+                (λ view. struct_of S.segments view.fields) result }
         {
-            match self.fields.get_pointer_as(4) {
-                Ok(fields) => Ok(super::point::Reader { fields }),
-                Err(error) => Err(error),
-            }
+            self.fields.get_pointer_as(4)
         }
 
         /// Whether `origin` is there, and is not null.
@@ -1024,11 +704,7 @@ pub mod sample {
         /// The field `label`.
         pub fn get_label(&self) -> Result<text::Reader<'a>>
             ensures { let fields = struct_of S.segments self.now.fields in
-                let pointer = pointer_in fields 5 in
-                IsViewOf pointer
-                (λ view. Reads pointer (λ form. IsText form view.bytes.now))
-                (Accepts pointer TakesText) (ViewError pointer TextFormError)
-                (FormError pointer TextFormError) result }
+                IsTextView (pointer_in fields 5) result }
         {
             self.fields.get_pointer_as(5)
         }
@@ -1044,7 +720,8 @@ pub mod sample {
         /// The field `ratio`.
         pub fn get_ratio(&self) -> f64
             ensures { let fields = struct_of S.segments self.now.fields in
-                result ≡ from_bits binary64 (bit_xor (field fields.words 64 3) 4602678819172646912) }
+                result ≡
+                from_bits binary64 (bit_xor (field fields.words 64 3) 4602678819172646912) }
         {
             let bits: u64 = self.fields.get_data_field_mask(3, 4602678819172646912);
             PrimitiveElement::from_bits(bits)
@@ -1054,15 +731,9 @@ pub mod sample {
         pub fn get_note(&self) -> Result<text::Reader<'a>>
             ensures { let fields = struct_of S.segments self.now.fields in
                 let pointer = pointer_in fields 6 in
-                ((Denotes pointer nothing → ⊥) → IsViewOf pointer
-                (λ view. Reads pointer (λ form. IsText form view.bytes.now))
-                (Accepts pointer TakesText) (ViewError pointer TextFormError)
-                (FormError pointer TextFormError) result)
+                ((Denotes pointer nothing → ⊥) → IsTextView pointer result)
                 × (Denotes pointer nothing → (let pointer = root_of NOTE_DEFAULT in
-                IsViewOf pointer
-                (λ view. Reads pointer (λ form. IsText form view.bytes.now))
-                (Accepts pointer TakesText) (ViewError pointer TextFormError)
-                (FormError pointer TextFormError) result)) }
+                IsTextView pointer result)) }
         {
             let pointer = self.fields.get_pointer(6);
             if pointer.is_null() {
@@ -1084,19 +755,16 @@ pub mod sample {
         pub fn get_target(&self) -> Result<super::point::Reader<'a, S>>
             ensures { let fields = struct_of S.segments self.now.fields in
                 let pointer = pointer_in fields 7 in
-                ((Denotes pointer nothing → ⊥) → IsViewOf pointer
-                (λ view. IsStruct pointer (struct_of S.segments view.fields))
-                (Accepts pointer TakesStruct) (ViewError pointer StructFormError)
-                (FormError pointer StructFormError) result)
+                ((Denotes pointer nothing → ⊥) → IsStructView pointer
+                (λ view. struct_of S.segments view.fields) result)
                 × (Denotes pointer nothing → (let constant = root_of TARGET_DEFAULT in
-                IsViewOf constant
-                (λ view. IsDefaultData constant pointer (struct_of S.segments view.fields))
-                (Accepts constant TakesStruct) (ViewError constant StructFormError)
-                (FormError constant StructFormError) result)) }
+                IsViewBy constant TakesStruct StructFormError
+                (λ view. IsDefaultData constant pointer
+                (struct_of S.segments view.fields)) result)) }
         {
             let pointer = self.fields.get_pointer(7);
             if pointer.is_null() {
-                match capnp_wire::constant::default_data(&pointer, &TARGET_DEFAULT) {
+                match capnp::constant::default_data(&pointer, &TARGET_DEFAULT) {
                     Ok(fields) => Ok(super::point::Reader { fields }),
                     Err(error) => Err(error),
                 }
@@ -1138,11 +806,7 @@ pub mod sample {
                   | Which.Nothing ↦ number ≡ 0
                   | Which.Size value ↦ (number ≡ 1) × (value ≡ field fields.words 32 4)
                   | Which.Label value ↦ (number ≡ 2) ×
-                      (let pointer = pointer_in fields 5 in
-                      IsViewOf pointer
-                      (λ view. Reads pointer (λ form. IsText form view.bytes.now))
-                      (Accepts pointer TakesText) (ViewError pointer TextFormError)
-                      (FormError pointer TextFormError) value)
+                      (IsTextView (pointer_in fields 5) value)
                   | Which.NotInSchema unknown ↦ (unknown ≡ number) × (3 ≤ number)
                 ] }
         {
@@ -1165,161 +829,20 @@ pub mod sample {
         NotInSchema(u16),
     }
 
-    impl<'a, S: ReaderSegments> FromPointerReader<'a, S> for Reader<'a, S> {
-        ghost shows = { λ pointer view. IsStruct pointer (struct_of S.segments view.fields) };
-
-        ghost accepts = { λ pointer. Accepts pointer TakesStruct };
-
-        ghost fails = { λ pointer kind. ViewError pointer StructFormError kind };
-
-        ghost form_error = { λ pointer kind. FormError pointer StructFormError kind };
+    impl<'a, S: ReaderSegments> upgraded::FromStruct<StructReader<'a, S>> for Reader<'a, S> {
+        ghost shown = { λ view. struct_of S.segments view.fields };
 
         #[inline(always)]
-        fn get_from_pointer(reader: any_pointer::Reader<'a, S>) -> Result<Self>
-            ensures { let pointer = pointer_of S.segments reader.entry in IsViewOf pointer
-                (λ view. IsStruct pointer (struct_of S.segments view.fields))
-                (Accepts pointer TakesStruct) (ViewError pointer StructFormError)
-                (FormError pointer StructFormError) result }
-        {
-            match StructReader::get_from_pointer(reader) {
-                Ok(fields) => Ok(Reader { fields }),
-                Err(error) => Err(error),
-            }
+        fn from_struct(fields: StructReader<'a, S>) -> Reader<'a, S> {
+            Reader { fields }
         }
     }
 
-    /// A list of such structs in a message, or of their first fields where an older writer had these.
-    #[derive(Drop)]
-    pub struct ListReader<'a, S: ReaderSegments> {
-        /// The list whose elements these are.
-        pub elements: upgraded::StructList<'a, S>,
-    }
-
-    impl<'a, S: ReaderSegments> ListReader<'a, S> {
-        /// The number of elements.
-        pub fn len(&self) -> u32
-            ensures { result ≡ length (upgraded_structs_of S.segments self.now.elements).elements }
-        {
-            self.elements.len()
-        }
-
-        /// The element of this index.
-        pub fn get(&self, index: u32) -> Reader<'a, S>
-            requires { index < length (upgraded_structs_of S.segments self.now.elements).elements }
-            ensures { struct_of S.segments result.fields
-                ≡ element_of (upgraded_structs_of S.segments self.now.elements) index }
-        {
-            Reader {
-                fields: self.elements.get(index),
-            }
-        }
-
-        /// The element of this index, or `None` past the last element.
-        pub fn try_get(&self, index: u32) -> Option<Reader<'a, S>>
-            ensures { let list = upgraded_structs_of S.segments self.now.elements in
-                FindsElement (length list.elements) index
-                (λ item. struct_of S.segments item.fields ≡ element_of list index) result }
-        {
-            self.try_index_move(index)
-        }
-
-        /// An iterator over the elements.
-        pub fn iter(&self) -> ListIter<'_, Self>
-            ensures { IsIterator self.now result }
-        {
-            ListIter::new(self)
-        }
-    }
-
-    impl<'a, S: ReaderSegments> IndexMove for ListReader<'a, S> {
-        type Item = Reader<'a, S>;
-
-        ghost Element = { Struct };
-
-        ghost seen = { λ item. struct_of S.segments item.fields };
-
-        ghost size = { λ list. length (upgraded_structs_of S.segments list.elements).elements };
-
-        ghost element = { λ list index.
-            element_of (upgraded_structs_of S.segments list.elements) index };
-
-        fn len(&self) -> u32 {
-            self.len()
-        }
-
-        fn index_move(&self, index: u32) -> Reader<'a, S> {
-            self.get(index)
-        }
-    }
-
-    impl<'l, 'a, S: ReaderSegments> IntoIterator for &'l ListReader<'a, S> {
-        type Item = Reader<'a, S>;
-
-        type IntoIter = ListIter<'l, ListReader<'a, S>>;
-
-        ghost into_iter_gives = { λ list elements. IsIterator list.now elements };
-
-        fn into_iter(self) -> ListIter<'l, ListReader<'a, S>> {
-            self.iter()
-        }
-    }
-
-    impl<'a, S: ReaderSegments> FromPointerReader<'a, S> for ListReader<'a, S> {
-        ghost shows = { λ pointer view.
-            IsUpgradedStructs pointer (upgraded_structs_of S.segments view.elements) };
-
-        ghost accepts = { λ pointer. Accepts pointer TakesAsStructs };
-
-        ghost fails = { λ pointer kind. ViewError pointer ElementsFormError kind };
-
-        ghost form_error = { λ pointer kind. FormError pointer ElementsFormError kind };
-
-        fn get_from_pointer(reader: any_pointer::Reader<'a, S>) -> Result<Self>
-            ensures { let pointer = pointer_of S.segments reader.entry in IsViewOf pointer
-                (λ view. IsUpgradedStructs pointer (upgraded_structs_of S.segments view.elements))
-                (Accepts pointer TakesAsStructs) (ViewError pointer ElementsFormError)
-                (FormError pointer ElementsFormError) result }
-        {
-            match upgraded::StructList::get_from_pointer(reader) {
-                Ok(elements) => Ok(ListReader { elements }),
-                Err(error) => Err(error),
-            }
-        }
-    }
+    /// A list of such structs, or of their first fields where an older writer had these.
+    pub type ListReader<'a, S> = upgraded::Structs<'a, S, Reader<'a, S>>;
 
     /// A list of such structs, as a type of the schema.
-    pub struct OwnedList;
-
-    impl<'a, S: ReaderSegments + 'a> traits::Owned<'a, S> for OwnedList {
-        type Reader = ListReader<'a, S>;
-    }
-
-    // The value is the list of the structs, with all below them.
-    impl<'a, S: ReaderSegments> traits::SetterInput<OwnedList> for ListReader<'a, S> {
-        ghost has_tree = { λ list trees. IsStructListValue S.segments list.elements trees };
-
-        ghost fails = { λ list kind. StructListValueError S.segments list.elements kind };
-
-        ghost one = { λ list trees is. one_struct_list S.segments list.elements trees is };
-
-        fn measure(&self, canonical: bool) -> Result<u32> {
-            traits::SetterInput::measure(&self.elements, canonical)
-        }
-
-        fn is_null(&self) -> bool {
-            false
-        }
-
-        fn write(
-            &self,
-            canonical: bool,
-            block: &mut [u8],
-            following: usize,
-            next: usize,
-        ) -> traits::Copied {
-            traits::SetterInput::write(&self.elements, canonical, block, following, next)
-        }
-    }
+    pub type OwnedList = upgraded::OwnedStructs<Owned>;
 
     /// A struct of this type before it is written. What is not set has its default.
     #[derive(Clone, Copy)]
@@ -1339,12 +862,12 @@ pub mod sample {
             }
         }
 
-        /// A builder with what a reader shows, to be changed and written again. Each object that its
-        /// pointers point to is copied, as an orphan, and null stays null. What a writer of another
-        /// version of the type left out is zero or null; what it had in addition is left out.
+        /// A builder with what a reader shows, to be changed and written again. What its
+        /// pointers point to is copied, as orphans; null stays null. What another version of
+        /// the type left out is zero or null, and what it had in addition is left out.
         ///
-        /// A copy that a setter then replaces stays in the bytes of the message, where no pointer
-        /// points to it. Canonical words of the message are without it.
+        /// A copy that a setter then replaces stays in the bytes of the message, without a
+        /// pointer to it. Canonical words of the message are without it.
         ///
         /// Fails as `Orphanage::set` does, for the first pointer that can't be copied.
         pub fn from_reader<R: ReaderSegments, S: GrowingSegment>(
@@ -1362,8 +885,8 @@ pub mod sample {
             }
         }
 
-        /// A builder with the numbers, bools and enums that a reader shows, as `from_reader` has
-        /// them. Its pointers are null.
+        /// A builder with the numbers, bools and enums that a reader shows, as `from_reader`
+        /// has them. Its pointers are null.
         pub fn from_data_section<R: ReaderSegments>(read: &Reader<'_, R>) -> Builder
             ensures words { result.draft.words
                 ≡ data_up_to (struct_of R.segments read.now.fields) 4 }
@@ -1399,8 +922,8 @@ pub mod sample {
             elements: &[Builder],
             objects: &mut Orphanage<S>,
         ) -> Result<Orphan<OwnedList>>
-            ensures adds { AddsOrphan (HoldsStructs (body_of objects.old)
-                (map (λ element. element.draft) elements.now)) objects.old objects.new word_of result }
+            ensures adds { let drafts = map (λ element. element.draft) elements.now in AddsOrphan
+                (HoldsStructs (body_of objects.old) drafts) objects.old objects.new word_of result }
             ensures writes { let count = length elements.now in
                 Writes (TakesStructsWords 4 9 count) (ManyStructs 4 9 count)
                 objects.old objects.new result }
@@ -1439,7 +962,8 @@ pub mod sample {
         /// Sets the field `balance`.
         pub fn set_balance(&mut self, value: i32)
             ensures words { self.new.draft.words
-                ≡ with_field self.old.draft.words 32 1 (bit_xor (cast_unsigned w32 value) 4294967291) }
+                ≡ with_field self.old.draft.words
+                32 1 (bit_xor (cast_unsigned w32 value) 4294967291) }
             ensures pointers { self.new.draft.pointers ≡ self.old.draft.pointers }
         {
             self.draft.set_data_field_mask(1, value, -5);
@@ -1448,7 +972,8 @@ pub mod sample {
         /// The field `balance`, as it is set.
         pub fn get_balance(&self) -> i32
             ensures { let fields = self.now.draft in
-                result ≡ cast_signed w32 (bit_xor (field fields.words 32 1) 4294967291) }
+                result ≡
+                cast_signed w32 (bit_xor (field fields.words 32 1) 4294967291) }
         {
             self.draft.get_data_field_mask(1, -5)
         }
@@ -1456,7 +981,8 @@ pub mod sample {
         /// Sets the field `isReady`.
         pub fn set_is_ready(&mut self, value: bool)
             ensures words { self.new.draft.words
-                ≡ with_field self.old.draft.words 1 16 (if value then 1 else 0) }
+                ≡ with_field self.old.draft.words
+                1 16 (if value then 1 else 0) }
             ensures pointers { self.new.draft.pointers ≡ self.old.draft.pointers }
         {
             self.draft.set_data_field(16, value);
@@ -1491,7 +1017,7 @@ pub mod sample {
         /// Sets the field `payload`.
         ///
         /// An object that it pointed to before stays in the bytes of the message.
-        pub fn set_payload(&mut self, value: Orphan<capnp_wire::data::Owned>)
+        pub fn set_payload(&mut self, value: Orphan<capnp::data::Owned>)
             ensures words { self.new.draft.words ≡ self.old.draft.words }
             ensures pointers { self.new.draft.pointers
                 ≡ slice_set self.old.draft.pointers 1 value.word }
@@ -1527,7 +1053,7 @@ pub mod sample {
         /// Sets the field `numbers`.
         ///
         /// An object that it pointed to before stays in the bytes of the message.
-        pub fn set_numbers(&mut self, value: Orphan<capnp_wire::primitive_list::Owned<u32>>)
+        pub fn set_numbers(&mut self, value: Orphan<capnp::primitive_list::Owned<u32>>)
             ensures words { self.new.draft.words ≡ self.old.draft.words }
             ensures pointers { self.new.draft.pointers
                 ≡ slice_set self.old.draft.pointers 3 value.word }
@@ -1562,12 +1088,12 @@ pub mod sample {
 
         /// Sets the field `color`.
         pub fn set_color(&mut self, value: Color)
-            ensures words { let words = self.old.draft.words in
-                elim value [
-                  | Color.Red ↦ self.new.draft.words ≡ with_field words 16 4 0
-                  | Color.Green ↦ self.new.draft.words ≡ with_field words 16 4 1
-                  | Color.DeepBlue ↦ self.new.draft.words ≡ with_field words 16 4 2
-                  | Color.NotInSchema unknown ↦ self.new.draft.words ≡ with_field words 16 4 unknown
+            ensures words { let old = self.old.draft.words in
+                let new = self.new.draft.words in elim value [
+                  | Color.Red ↦ new ≡ with_field old 16 4 0
+                  | Color.Green ↦ new ≡ with_field old 16 4 1
+                  | Color.DeepBlue ↦ new ≡ with_field old 16 4 2
+                  | Color.NotInSchema unknown ↦ new ≡ with_field old 16 4 unknown
                 ] }
             ensures pointers { self.new.draft.pointers ≡ self.old.draft.pointers }
         {
@@ -1600,7 +1126,8 @@ pub mod sample {
         /// Sets the field `size`.
         pub fn set_size(&mut self, value: u32)
             ensures words { self.new.draft.words
-                ≡ with_field (with_field self.old.draft.words 16 7 1) 32 4 value }
+                ≡ with_field (with_field self.old.draft.words 16 7 1)
+                32 4 value }
             ensures pointers { self.new.draft.pointers ≡ self.old.draft.pointers }
         {
             self.draft.set_data_field::<u16>(7, 1);
@@ -1638,18 +1165,19 @@ pub mod sample {
         /// Sets the field `ratio`.
         pub fn set_ratio(&mut self, value: f64)
             ensures words { self.new.draft.words
-                ≡ with_field self.old.draft.words 64 3 (bit_xor (to_bits binary64 value) 4602678819172646912) }
+                ≡ with_field self.old.draft.words
+                64 3 (bit_xor (to_bits binary64 value) 4602678819172646912) }
             ensures pointers { self.new.draft.pointers ≡ self.old.draft.pointers }
         {
             let bits = PrimitiveElement::to_bits(value);
-            self.draft
-                .set_data_field_mask::<u64>(3, bits, 4602678819172646912);
+            self.draft.set_data_field_mask::<u64>(3, bits, 4602678819172646912);
         }
 
         /// The field `ratio`, as it is set.
         pub fn get_ratio(&self) -> f64
             ensures { let fields = self.now.draft in
-                result ≡ from_bits binary64 (bit_xor (field fields.words 64 3) 4602678819172646912) }
+                result ≡
+                from_bits binary64 (bit_xor (field fields.words 64 3) 4602678819172646912) }
         {
             let bits: u64 = self.draft.get_data_field_mask(3, 4602678819172646912);
             PrimitiveElement::from_bits(bits)
@@ -1752,12 +1280,9 @@ pub mod sample {
     /// The default of the field `note`.
     pub fn get_note_default() -> Result<text::Reader<'static>>
         ensures { let pointer = root_of NOTE_DEFAULT in
-            IsViewOf pointer
-            (λ view. Reads pointer (λ form. IsText form view.bytes.now))
-            (Accepts pointer TakesText) (ViewError pointer TextFormError)
-            (FormError pointer TextFormError) result }
+            IsTextView pointer result }
     {
-        capnp_wire::constant::view_of(&NOTE_DEFAULT)
+        capnp::constant::view_of(&NOTE_DEFAULT)
     }
 
     #[rattlefmt::skip]
@@ -1775,18 +1300,16 @@ pub mod sample {
     /// The default of the field `target`.
     pub fn get_target_default() -> Result<super::point::Reader<'static, Words<16>>>
         ensures { let pointer = root_of TARGET_DEFAULT in
-            IsViewOf pointer
-            (λ view. IsStruct pointer (struct_of segments_of view.fields))
-            (Accepts pointer TakesStruct) (ViewError pointer StructFormError)
-            (FormError pointer StructFormError) result }
+            IsStructView pointer
+            (λ view. struct_of segments_of view.fields) result }
     {
-        capnp_wire::constant::view_of(&TARGET_DEFAULT)
+        capnp::constant::view_of(&TARGET_DEFAULT)
     }
 
     /// What is seen of it.
     pub mod window {
-        use capnp_frame::message::ReaderSegments;
-        use capnp_wire::any_struct::StructReader;
+        use capnp::any_struct::StructReader;
+        use capnp::message::ReaderSegments;
 
         /// The group, in a struct in a message.
         #[derive(Drop)]
@@ -1852,13 +1375,12 @@ pub mod sample {
 }
 
 /// A circle or a rectangle.
+#[rattlefmt::skip]
 pub mod shape {
-    use capnp_frame::Result;
-    use capnp_frame::message::ReaderSegments;
-    use capnp_orphans::{Draft, GrowingSegment, Orphan, Orphanage, StructDraft};
-    use capnp_wire::any_struct::StructReader;
-    use capnp_wire::traits::{self, FromPointerReader, IndexMove, ListIter};
-    use capnp_wire::{any_pointer, upgraded};
+    use capnp::any_struct::StructReader;
+    use capnp::message::ReaderSegments;
+    use capnp::orphans::{Draft, GrowingSegment, Orphan, Orphanage, StructDraft};
+    use capnp::{Result, traits, upgraded};
 
     /// The type of the schema.
     pub struct Owned;
@@ -1900,8 +1422,10 @@ pub mod shape {
             ensures { let fields = struct_of S.segments self.now.fields in
                 let number = field fields.words 16 4 in
                 elim result [
-                  | Which.Radius value ↦ (number ≡ 0) × (value ≡ from_bits binary64 (field fields.words 64 0))
-                  | Which.Rectangle value ↦ (number ≡ 1) × (struct_of S.segments value.fields.now ≡ fields)
+                  | Which.Radius value ↦ (number ≡ 0) ×
+                      (value ≡ from_bits binary64 (field fields.words 64 0))
+                  | Which.Rectangle value ↦ (number ≡ 1) ×
+                      (struct_of S.segments value.fields.now ≡ fields)
                   | Which.NotInSchema unknown ↦ (unknown ≡ number) × (2 ≤ number)
                 ] }
         {
@@ -1922,161 +1446,20 @@ pub mod shape {
         NotInSchema(u16),
     }
 
-    impl<'a, S: ReaderSegments> FromPointerReader<'a, S> for Reader<'a, S> {
-        ghost shows = { λ pointer view. IsStruct pointer (struct_of S.segments view.fields) };
-
-        ghost accepts = { λ pointer. Accepts pointer TakesStruct };
-
-        ghost fails = { λ pointer kind. ViewError pointer StructFormError kind };
-
-        ghost form_error = { λ pointer kind. FormError pointer StructFormError kind };
+    impl<'a, S: ReaderSegments> upgraded::FromStruct<StructReader<'a, S>> for Reader<'a, S> {
+        ghost shown = { λ view. struct_of S.segments view.fields };
 
         #[inline(always)]
-        fn get_from_pointer(reader: any_pointer::Reader<'a, S>) -> Result<Self>
-            ensures { let pointer = pointer_of S.segments reader.entry in IsViewOf pointer
-                (λ view. IsStruct pointer (struct_of S.segments view.fields))
-                (Accepts pointer TakesStruct) (ViewError pointer StructFormError)
-                (FormError pointer StructFormError) result }
-        {
-            match StructReader::get_from_pointer(reader) {
-                Ok(fields) => Ok(Reader { fields }),
-                Err(error) => Err(error),
-            }
+        fn from_struct(fields: StructReader<'a, S>) -> Reader<'a, S> {
+            Reader { fields }
         }
     }
 
-    /// A list of such structs in a message, or of their first fields where an older writer had these.
-    #[derive(Drop)]
-    pub struct ListReader<'a, S: ReaderSegments> {
-        /// The list whose elements these are.
-        pub elements: upgraded::StructList<'a, S>,
-    }
-
-    impl<'a, S: ReaderSegments> ListReader<'a, S> {
-        /// The number of elements.
-        pub fn len(&self) -> u32
-            ensures { result ≡ length (upgraded_structs_of S.segments self.now.elements).elements }
-        {
-            self.elements.len()
-        }
-
-        /// The element of this index.
-        pub fn get(&self, index: u32) -> Reader<'a, S>
-            requires { index < length (upgraded_structs_of S.segments self.now.elements).elements }
-            ensures { struct_of S.segments result.fields
-                ≡ element_of (upgraded_structs_of S.segments self.now.elements) index }
-        {
-            Reader {
-                fields: self.elements.get(index),
-            }
-        }
-
-        /// The element of this index, or `None` past the last element.
-        pub fn try_get(&self, index: u32) -> Option<Reader<'a, S>>
-            ensures { let list = upgraded_structs_of S.segments self.now.elements in
-                FindsElement (length list.elements) index
-                (λ item. struct_of S.segments item.fields ≡ element_of list index) result }
-        {
-            self.try_index_move(index)
-        }
-
-        /// An iterator over the elements.
-        pub fn iter(&self) -> ListIter<'_, Self>
-            ensures { IsIterator self.now result }
-        {
-            ListIter::new(self)
-        }
-    }
-
-    impl<'a, S: ReaderSegments> IndexMove for ListReader<'a, S> {
-        type Item = Reader<'a, S>;
-
-        ghost Element = { Struct };
-
-        ghost seen = { λ item. struct_of S.segments item.fields };
-
-        ghost size = { λ list. length (upgraded_structs_of S.segments list.elements).elements };
-
-        ghost element = { λ list index.
-            element_of (upgraded_structs_of S.segments list.elements) index };
-
-        fn len(&self) -> u32 {
-            self.len()
-        }
-
-        fn index_move(&self, index: u32) -> Reader<'a, S> {
-            self.get(index)
-        }
-    }
-
-    impl<'l, 'a, S: ReaderSegments> IntoIterator for &'l ListReader<'a, S> {
-        type Item = Reader<'a, S>;
-
-        type IntoIter = ListIter<'l, ListReader<'a, S>>;
-
-        ghost into_iter_gives = { λ list elements. IsIterator list.now elements };
-
-        fn into_iter(self) -> ListIter<'l, ListReader<'a, S>> {
-            self.iter()
-        }
-    }
-
-    impl<'a, S: ReaderSegments> FromPointerReader<'a, S> for ListReader<'a, S> {
-        ghost shows = { λ pointer view.
-            IsUpgradedStructs pointer (upgraded_structs_of S.segments view.elements) };
-
-        ghost accepts = { λ pointer. Accepts pointer TakesAsStructs };
-
-        ghost fails = { λ pointer kind. ViewError pointer ElementsFormError kind };
-
-        ghost form_error = { λ pointer kind. FormError pointer ElementsFormError kind };
-
-        fn get_from_pointer(reader: any_pointer::Reader<'a, S>) -> Result<Self>
-            ensures { let pointer = pointer_of S.segments reader.entry in IsViewOf pointer
-                (λ view. IsUpgradedStructs pointer (upgraded_structs_of S.segments view.elements))
-                (Accepts pointer TakesAsStructs) (ViewError pointer ElementsFormError)
-                (FormError pointer ElementsFormError) result }
-        {
-            match upgraded::StructList::get_from_pointer(reader) {
-                Ok(elements) => Ok(ListReader { elements }),
-                Err(error) => Err(error),
-            }
-        }
-    }
+    /// A list of such structs, or of their first fields where an older writer had these.
+    pub type ListReader<'a, S> = upgraded::Structs<'a, S, Reader<'a, S>>;
 
     /// A list of such structs, as a type of the schema.
-    pub struct OwnedList;
-
-    impl<'a, S: ReaderSegments + 'a> traits::Owned<'a, S> for OwnedList {
-        type Reader = ListReader<'a, S>;
-    }
-
-    // The value is the list of the structs, with all below them.
-    impl<'a, S: ReaderSegments> traits::SetterInput<OwnedList> for ListReader<'a, S> {
-        ghost has_tree = { λ list trees. IsStructListValue S.segments list.elements trees };
-
-        ghost fails = { λ list kind. StructListValueError S.segments list.elements kind };
-
-        ghost one = { λ list trees is. one_struct_list S.segments list.elements trees is };
-
-        fn measure(&self, canonical: bool) -> Result<u32> {
-            traits::SetterInput::measure(&self.elements, canonical)
-        }
-
-        fn is_null(&self) -> bool {
-            false
-        }
-
-        fn write(
-            &self,
-            canonical: bool,
-            block: &mut [u8],
-            following: usize,
-            next: usize,
-        ) -> traits::Copied {
-            traits::SetterInput::write(&self.elements, canonical, block, following, next)
-        }
-    }
+    pub type OwnedList = upgraded::OwnedStructs<Owned>;
 
     /// A struct of this type before it is written. What is not set has its default.
     #[derive(Clone, Copy)]
@@ -2096,12 +1479,12 @@ pub mod shape {
             }
         }
 
-        /// A builder with what a reader shows, to be changed and written again. Each object that its
-        /// pointers point to is copied, as an orphan, and null stays null. What a writer of another
-        /// version of the type left out is zero or null; what it had in addition is left out.
+        /// A builder with what a reader shows, to be changed and written again. What its
+        /// pointers point to is copied, as orphans; null stays null. What another version of
+        /// the type left out is zero or null, and what it had in addition is left out.
         ///
-        /// A copy that a setter then replaces stays in the bytes of the message, where no pointer
-        /// points to it. Canonical words of the message are without it.
+        /// A copy that a setter then replaces stays in the bytes of the message, without a
+        /// pointer to it. Canonical words of the message are without it.
         ///
         /// Fails as `Orphanage::set` does, for the first pointer that can't be copied.
         pub fn from_reader<R: ReaderSegments, S: GrowingSegment>(
@@ -2119,8 +1502,8 @@ pub mod shape {
             }
         }
 
-        /// A builder with the numbers, bools and enums that a reader shows, as `from_reader` has
-        /// them. Its pointers are null.
+        /// A builder with the numbers, bools and enums that a reader shows, as `from_reader`
+        /// has them. Its pointers are null.
         pub fn from_data_section<R: ReaderSegments>(read: &Reader<'_, R>) -> Builder
             ensures words { result.draft.words
                 ≡ data_up_to (struct_of R.segments read.now.fields) 2 }
@@ -2156,8 +1539,8 @@ pub mod shape {
             elements: &[Builder],
             objects: &mut Orphanage<S>,
         ) -> Result<Orphan<OwnedList>>
-            ensures adds { AddsOrphan (HoldsStructs (body_of objects.old)
-                (map (λ element. element.draft) elements.now)) objects.old objects.new word_of result }
+            ensures adds { let drafts = map (λ element. element.draft) elements.now in AddsOrphan
+                (HoldsStructs (body_of objects.old) drafts) objects.old objects.new word_of result }
             ensures writes { let count = length elements.now in
                 Writes (TakesStructsWords 2 1 count) (ManyStructs 2 1 count)
                 objects.old objects.new result }
@@ -2178,7 +1561,8 @@ pub mod shape {
         /// Sets the field `radius`.
         pub fn set_radius(&mut self, value: f64)
             ensures words { self.new.draft.words
-                ≡ with_field (with_field self.old.draft.words 16 4 0) 64 0 (to_bits binary64 value) }
+                ≡ with_field (with_field self.old.draft.words 16 4 0)
+                64 0 (to_bits binary64 value) }
             ensures pointers { self.new.draft.pointers ≡ self.old.draft.pointers }
         {
             self.draft.set_data_field::<u16>(4, 0);
@@ -2196,11 +1580,10 @@ pub mod shape {
 
     /// Its sides, and what stands in it.
     pub mod rectangle {
-        use capnp_frame::Result;
-        use capnp_frame::message::ReaderSegments;
-        use capnp_orphans::Orphan;
-        use capnp_wire::any_struct::StructReader;
-        use capnp_wire::text;
+        use capnp::any_struct::StructReader;
+        use capnp::message::ReaderSegments;
+        use capnp::orphans::Orphan;
+        use capnp::{Result, text};
 
         /// The group, in a struct in a message.
         #[derive(Drop)]
@@ -2237,11 +1620,7 @@ pub mod shape {
             /// The field `label`.
             pub fn get_label(&self) -> Result<text::Reader<'a>>
                 ensures { let fields = struct_of S.segments self.now.fields.now in
-                    let pointer = pointer_in fields 0 in
-                    IsViewOf pointer
-                    (λ view. Reads pointer (λ form. IsText form view.bytes.now))
-                    (Accepts pointer TakesText) (ViewError pointer TextFormError)
-                    (FormError pointer TextFormError) result }
+                    IsTextView (pointer_in fields 0) result }
             {
                 self.fields.get_pointer_as(0)
             }
@@ -2256,8 +1635,8 @@ pub mod shape {
         }
 
         impl super::Builder {
-            /// Selects the group `rectangle`, and clears what is in it: each field has its default, and each
-            /// pointer is null.
+            /// Selects the group `rectangle`, and clears it: each field has its default, and each pointer
+            /// is null.
             pub fn init_rectangle(&mut self)
                 ensures words { self.new.draft.words
                     ≡ (with_field (with_field (with_field (with_field self.old.draft.words 16 4 1)
@@ -2277,7 +1656,8 @@ pub mod shape {
             /// Sets the field `width`.
             pub fn set_rectangle_width(&mut self, value: u32)
                 ensures words { self.new.draft.words
-                    ≡ with_field (with_field self.old.draft.words 16 4 1) 32 0 value }
+                    ≡ with_field (with_field self.old.draft.words 16 4 1)
+                    32 0 value }
                 ensures pointers { self.new.draft.pointers ≡ self.old.draft.pointers }
             {
                 self.draft.set_data_field::<u16>(4, 1);
@@ -2295,7 +1675,8 @@ pub mod shape {
             /// Sets the field `height`.
             pub fn set_rectangle_height(&mut self, value: u32)
                 ensures words { self.new.draft.words
-                    ≡ with_field (with_field self.old.draft.words 16 4 1) 32 1 value }
+                    ≡ with_field (with_field self.old.draft.words 16 4 1)
+                    32 1 value }
                 ensures pointers { self.new.draft.pointers ≡ self.old.draft.pointers }
             {
                 self.draft.set_data_field::<u16>(4, 1);
@@ -2313,7 +1694,8 @@ pub mod shape {
             /// Sets the field `isFilled`.
             pub fn set_rectangle_is_filled(&mut self, value: bool)
                 ensures words { self.new.draft.words
-                    ≡ with_field (with_field self.old.draft.words 16 4 1) 1 80 (if value then 1 else 0) }
+                    ≡ with_field (with_field self.old.draft.words 16 4 1)
+                    1 80 (if value then 1 else 0) }
                 ensures pointers { self.new.draft.pointers ≡ self.old.draft.pointers }
             {
                 self.draft.set_data_field::<u16>(4, 1);
@@ -2355,14 +1737,14 @@ pub mod shape {
 }
 
 /// Colors, and a name for each.
+#[rattlefmt::skip]
 pub mod palette {
-    use capnp_frame::Result;
-    use capnp_frame::message::ReaderSegments;
-    use capnp_orphans::{Draft, GrowingSegment, Orphan, Orphanage, StructDraft};
-    use capnp_wire::any_struct::StructReader;
-    use capnp_wire::constant::{OrDefault, Words};
-    use capnp_wire::traits::{self, FromPointerReader, IndexMove, ListIter};
-    use capnp_wire::{any_pointer, text, upgraded};
+    use capnp::any_struct::StructReader;
+    use capnp::constant::{OrDefault, Words};
+    use capnp::message::ReaderSegments;
+    use capnp::orphans::{Draft, GrowingSegment, Orphan, Orphanage, StructDraft};
+    use capnp::traits::FromPointerReader;
+    use capnp::{Result, text, traits, upgraded};
 
     /// The type of the schema.
     pub struct Owned;
@@ -2382,12 +1764,10 @@ pub mod palette {
         /// The field `colors`.
         pub fn get_colors(&self) -> Result<upgraded::EnumList<'a, super::Color>>
             ensures { let fields = struct_of S.segments self.now.fields in
-                let pointer = pointer_in fields 0 in
-                IsViewOf pointer
+                let pointer = (pointer_in fields 0) in
+                IsViewBy pointer (TakesFields 3) (FieldsFormError 3)
                 (λ view. Reads pointer (λ form.
-                ReadsAsNumbers 3 form (upgraded_numbers_of 3 view.numbers)))
-                (Accepts pointer (TakesFields 3)) (ViewError pointer (FieldsFormError 3))
-                (FormError pointer (FieldsFormError 3)) result }
+                ReadsAsNumbers 3 form (upgraded_numbers_of 3 view.numbers))) result }
         {
             self.fields.get_pointer_as(0)
         }
@@ -2401,26 +1781,21 @@ pub mod palette {
         }
 
         /// The field `names`.
-        pub fn get_names(
-            &self,
-        ) -> OrDefault<
-            upgraded::ListList<'a, S, text::Reader<'a>>,
-            upgraded::ListList<'static, Words<24>, text::Reader<'static>>,
-        >
+        pub fn get_names(&self) -> OrDefault<upgraded::ListList<'a, S, text::Reader<'a>>, upgraded::ListList<'static, Words<24>, text::Reader<'static>>>
             ensures { let fields = struct_of S.segments self.now.fields in
                 let pointer = pointer_in fields 1 in
                 elim result [
                   | OrDefault.Stored view ↦ (Denotes pointer nothing → ⊥) ×
-                      (IsViewOf pointer
-                      (λ view. IsUpgradedPointers pointer (upgraded_pointers_of S.segments view.pointers))
-                      (Accepts pointer TakesFirstPointers) (ViewError pointer FirstPointersFormError)
-                      (FormError pointer FirstPointersFormError) view)
+                      (let pointer = pointer in
+                      IsViewBy pointer TakesFirstPointers FirstPointersFormError
+                      (λ view. IsUpgradedPointers pointer
+                      (upgraded_pointers_of S.segments view.pointers)) view)
                   | OrDefault.Default view ↦ Denotes pointer nothing ×
                       (let pointer = root_of NAMES_DEFAULT in
-                      IsViewOf pointer
-                      (λ view. IsUpgradedPointers pointer (upgraded_pointers_of segments_of view.pointers))
-                      (Accepts pointer TakesFirstPointers) (ViewError pointer FirstPointersFormError)
-                      (FormError pointer FirstPointersFormError) view)
+                      let pointer = pointer in
+                      IsViewBy pointer TakesFirstPointers FirstPointersFormError
+                      (λ view. IsUpgradedPointers pointer
+                      (upgraded_pointers_of segments_of view.pointers)) view)
                 ] }
         {
             let pointer = self.fields.get_pointer(1);
@@ -2440,161 +1815,20 @@ pub mod palette {
         }
     }
 
-    impl<'a, S: ReaderSegments> FromPointerReader<'a, S> for Reader<'a, S> {
-        ghost shows = { λ pointer view. IsStruct pointer (struct_of S.segments view.fields) };
-
-        ghost accepts = { λ pointer. Accepts pointer TakesStruct };
-
-        ghost fails = { λ pointer kind. ViewError pointer StructFormError kind };
-
-        ghost form_error = { λ pointer kind. FormError pointer StructFormError kind };
+    impl<'a, S: ReaderSegments> upgraded::FromStruct<StructReader<'a, S>> for Reader<'a, S> {
+        ghost shown = { λ view. struct_of S.segments view.fields };
 
         #[inline(always)]
-        fn get_from_pointer(reader: any_pointer::Reader<'a, S>) -> Result<Self>
-            ensures { let pointer = pointer_of S.segments reader.entry in IsViewOf pointer
-                (λ view. IsStruct pointer (struct_of S.segments view.fields))
-                (Accepts pointer TakesStruct) (ViewError pointer StructFormError)
-                (FormError pointer StructFormError) result }
-        {
-            match StructReader::get_from_pointer(reader) {
-                Ok(fields) => Ok(Reader { fields }),
-                Err(error) => Err(error),
-            }
+        fn from_struct(fields: StructReader<'a, S>) -> Reader<'a, S> {
+            Reader { fields }
         }
     }
 
-    /// A list of such structs in a message, or of their first fields where an older writer had these.
-    #[derive(Drop)]
-    pub struct ListReader<'a, S: ReaderSegments> {
-        /// The list whose elements these are.
-        pub elements: upgraded::StructList<'a, S>,
-    }
-
-    impl<'a, S: ReaderSegments> ListReader<'a, S> {
-        /// The number of elements.
-        pub fn len(&self) -> u32
-            ensures { result ≡ length (upgraded_structs_of S.segments self.now.elements).elements }
-        {
-            self.elements.len()
-        }
-
-        /// The element of this index.
-        pub fn get(&self, index: u32) -> Reader<'a, S>
-            requires { index < length (upgraded_structs_of S.segments self.now.elements).elements }
-            ensures { struct_of S.segments result.fields
-                ≡ element_of (upgraded_structs_of S.segments self.now.elements) index }
-        {
-            Reader {
-                fields: self.elements.get(index),
-            }
-        }
-
-        /// The element of this index, or `None` past the last element.
-        pub fn try_get(&self, index: u32) -> Option<Reader<'a, S>>
-            ensures { let list = upgraded_structs_of S.segments self.now.elements in
-                FindsElement (length list.elements) index
-                (λ item. struct_of S.segments item.fields ≡ element_of list index) result }
-        {
-            self.try_index_move(index)
-        }
-
-        /// An iterator over the elements.
-        pub fn iter(&self) -> ListIter<'_, Self>
-            ensures { IsIterator self.now result }
-        {
-            ListIter::new(self)
-        }
-    }
-
-    impl<'a, S: ReaderSegments> IndexMove for ListReader<'a, S> {
-        type Item = Reader<'a, S>;
-
-        ghost Element = { Struct };
-
-        ghost seen = { λ item. struct_of S.segments item.fields };
-
-        ghost size = { λ list. length (upgraded_structs_of S.segments list.elements).elements };
-
-        ghost element = { λ list index.
-            element_of (upgraded_structs_of S.segments list.elements) index };
-
-        fn len(&self) -> u32 {
-            self.len()
-        }
-
-        fn index_move(&self, index: u32) -> Reader<'a, S> {
-            self.get(index)
-        }
-    }
-
-    impl<'l, 'a, S: ReaderSegments> IntoIterator for &'l ListReader<'a, S> {
-        type Item = Reader<'a, S>;
-
-        type IntoIter = ListIter<'l, ListReader<'a, S>>;
-
-        ghost into_iter_gives = { λ list elements. IsIterator list.now elements };
-
-        fn into_iter(self) -> ListIter<'l, ListReader<'a, S>> {
-            self.iter()
-        }
-    }
-
-    impl<'a, S: ReaderSegments> FromPointerReader<'a, S> for ListReader<'a, S> {
-        ghost shows = { λ pointer view.
-            IsUpgradedStructs pointer (upgraded_structs_of S.segments view.elements) };
-
-        ghost accepts = { λ pointer. Accepts pointer TakesAsStructs };
-
-        ghost fails = { λ pointer kind. ViewError pointer ElementsFormError kind };
-
-        ghost form_error = { λ pointer kind. FormError pointer ElementsFormError kind };
-
-        fn get_from_pointer(reader: any_pointer::Reader<'a, S>) -> Result<Self>
-            ensures { let pointer = pointer_of S.segments reader.entry in IsViewOf pointer
-                (λ view. IsUpgradedStructs pointer (upgraded_structs_of S.segments view.elements))
-                (Accepts pointer TakesAsStructs) (ViewError pointer ElementsFormError)
-                (FormError pointer ElementsFormError) result }
-        {
-            match upgraded::StructList::get_from_pointer(reader) {
-                Ok(elements) => Ok(ListReader { elements }),
-                Err(error) => Err(error),
-            }
-        }
-    }
+    /// A list of such structs, or of their first fields where an older writer had these.
+    pub type ListReader<'a, S> = upgraded::Structs<'a, S, Reader<'a, S>>;
 
     /// A list of such structs, as a type of the schema.
-    pub struct OwnedList;
-
-    impl<'a, S: ReaderSegments + 'a> traits::Owned<'a, S> for OwnedList {
-        type Reader = ListReader<'a, S>;
-    }
-
-    // The value is the list of the structs, with all below them.
-    impl<'a, S: ReaderSegments> traits::SetterInput<OwnedList> for ListReader<'a, S> {
-        ghost has_tree = { λ list trees. IsStructListValue S.segments list.elements trees };
-
-        ghost fails = { λ list kind. StructListValueError S.segments list.elements kind };
-
-        ghost one = { λ list trees is. one_struct_list S.segments list.elements trees is };
-
-        fn measure(&self, canonical: bool) -> Result<u32> {
-            traits::SetterInput::measure(&self.elements, canonical)
-        }
-
-        fn is_null(&self) -> bool {
-            false
-        }
-
-        fn write(
-            &self,
-            canonical: bool,
-            block: &mut [u8],
-            following: usize,
-            next: usize,
-        ) -> traits::Copied {
-            traits::SetterInput::write(&self.elements, canonical, block, following, next)
-        }
-    }
+    pub type OwnedList = upgraded::OwnedStructs<Owned>;
 
     /// A struct of this type before it is written. What is not set has its default.
     #[derive(Clone, Copy)]
@@ -2614,12 +1848,12 @@ pub mod palette {
             }
         }
 
-        /// A builder with what a reader shows, to be changed and written again. Each object that its
-        /// pointers point to is copied, as an orphan, and null stays null. What a writer of another
-        /// version of the type left out is zero or null; what it had in addition is left out.
+        /// A builder with what a reader shows, to be changed and written again. What its
+        /// pointers point to is copied, as orphans; null stays null. What another version of
+        /// the type left out is zero or null, and what it had in addition is left out.
         ///
-        /// A copy that a setter then replaces stays in the bytes of the message, where no pointer
-        /// points to it. Canonical words of the message are without it.
+        /// A copy that a setter then replaces stays in the bytes of the message, without a
+        /// pointer to it. Canonical words of the message are without it.
         ///
         /// Fails as `Orphanage::set` does, for the first pointer that can't be copied.
         pub fn from_reader<R: ReaderSegments, S: GrowingSegment>(
@@ -2637,8 +1871,8 @@ pub mod palette {
             }
         }
 
-        /// A builder with the numbers, bools and enums that a reader shows, as `from_reader` has
-        /// them. Its pointers are null.
+        /// A builder with the numbers, bools and enums that a reader shows, as `from_reader`
+        /// has them. Its pointers are null.
         pub fn from_data_section<R: ReaderSegments>(read: &Reader<'_, R>) -> Builder
             ensures words { result.draft.words
                 ≡ data_up_to (struct_of R.segments read.now.fields) 0 }
@@ -2674,8 +1908,8 @@ pub mod palette {
             elements: &[Builder],
             objects: &mut Orphanage<S>,
         ) -> Result<Orphan<OwnedList>>
-            ensures adds { AddsOrphan (HoldsStructs (body_of objects.old)
-                (map (λ element. element.draft) elements.now)) objects.old objects.new word_of result }
+            ensures adds { let drafts = map (λ element. element.draft) elements.now in AddsOrphan
+                (HoldsStructs (body_of objects.old) drafts) objects.old objects.new word_of result }
             ensures writes { let count = length elements.now in
                 Writes (TakesStructsWords 0 2 count) (ManyStructs 0 2 count)
                 objects.old objects.new result }
@@ -2696,7 +1930,7 @@ pub mod palette {
         /// Sets the field `colors`.
         ///
         /// An object that it pointed to before stays in the bytes of the message.
-        pub fn set_colors(&mut self, value: Orphan<capnp_wire::primitive_list::Owned<u16>>)
+        pub fn set_colors(&mut self, value: Orphan<capnp::primitive_list::Owned<u16>>)
             ensures words { self.new.draft.words ≡ self.old.draft.words }
             ensures pointers { self.new.draft.pointers
                 ≡ slice_set self.old.draft.pointers 0 value.word }
@@ -2714,7 +1948,7 @@ pub mod palette {
         /// Sets the field `names`.
         ///
         /// An object that it pointed to before stays in the bytes of the message.
-        pub fn set_names(&mut self, value: Orphan<capnp_wire::list_list::Owned<text::Owned>>)
+        pub fn set_names(&mut self, value: Orphan<capnp::list_list::Owned<text::Owned>>)
             ensures words { self.new.draft.words ≡ self.old.draft.words }
             ensures pointers { self.new.draft.pointers
                 ≡ slice_set self.old.draft.pointers 1 value.word }
@@ -2751,15 +1985,13 @@ pub mod palette {
     {}
 
     /// The default of the field `names`.
-    pub fn get_names_default() -> Result<
-        upgraded::ListList<'static, Words<24>, text::Reader<'static>>,
-    >
+    pub fn get_names_default() -> Result<upgraded::ListList<'static, Words<24>, text::Reader<'static>>>
         ensures { let pointer = root_of NAMES_DEFAULT in
-            IsViewOf pointer
-            (λ view. IsUpgradedPointers pointer (upgraded_pointers_of segments_of view.pointers))
-            (Accepts pointer TakesFirstPointers) (ViewError pointer FirstPointersFormError)
-            (FormError pointer FirstPointersFormError) result }
+            let pointer = pointer in
+            IsViewBy pointer TakesFirstPointers FirstPointersFormError
+            (λ view. IsUpgradedPointers pointer
+            (upgraded_pointers_of segments_of view.pointers)) result }
     {
-        capnp_wire::constant::view_of(&NAMES_DEFAULT)
+        capnp::constant::view_of(&NAMES_DEFAULT)
     }
 }
