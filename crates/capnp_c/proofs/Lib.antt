@@ -1,5 +1,7 @@
 -- The lemmas.
 pub mod UniqueFrontMessageLemmas
+pub mod MessageSizeFromTableLemmas
+pub mod PackedTableSizeLemmas
 pub mod UniqueCanonicalFormOutcomeLemmas
 pub mod PackMessageIntoBufferLemmas
 pub mod PackWordsIntoBufferLemmas

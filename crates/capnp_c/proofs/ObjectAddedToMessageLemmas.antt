@@ -1,6 +1,6 @@
 -- What adding an object to a message returns and leaves: where the builder is of another region, where the object
 -- can't be written, where there is no room for it, and where it is added.
-use Rattle.std.proofs.Common.{◌≡◌, ℕ, ◌+◌, ◌-◌, ◌*◌, ◌<◌, List, length, drop, Ok, Err, refl, sym, ap, subst, arith}
+use Rattle.std.proofs.Common.{◌≡◌, ℕ, ◌+◌, ◌-◌, ◌*◌, ◌<◌, List, length, take, drop, Ok, Err, refl, sym, ap, subst, arith}
 use Rattle.std.specs.Prelude.{Result}
 use Rattle.capnp_frame.specs.declared.error.Error.{Error}
 use Rattle.capnp_frame.specs.declared.error.ErrorKind.{ErrorKind}
@@ -32,6 +32,7 @@ no_builder_adds takes fails holds builder region denied = record {
   long = λ is. absurd (denied is);
   full = λ is. absurd (denied is);
   errors = λ is. absurd (denied is);
+  table = refl;
   len = refl;
   stays = λ some. (refl, refl, refl);
 }
@@ -51,6 +52,7 @@ fails_adding takes fails holds builder region result is some never long full err
   long = λ there. long;
   full = λ there. full;
   errors = λ there. errors;
+  table = refl;
   len = refl;
   stays = λ more. (refl, refl, refl);
 }
@@ -82,9 +84,9 @@ full_region_adds takes fails holds builder region words is one never short full 
 -- it is added
 pub object_added : (takes : ℕ → Type 0) (fails : ErrorKind → Type 0) (holds : List ℕ → List ℕ → ℕ → Type 0) (old new : LinsjoarBuilder) (before after : List ℕ) (words orphan : ℕ) → IsBuilder old before
     → takes words → ((kind : ErrorKind) → fails kind → ⊥) → ((other : ℕ) → takes other → other ≡ words) → (IsTooLong old words → ⊥) → HasRoomFor old before words
-    → AppendsInRegion holds words (old.used - 8) (drop 8 before) (drop 8 after) orphan → new.used ≡ old.used + 8 * words → length after ≡ length before
+    → AppendsInRegion holds words (old.used - 8) (drop 8 before) (drop 8 after) orphan → new.used ≡ old.used + 8 * words → take 8 after ≡ take 8 before → length after ≡ length before
     → Adds takes fails holds old new before after orphan 0
-object_added takes fails holds old new before after words orphan is own never one short room appends used_is long =
+object_added takes fails holds old new before after words orphan is own never one short room appends used_is table long =
     let end : old.used - 8 + 8 * words ≡ new.used - 8 = omega (arith, used_is, is.0) in
     let object = subst (λ (n : ℕ). AppendsObject holds words (segment_of old before) (segment_in (drop 8 after) n) (Ok orphan)) end appends.appended in
     record {
@@ -97,6 +99,7 @@ object_added takes fails holds old new before after words orphan is own never on
       long = λ there other taken past_most. absurd (short (subst (λ (n : ℕ). IsTooLong old n) (one other taken) past_most));
       full = λ there other taken below full. absurd (full (subst (λ (n : ℕ). HasRoomFor old before n) (sym (one other taken)) room));
       errors = λ there kind fail. absurd (never kind fail);
+      table = table;
       len = long;
       stays = λ more. absurd (omega (arith, more));
     }

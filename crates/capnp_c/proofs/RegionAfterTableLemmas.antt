@@ -20,6 +20,13 @@ after_table region last room =
     ∙ ap (λ (n : ℕ). drop n (take 8 region ++ last)) (sym front)
     ∙ drop-append_seam (take 8 region) last
 
+-- the table before it stays
+pub table_stays : (region last : List ℕ) → 8 ≤ length region → take 8 (take 8 region ++ (last ++ drop (length region - 8) (drop 8 region))) ≡ take 8 region
+table_stays region last room =
+    let rest : List ℕ = last ++ drop (length region - 8) (drop 8 region) in
+    let front : length (take 8 region) ≡ 8 = omega (arith, length-take 8 region, room) in
+    ap (λ (n : ℕ). take n (take 8 region ++ rest)) (sym front) ∙ take-append_seam (take 8 region) rest
+
 -- and the region is as long as before
 pub whole_after_table : (region last : List ℕ) → 8 ≤ length region → length last ≡ length region - 8 → length (take 8 region ++ (last ++ drop (length region - 8) (drop 8 region))) ≡ length region
 whole_after_table region last room long =
@@ -52,11 +59,12 @@ not_begun region less = record {
 
 -- the root of the segment is set
 pub root_set : (builder : LinsjoarBuilder) (before after : List ℕ) (orphan : ℕ) → IsBuilder builder before → SetsRootInRegion orphan (builder.used - 8) (drop 8 before) (drop 8 after)
-    → length after ≡ length before → SetsRoot builder before after orphan 0
-root_set builder before after orphan is sets long = record {
+    → take 8 after ≡ take 8 before → length after ≡ length before → SetsRoot builder before after orphan 0
+root_set builder before after orphan is sets table long = record {
   no_builder = λ other. absurd (other is);
   accepted = λ there. refl;
   root_is = λ zero. ((is.0, sets.continued), sets.root_is);
+  table = table;
   len = long;
   stays = λ some. absurd (omega (arith, some));
 }
@@ -66,6 +74,7 @@ no_builder_sets builder region orphan denied = record {
   no_builder = λ other. refl;
   accepted = λ is. absurd (denied is);
   root_is = λ zero. absurd (omega (arith, zero));
+  table = refl;
   len = refl;
   stays = λ some. refl;
 }

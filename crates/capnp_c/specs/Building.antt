@@ -43,6 +43,8 @@ pub record Adds (takes : ℕ → Type 0) (fails : ErrorKind → Type 0) (holds :
   pub long : IsBuilder old before → (words : ℕ) → takes words → IsTooLong old words → result ≡ 15
   pub full : IsBuilder old before → (words : ℕ) → takes words → (IsTooLong old words → ⊥) → (HasRoomFor old before words → ⊥) → result ≡ 2
   pub errors : IsBuilder old before → (kind : ErrorKind) → fails kind → result ≡ kind_number kind
+  -- the table stays, so that a finished message does
+  pub table : take 8 after ≡ take 8 before
   pub len : length after ≡ length before
   -- where it fails nothing changes
   pub stays : 0 < result → (new ≡ old) × (after ≡ before) × (orphan ≡ 0)
@@ -67,6 +69,8 @@ pub record SetsRoot (builder : LinsjoarBuilder) (before after : List ℕ) (orpha
   pub no_builder : (IsBuilder builder before → ⊥) → result ≡ 27
   pub accepted : IsBuilder builder before → result ≡ 0
   pub root_is : result ≡ 0 → IsBuilder builder after × SetsRootOrphan orphan (segment_of builder before) (segment_of builder after)
+  -- the table stays
+  pub table : take 8 after ≡ take 8 before
   pub len : length after ≡ length before
   pub stays : 0 < result → after ≡ before
 

@@ -3,6 +3,7 @@ pub mod Options
 pub mod Fronts
 pub mod Packing
 pub mod Exports
+pub mod Sizes
 pub mod Reading
 pub mod Entering
 pub mod ReadingExports

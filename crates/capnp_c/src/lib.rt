@@ -3,7 +3,7 @@
 //!
 //! Each export works over caller-provided buffers, and takes no memory. It returns 0, or the number
 //! of an error (docs/FORMAT.md). An export that reads a message within limits has a twin
-//! `.._with_options`, to which they are passed. `capnp_c.h` declares them.
+//! `.._with_options`, to which they are passed. `linsjoar.h` declares them.
 #![tactic(auto)]
 
 mod building;
@@ -14,3 +14,5 @@ mod packed;
 mod packed_messages;
 mod provided_buffer;
 mod reading;
+mod sizes;
+mod table;

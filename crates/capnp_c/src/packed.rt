@@ -82,7 +82,7 @@ pub extern "C" fn linsjoar_unpack(encoding: &[u8], words: &mut [u8], read: &mut 
 }
 
 // Fills `words` with the words that are packed in a source.
-fn unpack_from<R: BufRead>(source: &mut R, words: &mut [u8]) -> Result<()>
+pub(crate) fn unpack_from<R: BufRead>(source: &mut R, words: &mut [u8]) -> Result<()>
     ensures given { OnOk result (IfKnown (R.unread source.old) (R.unread source.new)
         (λ raw rest. Unpacks raw (length words.new) words.new rest)) }
     ensures failed { IfErr result (λ error. error.kind ≡ ErrorKind.DeviceFailed →

@@ -7,26 +7,12 @@ use Rattle.std.specs.Prelude.{sum, slice_get}
 use Rattle.capnp_frame.specs.Prelude.{table_field, table_size, number, declared_lengths, declared_segments}
 use Rattle.capnp_frame.proofs.encodings.DeclaredMessageIsFrontFrameLemmas.{length-declared_segments}
 use Rattle.capnp_frame.proofs.tables.TableDeclaredByFieldsLemmas.{number_at, numbers-take, number-table_field}
-use Rattle.capnp_frame.proofs.tables.SegmentRangeLemmas.{cut_at, sum-declared}
+use Rattle.capnp_frame.proofs.tables.SegmentRangeLemmas.{cut_at}
 use Rattle.capnp_layout.specs.Prelude.{message_of, words_of, words_from}
 use Rattle.capnp_layout.proofs.words.WordAtPlaceLemmas.{segment_is_there, no_segment_is_there}
 use Rattle.capnp_layout.proofs.words.PutBytesAsWordsLemmas.{words_part}
 use Rattle.capnp_layout.proofs.words.WordsOfBytesLemmas.{length-words_of}
 use Rattle.capnp_c.specs.Reading.{start_of}
-
--- the next segment begins after a length that is read
-next_start : (count : ℕ) (bytes : List ℕ) (index words : ℕ) → words < 2 ^ 32
-    → table_field words ≡ take 4 (drop (4 * (index + 1)) bytes) → start_of count bytes index + 8 * words ≡ start_of count bytes (index + 1)
-next_start count bytes index words fits read =
-    let more = sum-declared bytes index in
-    let is = number-table_field words (drop (4 * (index + 1)) bytes) fits read in
-    omega (arith, more, is)
-
-pub rest_after : (count : ℕ) (bytes rest : List ℕ) (index words : ℕ) → rest ≡ drop (start_of count bytes index) bytes → words < 2 ^ 32
-    → table_field words ≡ take 4 (drop (4 * (index + 1)) bytes) → drop (8 * words) rest ≡ drop (start_of count bytes (index + 1)) bytes
-rest_after count bytes rest index words is fits read =
-    ap (drop (8 * words)) is ∙ drop-drop (8 * words) (start_of count bytes index) bytes
-    ∙ ap (λ k. drop k bytes) (next_start count bytes index words fits read)
 
 -- the segment at an index has as many words as its field says, or ends with the bytes
 pub segment_at : (count : ℕ) (bytes : List ℕ) (id : ℕ) → id < count

@@ -74,6 +74,7 @@ pub(crate) fn append_after_table<O: Object>(
     requires room { used + 8 * words ≤ length (drop 8 region.old) }
     ensures appends { AppendsInRegion (O.holds object.now) words used (drop 8 region.old)
         (drop 8 region.new) result }
+    ensures table { take 8 region.new ≡ take 8 region.old }
     ensures len { length region.new ≡ length region.old }
 {
     append(&mut region[TABLE..], used, words, object)
@@ -96,6 +97,7 @@ fn set_root_after_table(region: &mut [u8], used: usize, orphan: u64)
     requires table { 8 ≤ length region.old }
     requires used { IsUsed (drop 8 region.old) used }
     ensures root { SetsRootInRegion orphan used (drop 8 region.old) (drop 8 region.new) }
+    ensures table { take 8 region.new ≡ take 8 region.old }
     ensures len { length region.new ≡ length region.old }
 {
     set_root(&mut region[TABLE..], used, orphan);

@@ -1,13 +1,14 @@
 //! `Text` and `Data`.
 ghost use Rattle.std.specs.Prelude.{◌≡◌, ◌+◌, ◌≤◌, ◌++◌, ◌∷◌, [], ℕ, List, length, take, drop, MatchOption, MatchResult};
-ghost use Rattle.capnp_layout.specs.Prelude.{numbers};
-ghost use Rattle.capnp_wire.specs.Prelude.{Pointer, IsText, TakesText, TakesNumbers, TextFormError, NumbersFormError, form_of};
+ghost use Rattle.capnp_layout.specs.Prelude.{numbers, nothing};
+ghost use Rattle.capnp_wire.specs.Prelude.{Denotes, Pointer, IsText, TakesText, TakesNumbers, TextFormError, NumbersFormError, form_of};
 ghost use Rattle.capnp_c.specs.Entering.{pointer_among, Enters};
-ghost use Rattle.capnp_c.specs.Reading.{ReadError, TakesOff, ShowsText, ShowsData};
+ghost use Rattle.capnp_c.specs.Reading.{EnterError, ReadError, TakesOff, ShowsText, ShowsData};
 ghost use Rattle.capnp_c.specs.ReadingExports.{Follows};
 
 use crate::reading::INVALID_ARGUMENT;
 use crate::reading::entered::{Entered, enter};
+use crate::reading::fast_path::{ObjectKind, enter_local};
 use crate::reading::place::LinsjoarPlace;
 use crate::reading::reader::LinsjoarReader;
 use crate::reading::segments::MessageSegments;
@@ -99,7 +100,7 @@ fn text_at(
         (λ text. ShowsText place bytes.now text.start text.len × TakesOff place text.words_left)
         (λ error. ReadError place TextFormError error.kind) }
 {
-    match enter(segments, reader, pointer)? {
+    match enter_bytes(segments, reader, pointer)? {
         Some(entered) => text_of(&entered, bytes),
         None => Ok(no_bytes(reader)),
     }
@@ -116,10 +117,43 @@ fn data_at(
         (λ blob. ShowsData place bytes.now blob.start blob.len × TakesOff place blob.words_left)
         (λ error. ReadError place (NumbersFormError 2) error.kind) }
 {
-    match enter(segments, reader, pointer)? {
+    match enter_bytes(segments, reader, pointer)? {
         Some(entered) => blob_of(&entered, bytes),
         None => Ok(no_bytes(reader)),
     }
+}
+
+// The object that the pointer at a place points to, as `enter` finds it: a list of bytes in the
+// segment of its pointer is found without a call.
+#[inline(always)]
+fn enter_bytes<'a>(
+    segments: &'a MessageSegments<'a>,
+    reader: &LinsjoarReader,
+    pointer: &LinsjoarPlace,
+) -> Result<Option<Entered<'a>>>
+    ensures { let place = pointer_among segments.now reader.now pointer.now in MatchResult result
+        (λ found. MatchOption found (Denotes place nothing)
+        (λ entered. Enters place segments.now.bytes.now entered))
+        (λ error. EnterError place error.kind) }
+{
+    if let Some(entered) = enter_local(segments, reader, pointer, ObjectKind::Bytes) {
+        return Ok(Some(entered));
+    }
+    enter_elsewhere(segments, reader, pointer)
+}
+
+#[inline(never)]
+fn enter_elsewhere<'a>(
+    segments: &'a MessageSegments<'a>,
+    reader: &LinsjoarReader,
+    pointer: &LinsjoarPlace,
+) -> Result<Option<Entered<'a>>>
+    ensures { let place = pointer_among segments.now reader.now pointer.now in MatchResult result
+        (λ found. MatchOption found (Denotes place nothing)
+        (λ entered. Enters place segments.now.bytes.now entered))
+        (λ error. EnterError place error.kind) }
+{
+    enter(segments, reader, pointer)
 }
 
 // No bytes, as for null.

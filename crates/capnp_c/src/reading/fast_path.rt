@@ -1,4 +1,4 @@
-//! Fast paths to structs, and to lists of structs, in the segments of their pointers.
+//! Fast paths to structs, to lists of structs, and to lists of bytes, in the segments of their pointers.
 ghost use Rattle.std.specs.Prelude.{◌≡◌, ◌<◌, ℕ, List, IfSome, Some, slice_get};
 ghost use Rattle.capnp_layout.specs.Prelude.{words_of, IsObject};
 ghost use Rattle.capnp_c.specs.Entering.{Enters, pointer_among};
@@ -8,15 +8,18 @@ use crate::reading::place::LinsjoarPlace;
 use crate::reading::reader::LinsjoarReader;
 use crate::reading::segments::MessageSegments;
 use capnp_frame::message::ReaderSegments;
-use capnp_layout::fast_path::{local_struct, local_structs};
+use capnp_layout::element_size::ElementSize;
+use capnp_layout::fast_path::{local_list, local_struct, local_structs};
 use capnp_layout::object::Object;
-use capnp_layout::place::Place;
+use capnp_layout::place::{Place, word};
+use capnp_layout::pointer::list_code;
 
 /// What a call asks for in the segment of the pointer.
 #[derive(Clone, Copy)]
 pub(crate) enum ObjectKind {
     Struct,
     Structs,
+    Bytes,
 }
 
 /// The object of this kind that the pointer at a place points to without a landing pad, within the
@@ -62,6 +65,14 @@ fn local_object(segment: &[u8], place: Place, nesting: u32, kind: ObjectKind) ->
         }
         ObjectKind::Structs => {
             let list = local_structs(segment, place, nesting)?;
+            Some(list.object())
+        }
+        ObjectKind::Bytes => {
+            let pointer = word(segment, place.word)?;
+            if list_code(pointer) != ElementSize::Byte.code() {
+                return None;
+            }
+            let list = local_list(segment, place, nesting)?;
             Some(list.object())
         }
     }

@@ -4,6 +4,7 @@ ghost use Rattle.capnp_frame.specs.Prelude.{table_field, table_size, declared_se
 ghost use Rattle.capnp_layout.specs.Prelude.{message_of, words_of, words_from, room_of};
 ghost use Rattle.capnp_c.specs.Reading.{start_of};
 
+use crate::table::{field_at, table_len, words_of_segments};
 use capnp_frame::message::ReaderSegments;
 use capnp_layout::object::Object;
 
@@ -32,7 +33,7 @@ impl<'a> MessageSegments<'a> {
         if count == 0 || count >= SEGMENTS_LIMIT {
             return None;
         }
-        if bytes.len() < table_len(count) {
+        if bytes.len() < table_len(count as usize) {
             return None;
         }
         Some(MessageSegments { bytes, count })
@@ -63,11 +64,13 @@ impl<'a> MessageSegments<'a> {
             ≡ drop (start_of self.now.count self.now.bytes.now id) self.now.bytes.now }
         ensures within { length result.now ≤ length self.now.bytes.now }
     {
-        let mut rest = &self.bytes[table_len(self.count)..];
-        for before in 0..id {
-            rest = after(rest, 8 * words_of_segment(self.bytes, before) as usize);
+        let rest = &self.bytes[table_len(self.count as usize)..];
+        // Speed: most messages have one segment.
+        if id == 0 {
+            return rest;
         }
-        rest
+        let words = words_of_segments(self.bytes, id as usize);
+        after(rest, 8 * words)
     }
 }
 
@@ -87,20 +90,12 @@ impl ReaderSegments for MessageSegments<'_> {
     }
 }
 
-// How many bytes the table of this many segments has.
-fn table_len(count: u32) -> usize
-    ensures { result ≡ table_size count }
-{
-    8 * (count as usize / 2 + 1)
-}
-
 // How many words a segment has, as the table says.
 fn words_of_segment(bytes: &[u8], id: u32) -> u32
     requires { 4 * (id + 1) + 4 ≤ length bytes.now }
     ensures { table_field result ≡ take 4 (drop (4 * (id + 1)) bytes.now) }
 {
-    let at = 4 * (id as usize + 1);
-    u32::from_le_bytes([bytes[at], bytes[at + 1], bytes[at + 2], bytes[at + 3]])
+    field_at(bytes, 4 * (id as usize + 1))
 }
 
 // This many bytes at the front, or all.

@@ -44,4 +44,4 @@ returns g c =
     c.append_after_table.new.region c.in-Ok.words c.append_after_table.result c.in-Some.ensures.0 c.in-Ok.ensures.returned (λ kind fail. c.in-Ok.ensures.exact kind fail)
     (λ other own. same_words c.in-Ok.words other (c.in-Ok.ensures.found other own)) (λ long. absurd (omega (arith, long, c.if-segment_words.false, c.in-Some.ensures.1))) (omega (arith, c.if-end-region.false))
     (subst (λ (n : ℕ). AppendsInRegion (g.O.Object.holds c.args.object.now) c.in-Ok.words n (drop 8 c.args.region.now) (drop 8 c.append_after_table.new.region) c.append_after_table.result) c.in-Some.ensures.1
-    c.append_after_table.ensures.appends) refl c.append_after_table.ensures.len
+    c.append_after_table.ensures.appends) refl c.append_after_table.ensures.table c.append_after_table.ensures.len

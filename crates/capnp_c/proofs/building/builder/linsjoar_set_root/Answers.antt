@@ -19,4 +19,4 @@ pub returns : goal.returns
 returns c =
     root_set c.args.builder.now c.args.region.now c.set_root_after_table.new.region c.args.orphan c.in-Some.ensures.0
     (subst (λ (n : ℕ). SetsRootInRegion c.args.orphan n (drop 8 c.args.region.now) (drop 8 c.set_root_after_table.new.region)) c.in-Some.ensures.1 c.set_root_after_table.ensures.root)
-    c.set_root_after_table.ensures.len
+    c.set_root_after_table.ensures.table c.set_root_after_table.ensures.len
