@@ -16,7 +16,7 @@ use Rattle.capnp_orphans.specs.Adding.{Keeps, AddsOrphan, RoomError}
 use Rattle.capnp_orphans.specs.OrphanLaws.{keeps_on, one_value_more, their_trees, structs_value}
 use Rattle.capnp_uses.specs.declared.account.Owned.{Owned}
 use Rattle.capnp_uses.specs.declared.account_list.NewAccount.{NewAccount}
-use Rattle.capnp_uses.specs.AccountLists.{IsName, IsAccountList, name_words, list_words, IsFullFor, AccountsError}
+use Rattle.capnp_uses.specs.AccountLists.{IsName, IsAccountList, name_words, list_words, IsFullFor, ObjectTooLarge, AccountsError}
 
 -- a number fills its word
 pub whole_word : (words : List ℕ) (id : ℕ) → words ≡ 0 ∷ [] → id < 2 ^ 64 → with_field words 64 0 id ≡ id ∷ []
@@ -107,18 +107,18 @@ region_full None (Some n) kind needs whole words same within is = absurd (cc)
 region_full (Some m) None kind needs whole words same within is = absurd (cc)
 
 full_for : (total words done : ℕ) (old new : Segment) (kind : ErrorKind) → length new.bytes ≡ length old.bytes + 8 * done → new.most ≡ old.most → done + words ≤ total
-    → RoomError words new kind → (kind ≡ OutOfMemory) ⊎ (IsFullFor total old × ((many : ℕ) × (kind ≡ AllocationTooLarge many)))
-full_for total words done old new kind bytes same within (inl (full, is)) = inr (inl (omega (arith, bytes, full, within)), (words, is))
+    → RoomError words new kind → (kind ≡ OutOfMemory) ⊎ (IsFullFor total old × (kind ≡ AllocationTooLarge words))
+full_for total words done old new kind bytes same within (inl (full, is)) = inr (inl (omega (arith, bytes, full, within)), is)
 full_for total words done old new kind bytes same within (inr (few, (needs, is))) =
     elim (region_full old.most new.most kind (length new.bytes + 8 * words) (length old.bytes + 8 * total) words same (omega (arith, bytes, within)) is) [
       | inl memory ↦ inl memory
-      | inr full ↦ inr (inr full.0, (words, full.1))
+      | inr full ↦ inr (inr full.0, full.1)
     ]
 
-list_room_error : (accounts : List NewAccount) (old : Segment) (kind : ErrorKind) → (kind ≡ OutOfMemory) ⊎ (IsFullFor (list_words accounts) old × ((many : ℕ) × (kind ≡ AllocationTooLarge many)))
-    → AccountsError accounts old kind
-list_room_error accounts old kind (inl memory) = inl memory
-list_room_error accounts old kind (inr full) = inr (inr full)
+list_room_error : (accounts : List NewAccount) (words : ℕ) (old : Segment) (kind : ErrorKind) → (kind ≡ AllocationTooLarge words → ObjectTooLarge accounts kind)
+    → (kind ≡ OutOfMemory) ⊎ (IsFullFor (list_words accounts) old × (kind ≡ AllocationTooLarge words)) → AccountsError accounts old kind
+list_room_error accounts words old kind of_object (inl memory) = inl memory
+list_room_error accounts words old kind of_object (inr full) = inr (inr (inr (full.0, of_object full.1)))
 
 -- why a name is not written
 pub name_error : (accounts : List NewAccount) (i : ℕ) (d : NewAccount) (old new : Segment) (drafts : List Drafted) (kind : ErrorKind) → i < length accounts
@@ -138,17 +138,19 @@ name_error accounts i d old new drafts kind within are (inl (inr (trees, is, man
 name_error accounts i d old new drafts kind within are (inr (words, has, room_error)) =
     let sum : sum_by name_words (take i accounts) + name_words (slice_index_or accounts i d) ≤ sum_by name_words accounts = sum_by_more_le name_words accounts i d within in
     let one = text_words (slice_index_or accounts i d).name.now words has in
-    list_room_error accounts old kind (full_for (list_words accounts) words (sum_by name_words (take i accounts)) old new kind are.bytes are.most (omega (arith, sum, one)) room_error)
+    let there = Contains-get_or accounts i d within in
+    list_room_error accounts words old kind (λ is. inl (there.0, slice_index_or accounts i d, there.1, there.2, is ∙ ap (λ (n : ℕ). AllocationTooLarge n) one))
+    (full_for (list_words accounts) words (sum_by name_words (take i accounts)) old new kind are.bytes are.most (omega (arith, sum, one)) room_error)
 
 -- why the list is not
 pub account_list_error : (accounts : List NewAccount) (old new : Segment) (drafts : List Drafted) (kind : ErrorKind) → AreDrafted accounts old new drafts
     → ManyStructs 1 1 (length drafts) kind ⊎ ((words : ℕ) × TakesStructsWords 1 1 (length drafts) words × RoomError words new kind) → AccountsError accounts old kind
 account_list_error accounts old new drafts kind are (inl (inl (inl large, is))) = absurd (omega (arith, large))
 account_list_error accounts old new drafts kind are (inl (inl (inr large, is))) = absurd (omega (arith, large))
-account_list_error accounts old new drafts kind are (inl (inr (inl (fits, many, is)))) = inr (inr (inl (omega (arith, many, are.count)), (_, is)))
-account_list_error accounts old new drafts kind are (inl (inr (inr (fits, few, many, is)))) = inr (inr (inl (omega (arith, many, are.count)), (_, is)))
+account_list_error accounts old new drafts kind are (inl (inr many)) = inr (inr (inl (subst (λ (n : ℕ). ManyStructs 1 1 n kind) are.count (inr many))))
 account_list_error accounts old new drafts kind are (inr (words, takes, room_error)) =
-    list_room_error accounts old kind
+    let size : words ≡ 1 + 2 * length accounts = omega (arith, takes.2, are.count) in
+    list_room_error accounts words old kind (λ is. inr (is ∙ ap (λ (n : ℕ). AllocationTooLarge n) size))
     (full_for (list_words accounts) words (sum_by name_words accounts) old new kind are.bytes are.most (omega (arith, takes.2, are.count)) room_error)
 
 pub list_kind : {T : Type 0} (accounts : List NewAccount) (old new : Segment) (drafts : List Drafted) (result : Result T Error) → AreDrafted accounts old new drafts

@@ -3,7 +3,7 @@ use Rattle.std.specs.Prelude.{◌≡◌, ◌⊎◌, ℕ, ◌+◌, ◌*◌, ◌/�
 use Rattle.capnp_frame.specs.declared.error.ErrorKind.{ErrorKind}
 use Rattle.capnp_frame.specs.declared.error.ErrorKind.TheVariants.{OutOfMemory, AllocationTooLarge, MessageTooLarge}
 use Rattle.capnp_wire.specs.Prelude.{structs, Trees, none, tree, IsTextTree, LongText}
-use Rattle.capnp_orphans.specs.Holds.{AreTrees}
+use Rattle.capnp_orphans.specs.Holds.{AreTrees, ManyStructs}
 use Rattle.capnp_orphans.specs.Segments.{Segment, IsPastMost}
 use Rattle.capnp_uses.specs.declared.account_list.NewAccount.{NewAccount}
 
@@ -32,12 +32,19 @@ IsFullFor words segment = (2 ^ 29 ≤ length segment.bytes / 8 + words) ⊎ IsPa
 abbrev pub new_segment : Segment
 new_segment = record { bytes = replicate 8 0; most = None; capacity = 0 }
 
--- No list of these accounts is added: the call is out of memory, or a name is too long for a text. Or with
--- the words of the list the segment would have 2 ^ 29, or a region more than it has room for.
+-- The error has the words of what has no room: of a name, or of the structs and their tag.
+abbrev pub ObjectTooLarge : List NewAccount → ErrorKind → Type 0
+ObjectTooLarge accounts kind = Any (λ account. kind ≡ AllocationTooLarge (name_words account)) accounts
+    ⊎ (kind ≡ AllocationTooLarge (1 + 2 * length accounts))
+
+-- No list of these accounts is added: the call is out of memory, a name is too long for a text, or they are too
+-- many for a list. Or with the words of the list the segment would have 2 ^ 29, or a region more than it has
+-- room for.
 abbrev pub AccountsError : List NewAccount → Segment → ErrorKind → Type 0
 AccountsError accounts segment kind = (kind ≡ OutOfMemory)
     ⊎ Any (λ account. LongText account.name.now kind) accounts
-    ⊎ (IsFullFor (list_words accounts) segment × ((words : ℕ) × (kind ≡ AllocationTooLarge words)))
+    ⊎ ManyStructs 1 1 (length accounts) kind
+    ⊎ (IsFullFor (list_words accounts) segment × ObjectTooLarge accounts kind)
 
 -- The message of such a list has more words than the limit, and the error carries their number.
 abbrev pub AccountsLimitError : List NewAccount → Option ℕ → ErrorKind → Type 0
