@@ -50,7 +50,7 @@ fn unpack_case(rt: &impl Abort, case: &Packed, most: usize) -> Result<()> {
     }
     assert_holds(
         rt,
-        source.source.bytes.is_empty() && parts.bytes.is_empty(),
+        source.source.bytes.is_empty() && parts.bytes.is_empty() && parts.asked_at_end == 0,
         at,
     );
     if case.encoding.len() <= most {

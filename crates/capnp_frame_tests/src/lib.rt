@@ -47,4 +47,6 @@ mod skipping;
 mod slices;
 pub mod sources;
 #[cfg(test)]
+mod tables;
+#[cfg(test)]
 mod words;

@@ -6,7 +6,8 @@ use capnp_frame::io::{BufRead, Read};
 use capnp_frame::{Error, ErrorKind, Result};
 
 /// A slice that returns, or shows, at most a given number of bytes at once, and at least one. It
-/// counts how often it is asked to show bytes, and how often to read some.
+/// counts how often it is asked to show bytes, how often to read some, and how often to do either
+/// where none is left.
 #[derive(Drop)]
 pub struct Trickle<'a> {
     pub bytes: &'a [u8],
@@ -14,6 +15,7 @@ pub struct Trickle<'a> {
     shown: usize,
     pub fills: u64,
     pub reads: u64,
+    pub asked_at_end: u64,
     ghost some: { 0 < most },
 }
 
@@ -25,6 +27,7 @@ impl<'a> Trickle<'a> {
             shown: 0,
             fills: 0,
             reads: 0,
+            asked_at_end: 0,
         }
     }
 }
@@ -42,6 +45,9 @@ impl Read for Trickle<'_> {
 
     fn read(&mut self, buffer: &mut [u8]) -> Result<usize> {
         self.reads = self.reads.saturating_add(1);
+        self.asked_at_end = self
+            .asked_at_end
+            .saturating_add(u64::from(self.bytes.is_empty()));
         let count = self.bytes.len().min(buffer.len()).min(self.most);
         buffer[..count].copy_from_slice(&self.bytes[..count]);
         self.bytes = &self.bytes[count..];
@@ -58,6 +64,9 @@ impl BufRead for Trickle<'_> {
 
     fn fill_buf(&mut self) -> Result<&[u8]> {
         self.fills = self.fills.saturating_add(1);
+        self.asked_at_end = self
+            .asked_at_end
+            .saturating_add(u64::from(self.bytes.is_empty()));
         self.shown = self.bytes.len().min(self.most);
         Ok(&self.bytes[..self.shown])
     }

@@ -1,27 +1,19 @@
 //! Types of `printed.capnp`, made by `capnpc-rattle`: change that file, and make them again.
-ghost use Rattle.std.specs.Prelude.{◌≡◌, ◌≤◌, ◌<◌, ◌↔◌, ◌∷◌, [], IsTrue, bit_xor, from_bits, length};
+//!
+//! In a crate of their own they are proved once. A program is proved soonest where a loop over
+//! messages or a list has one line, a call: `add_message(&message?, &mut totals)?` (docs/GUIDE.md).
+ghost use Rattle.std.specs.Prelude.{◌≡◌, ◌≤◌, ◌↔◌, ◌∷◌, [], IsTrue, bit_xor, from_bits};
 ghost use Rattle.std.specs.Float.{binary64};
 ghost use Rattle.std.specs.Int.{w16, w32, cast_signed};
-ghost use Rattle.capnp_wire.specs.Constants.{root_of};
-ghost use Rattle.capnp_wire.specs.Fields.{field};
-ghost use Rattle.capnp_wire.specs.Layout.{layout};
-ghost use Rattle.capnp_wire.specs.ListViews.{element_of};
-ghost use Rattle.capnp_wire.specs.Lists.{FindsElement, IsIterator};
-ghost use Rattle.capnp_wire.specs.Object.{nothing};
-ghost use Rattle.capnp_wire.specs.Pointer.{words_of};
-ghost use Rattle.capnp_wire.specs.Readers.{struct_of, pointer_of};
-ghost use Rattle.capnp_wire.specs.Tree.{none as NoTrees, tree as TreeOf, numbers as NumbersForm};
-ghost use Rattle.capnp_wire.specs.UpgradedReaders.{upgraded_structs_of, upgraded_numbers_of};
-ghost use Rattle.capnp_wire.specs.UpgradedViews.{IsUpgradedStructs, ReadsAsNumbers, TakesAsStructs, TakesFields, ElementsFormError, FieldsFormError};
-ghost use Rattle.capnp_wire.specs.Views.{Struct, IsViewOf, IsStruct, IsText, IsData, Accepts, ViewError, FormError, Denotes, Reads, TakesStruct, TakesText, TakesNumbers, StructFormError, TextFormError, NumbersFormError, pointer_in};
+ghost use Rattle.capnp.specs.Made.{root_of, field, IsViewBy, IsTextView, IsDataView, IsStructView, IsStructsView, layout, nothing, words_of, struct_of, pointer_of, NoTrees, TreeOf, NumbersForm, upgraded_numbers_of, ReadsAsNumbers, TakesFields, FieldsFormError, Denotes, Reads, pointer_in};
 
+#[rattlefmt::skip]
 pub mod printed {
-    use capnp_frame::Result;
-    use capnp_frame::message::ReaderSegments;
-    use capnp_wire::any_struct::StructReader;
-    use capnp_wire::constant::Words;
-    use capnp_wire::traits::{self, FromPointerReader, IndexMove, ListIter};
-    use capnp_wire::{any_pointer, text, upgraded};
+    use capnp::any_struct::StructReader;
+    use capnp::constant::Words;
+    use capnp::message::ReaderSegments;
+    use capnp::traits::FromPointerReader;
+    use capnp::{Result, any_pointer, text, traits, upgraded};
 
     /// The type of the schema.
     pub struct Owned;
@@ -41,7 +33,8 @@ pub mod printed {
         /// The field `balance`.
         pub fn get_balance(&self) -> i16
             ensures { let fields = struct_of S.segments self.now.fields in
-                result ≡ cast_signed w16 (bit_xor (field fields.words 16 0) 65531) }
+                result ≡
+                cast_signed w16 (bit_xor (field fields.words 16 0) 65531) }
         {
             self.fields.get_data_field_mask(0, -5)
         }
@@ -70,11 +63,7 @@ pub mod printed {
         /// The field `title`.
         pub fn get_title(&self) -> Result<text::Reader<'a>>
             ensures { let fields = struct_of S.segments self.now.fields in
-                let pointer = pointer_in fields 0 in
-                IsViewOf pointer
-                (λ view. Reads pointer (λ form. IsText form view.bytes.now))
-                (Accepts pointer TakesText) (ViewError pointer TextFormError)
-                (FormError pointer TextFormError) result }
+                IsTextView (pointer_in fields 0) result }
         {
             self.fields.get_pointer_as(0)
         }
@@ -90,11 +79,7 @@ pub mod printed {
         /// The field `payload`.
         pub fn get_payload(&self) -> Result<&'a [u8]>
             ensures { let fields = struct_of S.segments self.now.fields in
-                let pointer = pointer_in fields 1 in
-                IsViewOf pointer
-                (λ view. Reads pointer (λ form. IsData form view.now))
-                (Accepts pointer (TakesNumbers 2)) (ViewError pointer (NumbersFormError 2))
-                (FormError pointer (NumbersFormError 2)) result }
+                IsDataView (pointer_in fields 1) result }
         {
             self.fields.get_pointer_as(1)
         }
@@ -110,16 +95,9 @@ pub mod printed {
         /// The field `points`.
         pub fn get_points(&self) -> Result<point::ListReader<'a, S>>
             ensures { let fields = struct_of S.segments self.now.fields in
-                let pointer = pointer_in fields 2 in
-                IsViewOf pointer
-                (λ view. IsUpgradedStructs pointer (upgraded_structs_of S.segments view.elements))
-                (Accepts pointer TakesAsStructs) (ViewError pointer ElementsFormError)
-                (FormError pointer ElementsFormError) result }
+                IsStructsView S.segments (pointer_in fields 2) result }
         {
-            match self.fields.get_pointer_as(2) {
-                Ok(elements) => Ok(point::ListReader { elements }),
-                Err(error) => Err(error),
-            }
+            self.fields.get_pointer_as(2)
         }
 
         /// Whether `points` is there, and is not null.
@@ -133,12 +111,10 @@ pub mod printed {
         /// The field `colors`.
         pub fn get_colors(&self) -> Result<upgraded::EnumList<'a, Color>>
             ensures { let fields = struct_of S.segments self.now.fields in
-                let pointer = pointer_in fields 3 in
-                IsViewOf pointer
+                let pointer = (pointer_in fields 3) in
+                IsViewBy pointer (TakesFields 3) (FieldsFormError 3)
                 (λ view. Reads pointer (λ form.
-                ReadsAsNumbers 3 form (upgraded_numbers_of 3 view.numbers)))
-                (Accepts pointer (TakesFields 3)) (ViewError pointer (FieldsFormError 3))
-                (FormError pointer (FieldsFormError 3)) result }
+                ReadsAsNumbers 3 form (upgraded_numbers_of 3 view.numbers))) result }
         {
             self.fields.get_pointer_as(3)
         }
@@ -185,15 +161,9 @@ pub mod printed {
         pub fn get_label(&self) -> Result<text::Reader<'a>>
             ensures { let fields = struct_of S.segments self.now.fields in
                 let pointer = pointer_in fields 5 in
-                ((Denotes pointer nothing → ⊥) → IsViewOf pointer
-                (λ view. Reads pointer (λ form. IsText form view.bytes.now))
-                (Accepts pointer TakesText) (ViewError pointer TextFormError)
-                (FormError pointer TextFormError) result)
+                ((Denotes pointer nothing → ⊥) → IsTextView pointer result)
                 × (Denotes pointer nothing → (let pointer = root_of LABEL_DEFAULT in
-                IsViewOf pointer
-                (λ view. Reads pointer (λ form. IsText form view.bytes.now))
-                (Accepts pointer TakesText) (ViewError pointer TextFormError)
-                (FormError pointer TextFormError) result)) }
+                IsTextView pointer result)) }
         {
             let pointer = self.fields.get_pointer(5);
             if pointer.is_null() {
@@ -214,16 +184,10 @@ pub mod printed {
         /// The field `inner`.
         pub fn get_inner(&self) -> Result<super::printed::Reader<'a, S>>
             ensures { let fields = struct_of S.segments self.now.fields in
-                let pointer = pointer_in fields 5 in
-                IsViewOf pointer
-                (λ view. IsStruct pointer (struct_of S.segments view.fields))
-                (Accepts pointer TakesStruct) (ViewError pointer StructFormError)
-                (FormError pointer StructFormError) result }
+                IsStructView (pointer_in fields 5)
+                (λ view. struct_of S.segments view.fields) result }
         {
-            match self.fields.get_pointer_as(5) {
-                Ok(fields) => Ok(super::printed::Reader { fields }),
-                Err(error) => Err(error),
-            }
+            self.fields.get_pointer_as(5)
         }
 
         /// Whether `inner` is there, and is not null.
@@ -243,21 +207,12 @@ pub mod printed {
                   | Which.Nothing ↦ number ≡ 0
                   | Which.Label value ↦ (number ≡ 1) ×
                       (let pointer = pointer_in fields 5 in
-                      ((Denotes pointer nothing → ⊥) → IsViewOf pointer
-                      (λ view. Reads pointer (λ form. IsText form view.bytes.now))
-                      (Accepts pointer TakesText) (ViewError pointer TextFormError)
-                      (FormError pointer TextFormError) value)
+                      ((Denotes pointer nothing → ⊥) → IsTextView pointer value)
                       × (Denotes pointer nothing → (let pointer = root_of LABEL_DEFAULT in
-                      IsViewOf pointer
-                      (λ view. Reads pointer (λ form. IsText form view.bytes.now))
-                      (Accepts pointer TakesText) (ViewError pointer TextFormError)
-                      (FormError pointer TextFormError) value)))
+                      IsTextView pointer value)))
                   | Which.Inner value ↦ (number ≡ 2) ×
-                      (let pointer = pointer_in fields 5 in
-                      IsViewOf pointer
-                      (λ view. IsStruct pointer (struct_of S.segments view.fields))
-                      (Accepts pointer TakesStruct) (ViewError pointer StructFormError)
-                      (FormError pointer StructFormError) value)
+                      (IsStructView (pointer_in fields 5)
+                      (λ view. struct_of S.segments view.fields) value)
                   | Which.NotInSchema unknown ↦ (unknown ≡ number) × (3 ≤ number)
                 ] }
         {
@@ -280,127 +235,17 @@ pub mod printed {
         NotInSchema(u16),
     }
 
-    impl<'a, S: ReaderSegments> FromPointerReader<'a, S> for Reader<'a, S> {
-        ghost shows = { λ pointer view. IsStruct pointer (struct_of S.segments view.fields) };
-
-        ghost accepts = { λ pointer. Accepts pointer TakesStruct };
-
-        ghost fails = { λ pointer kind. ViewError pointer StructFormError kind };
-
-        ghost form_error = { λ pointer kind. FormError pointer StructFormError kind };
+    impl<'a, S: ReaderSegments> upgraded::FromStruct<StructReader<'a, S>> for Reader<'a, S> {
+        ghost shown = { λ view. struct_of S.segments view.fields };
 
         #[inline(always)]
-        fn get_from_pointer(reader: any_pointer::Reader<'a, S>) -> Result<Self>
-            ensures { let pointer = pointer_of S.segments reader.entry in IsViewOf pointer
-                (λ view. IsStruct pointer (struct_of S.segments view.fields))
-                (Accepts pointer TakesStruct) (ViewError pointer StructFormError)
-                (FormError pointer StructFormError) result }
-        {
-            match StructReader::get_from_pointer(reader) {
-                Ok(fields) => Ok(Reader { fields }),
-                Err(error) => Err(error),
-            }
+        fn from_struct(fields: StructReader<'a, S>) -> Reader<'a, S> {
+            Reader { fields }
         }
     }
 
-    /// A list of such structs in a message, or of their first fields where an older writer had these.
-    #[derive(Drop)]
-    pub struct ListReader<'a, S: ReaderSegments> {
-        /// The list whose elements these are.
-        pub elements: upgraded::StructList<'a, S>,
-    }
-
-    impl<'a, S: ReaderSegments> ListReader<'a, S> {
-        /// The number of elements.
-        pub fn len(&self) -> u32
-            ensures { result ≡ length (upgraded_structs_of S.segments self.now.elements).elements }
-        {
-            self.elements.len()
-        }
-
-        /// The element of this index.
-        pub fn get(&self, index: u32) -> Reader<'a, S>
-            requires { index < length (upgraded_structs_of S.segments self.now.elements).elements }
-            ensures { struct_of S.segments result.fields
-                ≡ element_of (upgraded_structs_of S.segments self.now.elements) index }
-        {
-            Reader {
-                fields: self.elements.get(index),
-            }
-        }
-
-        /// The element of this index, or `None` past the last element.
-        pub fn try_get(&self, index: u32) -> Option<Reader<'a, S>>
-            ensures { let list = upgraded_structs_of S.segments self.now.elements in
-                FindsElement (length list.elements) index
-                (λ item. struct_of S.segments item.fields ≡ element_of list index) result }
-        {
-            self.try_index_move(index)
-        }
-
-        /// An iterator over the elements.
-        pub fn iter(&self) -> ListIter<'_, Self>
-            ensures { IsIterator self.now result }
-        {
-            ListIter::new(self)
-        }
-    }
-
-    impl<'a, S: ReaderSegments> IndexMove for ListReader<'a, S> {
-        type Item = Reader<'a, S>;
-
-        ghost Element = { Struct };
-
-        ghost seen = { λ item. struct_of S.segments item.fields };
-
-        ghost size = { λ list. length (upgraded_structs_of S.segments list.elements).elements };
-
-        ghost element = { λ list index.
-            element_of (upgraded_structs_of S.segments list.elements) index };
-
-        fn len(&self) -> u32 {
-            self.len()
-        }
-
-        fn index_move(&self, index: u32) -> Reader<'a, S> {
-            self.get(index)
-        }
-    }
-
-    impl<'l, 'a, S: ReaderSegments> IntoIterator for &'l ListReader<'a, S> {
-        type Item = Reader<'a, S>;
-
-        type IntoIter = ListIter<'l, ListReader<'a, S>>;
-
-        ghost into_iter_gives = { λ list elements. IsIterator list.now elements };
-
-        fn into_iter(self) -> ListIter<'l, ListReader<'a, S>> {
-            self.iter()
-        }
-    }
-
-    impl<'a, S: ReaderSegments> FromPointerReader<'a, S> for ListReader<'a, S> {
-        ghost shows = { λ pointer view.
-            IsUpgradedStructs pointer (upgraded_structs_of S.segments view.elements) };
-
-        ghost accepts = { λ pointer. Accepts pointer TakesAsStructs };
-
-        ghost fails = { λ pointer kind. ViewError pointer ElementsFormError kind };
-
-        ghost form_error = { λ pointer kind. FormError pointer ElementsFormError kind };
-
-        fn get_from_pointer(reader: any_pointer::Reader<'a, S>) -> Result<Self>
-            ensures { let pointer = pointer_of S.segments reader.entry in IsViewOf pointer
-                (λ view. IsUpgradedStructs pointer (upgraded_structs_of S.segments view.elements))
-                (Accepts pointer TakesAsStructs) (ViewError pointer ElementsFormError)
-                (FormError pointer ElementsFormError) result }
-        {
-            match upgraded::StructList::get_from_pointer(reader) {
-                Ok(elements) => Ok(ListReader { elements }),
-                Err(error) => Err(error),
-            }
-        }
-    }
+    /// A list of such structs, or of their first fields where an older writer had these.
+    pub type ListReader<'a, S> = upgraded::Structs<'a, S, Reader<'a, S>>;
 
     /// Which pointer of the struct points to `title`, for `fields.get_pointer`.
     pub const TITLE_POINTER: u16 = 0;
@@ -438,17 +283,14 @@ pub mod printed {
     /// The default of the field `label`.
     pub fn get_label_default() -> Result<text::Reader<'static>>
         ensures { let pointer = root_of LABEL_DEFAULT in
-            IsViewOf pointer
-            (λ view. Reads pointer (λ form. IsText form view.bytes.now))
-            (Accepts pointer TakesText) (ViewError pointer TextFormError)
-            (FormError pointer TextFormError) result }
+            IsTextView pointer result }
     {
-        capnp_wire::constant::view_of(&LABEL_DEFAULT)
+        capnp::constant::view_of(&LABEL_DEFAULT)
     }
 
     pub mod size {
-        use capnp_frame::message::ReaderSegments;
-        use capnp_wire::any_struct::StructReader;
+        use capnp::any_struct::StructReader;
+        use capnp::message::ReaderSegments;
 
         /// The group, in a struct in a message.
         #[derive(Drop)]
@@ -493,7 +335,7 @@ pub mod printed {
         }
     }
 
-    impl capnp_wire::upgraded::EnumElement for Color {
+    impl capnp::upgraded::EnumElement for Color {
         ghost named = { 2 };
 
         fn from_number(number: u16) -> Color {
@@ -502,11 +344,9 @@ pub mod printed {
     }
 
     pub mod point {
-        use capnp_frame::Result;
-        use capnp_frame::message::ReaderSegments;
-        use capnp_wire::any_struct::StructReader;
-        use capnp_wire::traits::{self, FromPointerReader, IndexMove, ListIter};
-        use capnp_wire::{any_pointer, upgraded};
+        use capnp::any_struct::StructReader;
+        use capnp::message::ReaderSegments;
+        use capnp::{traits, upgraded};
 
         /// The type of the schema.
         pub struct Owned;
@@ -534,140 +374,32 @@ pub mod printed {
             /// The field `y`.
             pub fn get_y(&self) -> i32
                 ensures { let fields = struct_of S.segments self.now.fields in
-                    result ≡ cast_signed w32 (bit_xor (field fields.words 32 1) 3) }
+                    result ≡
+                    cast_signed w32 (bit_xor (field fields.words 32 1) 3) }
             {
                 self.fields.get_data_field_mask(1, 3)
             }
         }
 
-        impl<'a, S: ReaderSegments> FromPointerReader<'a, S> for Reader<'a, S> {
-            ghost shows = { λ pointer view. IsStruct pointer (struct_of S.segments view.fields) };
-
-            ghost accepts = { λ pointer. Accepts pointer TakesStruct };
-
-            ghost fails = { λ pointer kind. ViewError pointer StructFormError kind };
-
-            ghost form_error = { λ pointer kind. FormError pointer StructFormError kind };
+        impl<'a, S: ReaderSegments> upgraded::FromStruct<StructReader<'a, S>> for Reader<'a, S> {
+            ghost shown = { λ view. struct_of S.segments view.fields };
 
             #[inline(always)]
-            fn get_from_pointer(reader: any_pointer::Reader<'a, S>) -> Result<Self>
-                ensures { let pointer = pointer_of S.segments reader.entry in IsViewOf pointer
-                    (λ view. IsStruct pointer (struct_of S.segments view.fields))
-                    (Accepts pointer TakesStruct) (ViewError pointer StructFormError)
-                    (FormError pointer StructFormError) result }
-            {
-                match StructReader::get_from_pointer(reader) {
-                    Ok(fields) => Ok(Reader { fields }),
-                    Err(error) => Err(error),
-                }
+            fn from_struct(fields: StructReader<'a, S>) -> Reader<'a, S> {
+                Reader { fields }
             }
         }
 
-        /// A list of such structs in a message, or of their first fields where an older writer had these.
-        #[derive(Drop)]
-        pub struct ListReader<'a, S: ReaderSegments> {
-            /// The list whose elements these are.
-            pub elements: upgraded::StructList<'a, S>,
-        }
-
-        impl<'a, S: ReaderSegments> ListReader<'a, S> {
-            /// The number of elements.
-            pub fn len(&self) -> u32
-                ensures { result ≡ length (upgraded_structs_of S.segments self.now.elements).elements }
-            {
-                self.elements.len()
-            }
-
-            /// The element of this index.
-            pub fn get(&self, index: u32) -> Reader<'a, S>
-                requires { index < length (upgraded_structs_of S.segments self.now.elements).elements }
-                ensures { struct_of S.segments result.fields
-                    ≡ element_of (upgraded_structs_of S.segments self.now.elements) index }
-            {
-                Reader {
-                    fields: self.elements.get(index),
-                }
-            }
-
-            /// The element of this index, or `None` past the last element.
-            pub fn try_get(&self, index: u32) -> Option<Reader<'a, S>>
-                ensures { let list = upgraded_structs_of S.segments self.now.elements in
-                    FindsElement (length list.elements) index
-                    (λ item. struct_of S.segments item.fields ≡ element_of list index) result }
-            {
-                self.try_index_move(index)
-            }
-
-            /// An iterator over the elements.
-            pub fn iter(&self) -> ListIter<'_, Self>
-                ensures { IsIterator self.now result }
-            {
-                ListIter::new(self)
-            }
-        }
-
-        impl<'a, S: ReaderSegments> IndexMove for ListReader<'a, S> {
-            type Item = Reader<'a, S>;
-
-            ghost Element = { Struct };
-
-            ghost seen = { λ item. struct_of S.segments item.fields };
-
-            ghost size = { λ list. length (upgraded_structs_of S.segments list.elements).elements };
-
-            ghost element = { λ list index.
-                element_of (upgraded_structs_of S.segments list.elements) index };
-
-            fn len(&self) -> u32 {
-                self.len()
-            }
-
-            fn index_move(&self, index: u32) -> Reader<'a, S> {
-                self.get(index)
-            }
-        }
-
-        impl<'l, 'a, S: ReaderSegments> IntoIterator for &'l ListReader<'a, S> {
-            type Item = Reader<'a, S>;
-
-            type IntoIter = ListIter<'l, ListReader<'a, S>>;
-
-            ghost into_iter_gives = { λ list elements. IsIterator list.now elements };
-
-            fn into_iter(self) -> ListIter<'l, ListReader<'a, S>> {
-                self.iter()
-            }
-        }
-
-        impl<'a, S: ReaderSegments> FromPointerReader<'a, S> for ListReader<'a, S> {
-            ghost shows = { λ pointer view.
-                IsUpgradedStructs pointer (upgraded_structs_of S.segments view.elements) };
-
-            ghost accepts = { λ pointer. Accepts pointer TakesAsStructs };
-
-            ghost fails = { λ pointer kind. ViewError pointer ElementsFormError kind };
-
-            ghost form_error = { λ pointer kind. FormError pointer ElementsFormError kind };
-
-            fn get_from_pointer(reader: any_pointer::Reader<'a, S>) -> Result<Self>
-                ensures { let pointer = pointer_of S.segments reader.entry in IsViewOf pointer
-                    (λ view. IsUpgradedStructs pointer (upgraded_structs_of S.segments view.elements))
-                    (Accepts pointer TakesAsStructs) (ViewError pointer ElementsFormError)
-                    (FormError pointer ElementsFormError) result }
-            {
-                match upgraded::StructList::get_from_pointer(reader) {
-                    Ok(elements) => Ok(ListReader { elements }),
-                    Err(error) => Err(error),
-                }
-            }
-        }
+        /// A list of such structs, or of their first fields where an older writer had these.
+        pub type ListReader<'a, S> = upgraded::Structs<'a, S, Reader<'a, S>>;
     }
 }
 
 /// How the structs of this file are printed: by a table of them and of the types in them.
+#[rattlefmt::skip]
 pub mod the_schema {
     use capnp::stringify::{self, Base, DefaultValue, Field, Schema, StructType, Type};
-    use capnp_frame::message::ReaderSegments;
+    use capnp::message::ReaderSegments;
     use std::alloc::{AllocError, Global};
 
     #[rattlefmt::skip]
@@ -675,27 +407,42 @@ pub mod the_schema {
         structs: &[
             // `Printed`
             StructType { discriminant: Some(3), fields: &[
-                Field { name: "balance", member: None, of: Type { lists: 0, base: Base::Int16 }, offset: 0, default: DefaultValue::Bits(65531) },
-                Field { name: "ratio", member: None, of: Type { lists: 0, base: Base::Float64 }, offset: 1, default: DefaultValue::Bits(0) },
-                Field { name: "color", member: None, of: Type { lists: 0, base: Base::Enum(0) }, offset: 1, default: DefaultValue::Bits(0) },
-                Field { name: "title", member: None, of: Type { lists: 0, base: Base::Text }, offset: 0, default: DefaultValue::Bits(0) },
-                Field { name: "payload", member: None, of: Type { lists: 0, base: Base::Data }, offset: 1, default: DefaultValue::Bits(0) },
-                Field { name: "points", member: None, of: Type { lists: 1, base: Base::Struct(1) }, offset: 2, default: DefaultValue::Bits(0) },
-                Field { name: "colors", member: None, of: Type { lists: 1, base: Base::Enum(0) }, offset: 3, default: DefaultValue::Bits(0) },
-                Field { name: "any", member: None, of: Type { lists: 0, base: Base::AnyPointer }, offset: 4, default: DefaultValue::Bits(0) },
-                Field { name: "size", member: None, of: Type { lists: 0, base: Base::Group(2) }, offset: 0, default: DefaultValue::Bits(0) },
-                Field { name: "nothing", member: Some(0), of: Type { lists: 0, base: Base::Void }, offset: 0, default: DefaultValue::Bits(0) },
-                Field { name: "label", member: Some(1), of: Type { lists: 0, base: Base::Text }, offset: 5, default: DefaultValue::Text("none") },
-                Field { name: "inner", member: Some(2), of: Type { lists: 0, base: Base::Struct(0) }, offset: 5, default: DefaultValue::Bits(0) },
+                Field { name: "balance", member: None, offset: 0, default: DefaultValue::Bits(65531),
+                    of: Type { lists: 0, base: Base::Int16 } },
+                Field { name: "ratio", member: None, offset: 1, default: DefaultValue::Bits(0),
+                    of: Type { lists: 0, base: Base::Float64 } },
+                Field { name: "color", member: None, offset: 1, default: DefaultValue::Bits(0),
+                    of: Type { lists: 0, base: Base::Enum(0) } },
+                Field { name: "title", member: None, offset: 0, default: DefaultValue::Bits(0),
+                    of: Type { lists: 0, base: Base::Text } },
+                Field { name: "payload", member: None, offset: 1, default: DefaultValue::Bits(0),
+                    of: Type { lists: 0, base: Base::Data } },
+                Field { name: "points", member: None, offset: 2, default: DefaultValue::Bits(0),
+                    of: Type { lists: 1, base: Base::Struct(1) } },
+                Field { name: "colors", member: None, offset: 3, default: DefaultValue::Bits(0),
+                    of: Type { lists: 1, base: Base::Enum(0) } },
+                Field { name: "any", member: None, offset: 4, default: DefaultValue::Bits(0),
+                    of: Type { lists: 0, base: Base::AnyPointer } },
+                Field { name: "size", member: None, offset: 0, default: DefaultValue::Bits(0),
+                    of: Type { lists: 0, base: Base::Group(2) } },
+                Field { name: "nothing", member: Some(0), offset: 0, default: DefaultValue::Bits(0),
+                    of: Type { lists: 0, base: Base::Void } },
+                Field { name: "label", member: Some(1), offset: 5, default: DefaultValue::Text("none"),
+                    of: Type { lists: 0, base: Base::Text } },
+                Field { name: "inner", member: Some(2), offset: 5, default: DefaultValue::Bits(0),
+                    of: Type { lists: 0, base: Base::Struct(0) } },
             ] },
             // `Point`
             StructType { discriminant: None, fields: &[
-                Field { name: "x", member: None, of: Type { lists: 0, base: Base::Int32 }, offset: 0, default: DefaultValue::Bits(0) },
-                Field { name: "y", member: None, of: Type { lists: 0, base: Base::Int32 }, offset: 1, default: DefaultValue::Bits(3) },
+                Field { name: "x", member: None, offset: 0, default: DefaultValue::Bits(0),
+                    of: Type { lists: 0, base: Base::Int32 } },
+                Field { name: "y", member: None, offset: 1, default: DefaultValue::Bits(3),
+                    of: Type { lists: 0, base: Base::Int32 } },
             ] },
             // `size`
             StructType { discriminant: None, fields: &[
-                Field { name: "width", member: None, of: Type { lists: 0, base: Base::Uint8 }, offset: 4, default: DefaultValue::Bits(0) },
+                Field { name: "width", member: None, offset: 4, default: DefaultValue::Bits(0),
+                    of: Type { lists: 0, base: Base::Uint8 } },
             ] },
         ],
         enums: &[

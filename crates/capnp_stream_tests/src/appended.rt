@@ -1,16 +1,18 @@
-//! Messages that are written one after the other.
+//! Messages that are written one after the other, and read so over sources that show little.
 use crate::assertions::{At, assert_bytes, assert_calls, assert_holds, assert_kind};
 use crate::failures::FORMATS;
 use crate::samples::{ONE_AND_TWO, TWO};
 use crate::streams::{PACKED_THREE, THREE};
-use capnp::streams::{Format, write_messages};
+use capnp::streams::{Format, read_messages, write_messages};
 use capnp_frame::io::Write;
-use capnp_frame::message::SegmentArray;
+use capnp_frame::message::{DEFAULT_READER_OPTIONS, SegmentArray};
 use capnp_frame::serialize::is_writable;
 use capnp_frame::{ErrorKind, Result};
 use capnp_frame_tests::errors::kind_of;
+use capnp_frame_tests::messages::has_segments;
 use capnp_frame_tests::retried;
 use capnp_frame_tests::sinks::FailingSink;
+use capnp_frame_tests::sources::Trickle;
 use std::process::Abort;
 
 const EMPTY: &[&[u8]] = &[&[]];
@@ -87,4 +89,32 @@ fn write_to(rt: &(impl Abort + AllocGlobal), format: Format, fails_at: u64) -> R
     );
     assert_calls(rt, sink.calls, fails_at, at);
     Ok(false)
+}
+
+// The three messages.
+const MESSAGES: [&[&[u8]]; 3] = [ONE_AND_TWO, TWO, EMPTY];
+
+// How many bytes a source shows or returns at most.
+const MOST: [usize; 3] = [1, 3, 7];
+
+#[test]
+fn three_messages_at_once(rt: HostRuntime) -> Result<()> {
+    for format in &FORMATS {
+        for most in &MOST {
+            retried!(read_three(&rt, *format, *most))?;
+        }
+    }
+    Ok(())
+}
+
+fn read_three(rt: &(impl Abort + AllocGlobal), format: Format, most: usize) -> Result<()> {
+    let at = At::new(name_of(format).case, most as u64);
+    let mut source = Trickle::new(encoding_of(format), most);
+    let options = DEFAULT_READER_OPTIONS;
+    let messages = read_messages(rt.alloc(), &mut source, format, 3, options)?;
+    for (message, segments) in messages.iter().zip(&MESSAGES) {
+        assert_holds(rt, has_segments(message.get_segments(), *segments), at);
+    }
+    assert_holds(rt, messages.len() == 3 && source.bytes.is_empty(), at);
+    Ok(())
 }

@@ -1,7 +1,9 @@
 //! Assertions that tell the call at which they fail, in addition to the case.
 use crate::assertions::At;
 use crate::flat::Form;
+use crate::open_sources::Other;
 use crate::readers::Call;
+use capnp::streams::Format;
 use capnp_frame::serialize::Padding;
 use std::process::Abort;
 
@@ -12,6 +14,20 @@ pub fn assert_call(rt: &impl Abort, holds: bool, call: Call, at: At<'_>) {
     assert!(rt;
         holds,
         "at {case}, {number}, {format:?}, {padding:?}, {reader:?}"
+    );
+}
+
+/// The same of a call that `READERS` has not.
+pub fn assert_other(
+    rt: &impl Abort,
+    holds: bool,
+    (format, padding, other): (Format, Padding, Other),
+    at: At<'_>,
+) {
+    let At { case, number } = at;
+    assert!(rt;
+        holds,
+        "at {case}, {number}, {format:?}, {padding:?}, {other:?}"
     );
 }
 

@@ -3,7 +3,7 @@ use crate::assertions::{At, assert_bytes, assert_calls, assert_fails, assert_hol
 use crate::calls_reported::assert_call;
 use crate::flat::RULES;
 use crate::readers::{Call, READERS, is_returned};
-use crate::samples::{SAMPLES, Sample, TWO_SEGMENTS};
+use crate::samples::{SAMPLES, Sample, TWO_SEGMENTS, encoding_of};
 use crate::streams::Wanted;
 use capnp::streams::Format;
 use capnp_frame::io::Read;
@@ -23,13 +23,6 @@ pub const FORMATS: [Format; 2] = [Format::Framed, Format::Packed];
 
 // How many bytes a call shows or returns at most.
 const CUTS: [usize; 5] = [1, 2, 3, 7, 16];
-
-fn encoding_of(sample: &Sample, format: Format) -> &'static [u8] {
-    match format {
-        Format::Framed => sample.framed,
-        Format::Packed => sample.packed,
-    }
-}
 
 // By the strict calls at each cut, and by the lenient ones at one.
 #[test]

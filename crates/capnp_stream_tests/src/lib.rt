@@ -25,6 +25,8 @@ mod flat;
 #[cfg(test)]
 mod kept_memory;
 #[cfg(test)]
+mod open_sources;
+#[cfg(test)]
 mod readers;
 #[cfg(test)]
 mod requests;

@@ -9,8 +9,10 @@ use crate::streams::Wanted;
 use capnp::message;
 use capnp::streams::Format;
 use capnp_frame::io::BufRead;
-use capnp_frame::message::{ReaderOptions, ReaderSegments};
-use capnp_frame::serialize::Padding;
+use capnp_frame::message::{DEFAULT_READER_OPTIONS, ReaderOptions, ReaderSegments};
+use capnp_frame::serialize::{
+    NoAllocBufferSegments, NoAllocSegmentTableInfo, NoAllocSliceSegments, Padding,
+};
 use capnp_frame::{ErrorKind, Result};
 use capnp_frame_tests::messages::has_segments;
 use std::alloc::Global;
@@ -33,10 +35,12 @@ pub enum Reader {
     /// As a message that has to be there, into a caller-provided buffer of a given number of bytes,
     /// at most 8,192.
     ProvidedNeeded(usize),
+    /// With its table, into a caller-provided buffer of a given number of bytes, at most 8,192.
+    WithTable(usize),
 }
 
 /// Each call, the caller-provided buffer being larger than each message of a case.
-pub const READERS: [Reader; 7] = [
+pub const READERS: [Reader; 8] = [
     Reader::Copying,
     Reader::Reusing,
     Reader::Lending(4096),
@@ -44,6 +48,7 @@ pub const READERS: [Reader; 7] = [
     Reader::ProvidedMessage(4096),
     Reader::Needed,
     Reader::ProvidedNeeded(4096),
+    Reader::WithTable(4096),
 ];
 
 /// Options of this limit.
@@ -73,14 +78,16 @@ pub fn is_returned<R: BufRead>(
 // How many bytes the caller-provided buffer has, where the call takes one.
 fn room_of(reader: Reader) -> usize {
     match reader {
-        Reader::Lending(room) | Reader::ProvidedMessage(room) | Reader::ProvidedNeeded(room) =>
-            room,
+        Reader::Lending(room)
+        | Reader::ProvidedMessage(room)
+        | Reader::ProvidedNeeded(room)
+        | Reader::WithTable(room) => room,
         Reader::Copying | Reader::Reusing | Reader::Message | Reader::Needed => 0,
     }
 }
 
-// The segments of a message that was read.
-fn segments_of<S: ReaderSegments + Drop>(
+/// The segments of a message that was read.
+pub fn segments_of<S: ReaderSegments + Drop>(
     returned: Result<Option<message::Reader<S>>>,
 ) -> Result<Option<S>> {
     match returned? {
@@ -95,6 +102,20 @@ fn needed_segments_of<S: ReaderSegments + Drop>(
     Ok(Some(returned?.into_segments()))
 }
 
+// The segments of a message that was read into a buffer with its table.
+fn segments_in(
+    returned: Result<Option<NoAllocSegmentTableInfo>>,
+    buffer: &[u8],
+) -> Result<Option<NoAllocSliceSegments<'_>>> {
+    match returned? {
+        Some(_) => {
+            let found = NoAllocBufferSegments::from_buffer(buffer, DEFAULT_READER_OPTIONS)?;
+            Ok(Some(found))
+        }
+        None => Ok(None),
+    }
+}
+
 // What is returned where a message has to be there: an error at the end.
 fn needed(wanted: Wanted<'_>) -> Wanted<'_> {
     match wanted {
@@ -103,8 +124,8 @@ fn needed(wanted: Wanted<'_>) -> Wanted<'_> {
     }
 }
 
-// Whether this is the result. An `OutOfMemory` is handed back.
-fn is_wanted<S: ReaderSegments + Drop>(
+/// Whether this is the result. An `OutOfMemory` is handed back.
+pub fn is_wanted<S: ReaderSegments + Drop>(
     returned: Result<Option<S>>,
     wanted: Wanted<'_>,
 ) -> Result<bool> {

@@ -75,6 +75,14 @@ pub const FAR: Sample = Sample {
 
 pub const SAMPLES: [Sample; 4] = [TWO_SEGMENTS, FLATTEN, HELLO, FAR];
 
+/// The encoding of a message in a format.
+pub fn encoding_of(sample: &Sample, format: Format) -> &'static [u8] {
+    match format {
+        Format::Framed => sample.framed,
+        Format::Packed => sample.packed,
+    }
+}
+
 /// Appends a word that has a zero byte, and after which no word is zero.
 pub fn append_word(stream: &mut Vec<u8>, format: Format, word: u64) -> Result<()> {
     match format {

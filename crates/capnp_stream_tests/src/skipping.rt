@@ -27,8 +27,8 @@ fn has_lengths(found: &SegmentLengthsBuilder, segments: &[&[u8]]) -> bool {
     found.segments_count() == segments.len()
 }
 
-// Whether what is wanted of the next message is returned where it is skipped.
-fn is_skipped<R: BufRead>(
+/// Whether what is wanted of the next message is returned where it is skipped.
+pub fn is_skipped<R: BufRead>(
     alloc: Global,
     (format, padding): (Format, Padding),
     source: &mut R,

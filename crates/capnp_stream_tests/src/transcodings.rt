@@ -1,8 +1,8 @@
-//! Messages that are taken from one format to the other, while a device fails.
+//! Messages that are taken from one format to the other, while a device fails, and by any padding.
 use crate::assertions::{At, assert_bytes, assert_calls, assert_count, assert_holds, assert_kind};
-use crate::samples::{FAR, FLATTEN, HELLO, Sample};
+use crate::samples::{FAR, FLATTEN, HELLO, Sample, TWO_SEGMENTS};
 use capnp::message::DEFAULT_READER_OPTIONS;
-use capnp::{Way, transcode};
+use capnp::{Way, transcode, transcode_lenient};
 use capnp_frame::io::{BufRead, Write};
 use capnp_frame::{ErrorKind, Result};
 use capnp_frame_tests::errors::kind_of;
@@ -174,4 +174,36 @@ fn read_from(rt: &(impl Abort + AllocGlobal), way: Way, most: usize, at: At<'_>)
     let done = length_of(packs, messages_in(!packs, consumed));
     assert_holds(rt, is_whole || written.len() == done, at);
     Ok(false)
+}
+
+// The encodings of case two-segments with a padding of nines, by the ways that they are taken.
+#[rattlefmt::skip]
+const PADDED: [(Way, &[u8]); 2] = [
+    (Way::Pack, &[1, 0, 0, 0, 0, 0, 0, 0, 1, 0, 0, 0, 9, 9, 9, 9, 1, 2, 3, 4, 5, 6, 7, 8]),
+    (Way::Unpack, &[1, 1, 0xf1, 1, 9, 9, 9, 9, 0xff, 1, 2, 3, 4, 5, 6, 7, 8, 0]),
+];
+
+// What is written has zero padding.
+#[test]
+fn any_padding_is_accepted(rt: HostRuntime) -> Result<()> {
+    for (way, encoding) in &PADDED {
+        retried!(transcode_padded(&rt, *way, *encoding))?;
+    }
+    Ok(())
+}
+
+fn transcode_padded(rt: &(impl Abort + AllocGlobal), way: Way, encoding: &[u8]) -> Result<()> {
+    let alloc = rt.alloc();
+    let mut source = encoding;
+    let mut written: Vec<u8> = Vec::new(alloc);
+    transcode_lenient(
+        alloc,
+        way,
+        &mut source,
+        &mut written,
+        DEFAULT_READER_OPTIONS,
+    )?;
+    let wanted = encoding_of(&TWO_SEGMENTS, way == Way::Pack);
+    assert_bytes(rt, &written, wanted, At::case(name_of(way)));
+    Ok(())
 }

@@ -1,9 +1,13 @@
-//! Accounts that are built from the bottom up, by hand-computed bytes.
-use capnp::Result;
-use capnp::message::{DEFAULT_READER_OPTIONS, Reader};
+//! Accounts that are built from the bottom up, by hand-computed bytes, and where they fail.
+use crate::fixtures::{expect, limited};
+use capnp::message::Reader;
 use capnp::serialize::OwnedSegments;
+use capnp::{ErrorKind, Result};
+use capnp_frame_tests::errors::kind_of;
 use capnp_frame_tests::messages::has_segments;
-use capnp_uses::account_list::{NewAccount, accounts_are_read_back};
+use capnp_frame_tests::retried;
+use capnp_orphans::Orphanage;
+use capnp_uses::account_list::{NewAccount, accounts_are_read_back, list_of_accounts};
 use std::alloc::Global;
 
 // The root points past the two names, "A" and the empty one, to the list: a tag, then 7 and 8, each
@@ -20,14 +24,50 @@ const ACCOUNTS: [NewAccount<'static>; 2] = [
     NewAccount { id: 8, name: "" },
 ];
 
-// The message of both accounts, which is read back.
-fn both(alloc: Global) -> Result<Reader<OwnedSegments>> {
-    accounts_are_read_back(alloc, &ACCOUNTS, DEFAULT_READER_OPTIONS)
+// The message of both accounts, which is read back within a limit of words.
+fn both(alloc: Global, limit: usize) -> Result<Reader<OwnedSegments>> {
+    accounts_are_read_back(alloc, &ACCOUNTS, limited(Some(limit)))
 }
 
+// It has eight words.
 #[test]
 fn accounts_are_built_and_read_back(rt: HostRuntime) -> Result<()> {
-    let message = both(rt.alloc())?;
+    let message = retried!(both(rt.alloc(), 8))?;
     assert!(rt; has_segments(message.get_segments(), &[BUILT]));
+    let failed = retried!(kind_of(both(rt.alloc(), 7)))?;
+    expect(
+        &rt,
+        "a limit of 7",
+        failed,
+        Some(ErrorKind::MessageTooLarge(8)),
+    );
     Ok(())
+}
+
+// The bytes of a region, and how the list of both accounts fails in it: after the root each name takes
+// a word, and then the list five.
+#[rattlefmt::skip]
+const REGIONS: [(usize, Option<ErrorKind>); 6] = [
+    (8, Some(ErrorKind::AllocationTooLarge(1))),
+    (16, Some(ErrorKind::AllocationTooLarge(1))),
+    (23, Some(ErrorKind::AllocationTooLarge(1))),
+    (24, Some(ErrorKind::AllocationTooLarge(5))),
+    (63, Some(ErrorKind::AllocationTooLarge(5))),
+    (64, None),
+];
+
+#[test]
+fn lists_that_have_no_room(rt: HostRuntime) -> Result<()> {
+    for (room, wanted) in &REGIONS {
+        let failed = retried!(error_in(rt.alloc(), *room))?;
+        expect(&rt, *room, failed, *wanted);
+    }
+    Ok(())
+}
+
+// How the list fails in a region of at most 64 bytes. An `OutOfMemory` is handed back.
+fn error_in(alloc: Global, room: usize) -> Result<Option<ErrorKind>> {
+    let mut region = [0; 64];
+    let mut objects = Orphanage::in_region(&mut region[..room.min(64)])?;
+    kind_of(list_of_accounts(alloc, &mut objects, &ACCOUNTS))
 }

@@ -1,5 +1,6 @@
 //! What each view counts against the traversal limit, by each way to it. The words of what points
 //! there count once, and the landing pads and the words of the object each time that it is viewed.
+mod functions;
 mod views;
 
 use crate::calls::counts::views::{Limited, VIEWS, View, views};

@@ -1,7 +1,7 @@
 //! The calls that read framed messages, few in each function, since a function of many is dear to
 //! prove.
 use crate::readers::{
-    Reader, is_wanted, needed, needed_segments_of, room_of, segments_of, with_limit,
+    Reader, is_wanted, needed, needed_segments_of, room_of, segments_in, segments_of, with_limit,
 };
 use crate::streams::Wanted;
 use capnp::serialize;
@@ -9,8 +9,9 @@ use capnp_frame::Result;
 use capnp_frame::io::Read;
 use capnp_frame::message::ReaderOptions;
 use capnp_frame::serialize::{
-    OwnedSegments, Padding, TableRules, try_read_segments, try_read_segments_into,
-    try_read_segments_into_lenient, try_read_segments_lenient, try_read_segments_reusing,
+    OwnedSegments, Padding, TableRules, try_read_framed_into, try_read_segments,
+    try_read_segments_into, try_read_segments_into_lenient, try_read_segments_lenient,
+    try_read_segments_reusing,
 };
 use std::alloc::Global;
 
@@ -37,6 +38,7 @@ pub fn is_read<R: Read>(
         Reader::ProvidedNeeded(_) => {
             is_needed_provided((rule, options), source, buffer, needed(wanted))
         }
+        Reader::WithTable(_) => is_with_table((rule, options), source, buffer, wanted),
     }
 }
 
@@ -148,4 +150,15 @@ fn is_needed_provided<R: Read>(
             is_wanted(needed_segments_of(read), wanted)
         }
     }
+}
+
+fn is_with_table<R: Read>(
+    (rule, options): (Padding, ReaderOptions),
+    source: &mut R,
+    buffer: &mut [u8],
+    wanted: Wanted<'_>,
+) -> Result<bool> {
+    let rules = TableRules::new(rule, options);
+    let read = try_read_framed_into(source, rules, buffer);
+    is_wanted(segments_in(read, buffer), wanted)
 }

@@ -1,6 +1,6 @@
 //! The calls that read packed messages, few in each function.
 use crate::readers::{
-    Reader, is_wanted, needed, needed_segments_of, room_of, segments_of, with_limit,
+    Reader, is_wanted, needed, needed_segments_of, room_of, segments_in, segments_of, with_limit,
 };
 use crate::streams::Wanted;
 use capnp::serialize_packed;
@@ -8,7 +8,9 @@ use capnp_frame::Result;
 use capnp_frame::io::BufRead;
 use capnp_frame::message::ReaderOptions;
 use capnp_frame::serialize::{OwnedSegments, Padding, TableRules};
-use capnp_pack::stream::{try_read_packed_segments, try_read_packed_segments_into};
+use capnp_pack::stream::{
+    try_read_packed_framed_into, try_read_packed_segments, try_read_packed_segments_into,
+};
 use std::alloc::Global;
 
 /// Whether the packed calls read this source as expected.
@@ -35,6 +37,7 @@ pub fn is_unpacked<R: BufRead>(
         Reader::ProvidedNeeded(_) => {
             is_needed_packed_provided((rule, options), source, buffer, needed(wanted))
         }
+        Reader::WithTable(_) => is_packed_with_table((rule, options), source, buffer, wanted),
     }
 }
 
@@ -129,4 +132,15 @@ fn is_needed_packed_provided<R: BufRead>(
             is_wanted(needed_segments_of(read), wanted)
         }
     }
+}
+
+fn is_packed_with_table<R: BufRead>(
+    (rule, options): (Padding, ReaderOptions),
+    source: &mut R,
+    buffer: &mut [u8],
+    wanted: Wanted<'_>,
+) -> Result<bool> {
+    let rules = TableRules::new(rule, options);
+    let read = try_read_packed_framed_into(source, rules, buffer);
+    is_wanted(segments_in(read, buffer), wanted)
 }

@@ -11,11 +11,11 @@ use capnp_wire::{
     any_object, any_pointer, any_pointer_list, list_list, primitive_list, struct_list, text,
 };
 
-type Segments<'a> = SegmentArray<'a>;
+pub type Segments<'a> = SegmentArray<'a>;
 
-type Pointer<'a> = any_pointer::Reader<'a, Segments<'a>>;
+pub type Pointer<'a> = any_pointer::Reader<'a, Segments<'a>>;
 
-type Struct<'a> = StructReader<'a, Segments<'a>>;
+pub type Struct<'a> = StructReader<'a, Segments<'a>>;
 
 type Object<'a> = any_object::Reader<'a, Segments<'a>>;
 
@@ -132,7 +132,8 @@ fn views_as<'a, T: FromPointerInSegment<'a, Segments<'a>> + Drop>(
     }
 }
 
-fn is_limited<T: Drop>(view: Result<T>) -> bool {
+/// Whether a view fails for the limit.
+pub fn is_limited<T: Drop>(view: Result<T>) -> bool {
     error_of(view) == 20
 }
 
@@ -186,7 +187,8 @@ fn in_upgraded_list<'a, T: FromPointerReader<'a, Segments<'a>> + Drop>(
     Ok([first, second, is_limited(there(list.iter().next())?)])
 }
 
-fn missing() -> Error {
+/// What a test fails with where an element is missing.
+pub fn missing() -> Error {
     Error::from_kind(ErrorKind::PrematureEndOfFile)
 }
 

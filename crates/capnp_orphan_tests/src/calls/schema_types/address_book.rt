@@ -2,8 +2,8 @@
 use crate::addressbook_capnp::person::phone_number;
 use crate::addressbook_capnp::{address_book, person};
 use capnp::message::ReaderSegments;
+use capnp::orphans::{GrowingSegment, Orphan, Orphanage};
 use capnp::{Result, serialize};
-use capnp_orphans::{GrowingSegment, Orphan, Orphanage};
 use std::alloc::Global;
 
 /// Makes the address book of the site the root of a message.
@@ -52,19 +52,28 @@ pub fn people<S: GrowingSegment>(
 ) -> Result<Orphan<person::OwnedList>> {
     let mut people = Vec::new(alloc);
     for (name, email, job) in entries {
-        let mut person = person::Builder::new();
-        person.set_name(objects.text(name)?);
-        if let Some(email) = email {
-            person.set_email(objects.text(email)?);
-        }
-        match job {
-            Job::None => person.set_employment_unemployed(),
-            Job::At(employer) => person.set_employment_employer(objects.text(employer)?),
-            Job::Learns(school) => person.set_employment_school(objects.text(school)?),
-        }
-        people.push(person)?;
+        people.push(make_person(name, *email, job, objects)?)?;
     }
     person::Builder::add_list(people.as_slice(), objects)
+}
+
+fn make_person<S: GrowingSegment>(
+    name: &str,
+    email: Option<&str>,
+    job: &Job<'_>,
+    objects: &mut Orphanage<S>,
+) -> Result<person::Builder> {
+    let mut person = person::Builder::new();
+    person.set_name(objects.text(name)?);
+    if let Some(email) = email {
+        person.set_email(objects.text(email)?);
+    }
+    match job {
+        Job::None => person.set_employment_unemployed(),
+        Job::At(employer) => person.set_employment_employer(objects.text(employer)?),
+        Job::Learns(school) => person.set_employment_school(objects.text(school)?),
+    }
+    Ok(person)
 }
 
 /// Appends a framed message for each name. The orphanage is used again, so it takes no memory for
@@ -74,14 +83,24 @@ pub fn append_people(alloc: Global, log: &mut Vec<u8>, names: &[&str]) -> Result
     let mut id: u32 = 0;
     for name in names {
         id = id.wrapping_add(1);
-        objects.clear();
-        let mut person = person::Builder::new();
-        person.set_id(id);
-        person.set_name(objects.text(name)?);
-        person.add_root(&mut objects)?;
-        serialize::write_message(alloc, log, &objects)?;
+        append_person(alloc, log, id, name, &mut objects)?;
     }
     Ok(())
+}
+
+fn append_person<S: GrowingSegment>(
+    alloc: Global,
+    log: &mut Vec<u8>,
+    id: u32,
+    name: &str,
+    objects: &mut Orphanage<S>,
+) -> Result<()> {
+    objects.clear();
+    let mut person = person::Builder::new();
+    person.set_id(id);
+    person.set_name(objects.text(name)?);
+    person.add_root(objects)?;
+    serialize::write_message(alloc, log, objects)
 }
 
 /// Writes a person as it was read, but with another email, as the root of a message.

@@ -5,7 +5,9 @@ use crate::calls::schema_types::shown::{coordinates, message_of, sample_of};
 use crate::sample_capnp::{palette, point};
 use capnp::message::{Reader, ReaderSegments};
 use capnp_frame::Result;
+use capnp_wire::any_struct::StructReader;
 use capnp_wire::constant::OrDefault;
+use capnp_wire::upgraded::{FromStruct, Structs};
 use std::process::Abort;
 
 // (colors = [green, deepBlue, red], names = ["leaf"]), with 7 as the number of the second color
@@ -43,6 +45,39 @@ fn points_come_one_by_one(rt: HostRuntime) -> Result<()> {
     let message = message_of(&segments);
     let points = sample_of(&message)?.get_points()?;
     expect(&rt, "sums", sums(&points), (4, -2));
+    Ok(())
+}
+
+// The index of the last element of a list of structs, whatever their type.
+fn last_index<'a, S: ReaderSegments, T: FromStruct<StructReader<'a, S>> + Drop>(
+    list: Structs<'a, S, T>,
+) -> Option<usize> {
+    let mut last: Option<usize> = None;
+    for (index, _) in list.into_iter().enumerate() {
+        last = Some(index);
+    }
+    last
+}
+
+// How many points have an x above 2, and the sum of their indices.
+fn right_points<S: ReaderSegments>(points: &point::ListReader<'_, S>) -> (usize, usize) {
+    let mut sum: usize = 0;
+    for (index, point) in points.iter().enumerate() {
+        if point.get_x() > 2 {
+            sum = sum.saturating_add(index);
+        }
+    }
+    let count = points.iter().filter(|point| point.get_x() > 2).count();
+    (count, sum)
+}
+
+#[test]
+fn points_have_indices(rt: HostRuntime) -> Result<()> {
+    let segments = [FILLED];
+    let message = message_of(&segments);
+    let points = sample_of(&message)?.get_points()?;
+    expect(&rt, "right points", right_points(&points), (1, 1));
+    expect(&rt, "the last index", last_index(points), Some(1));
     Ok(())
 }
 
