@@ -1,10 +1,13 @@
 // Cases as the drivers in C++ read them, and bytes as results show them.
 #pragma once
+#include <algorithm>
+#include <charconv>
 #include <cstdint>
 #include <cstdio>
 #include <iostream>
 #include <sstream>
 #include <string>
+#include <type_traits>
 #include <vector>
 
 using Bytes = std::string;
@@ -105,6 +108,55 @@ inline std::string hex(uint64_t number) {
     line << std::hex << number;
     return line.str();
 }
+
+// A number of a type as results show it: a signed one and a float in decimal digits, the fewest that tell the float.
+template <typename T> std::string shown_number(T number) {
+    if (!std::is_signed<T>::value) return hex(number);
+    if (number != number) return "NaN";
+    char digits[1100];
+    if constexpr (std::is_floating_point<T>::value)
+        return std::string(digits, std::to_chars(digits, std::end(digits), number, std::chars_format::fixed).ptr);
+    return std::string(digits, std::to_chars(digits, std::end(digits), int64_t(number)).ptr);
+}
+
+// What a call makes of a number of the type that a word names.
+template <typename Call> std::string by_number(const std::string &word, Call &&call) {
+    return word == "1" || word == "bool" ? call(false) : word == "8" ? call(uint8_t()) : word == "16" ? call(uint16_t())
+        : word == "32" ? call(uint32_t()) : word == "64" ? call(uint64_t()) : word == "i8" ? call(int8_t())
+        : word == "i16" ? call(int16_t()) : word == "i32" ? call(int32_t()) : word == "i64" ? call(int64_t())
+        : word == "f32" ? call(float()) : call(double());
+}
+
+// The element code of the lists whose elements a word names.
+inline int code_of(std::string elements) {
+    static const char *const WORDS[] = {"void", "bool", "8", "16", "32", "64", "pointers"};
+    if (elements[0] == 'i' || elements[0] == 'f') elements = elements.substr(1);
+    return int(std::find(std::begin(WORDS), std::end(WORDS), elements) - std::begin(WORDS));
+}
+
+// The elements of a list: how many it has, and the first of them, equal ones in a row once.
+template <typename Element> std::string shown_elements(unsigned count, Element &&element) {
+    std::string line = "list of " + std::to_string(count) + (count ? ":" : "");
+    for (unsigned i = 0, next; i < std::min(count, 64u); i = next) {
+        std::string one = element(i);
+        for (next = i + 1; next < std::min(count, 64u) && element(next) == one; next++) {}
+        line += " " + one + (next - i > 1 ? "*" + std::to_string(next - i) : "");
+    }
+    return line + (count > 64 ? " .." : "");
+}
+
+// A field that a case asks for: the word of its type, its index, the bits of its default, and the segments.
+struct Field {
+    std::string number, segments;
+    unsigned index;
+    uint64_t bits;
+
+    explicit Field(const std::string &rest) {
+        std::stringstream words(rest);
+        words >> number >> index >> std::hex >> bits >> std::ws;
+        std::getline(words, segments);
+    }
+};
 
 // Copies the cases on standard input, and writes what a driver finds in the place of their results.
 template <typename Results> int run_cases(Results &&results) {

@@ -1,6 +1,6 @@
 // Runs conformance files over the library for C: reads cases on standard input, and writes them with what it finds.
 // What the library doesn't tell, as the numbers in an error and what is unread after one, is left out.
-#include "capnp_c.h"
+#include "linsjoar.h"
 #include "cases.h"
 
 static const uint8_t *of(const Bytes &bytes) { return reinterpret_cast<const uint8_t *>(bytes.data()); }
@@ -16,7 +16,7 @@ static linsjoar_options options_of(const Case &c) {
 
 // The segments of the message at the front of framed bytes.
 static std::string message_of(const linsjoar_options &options, const Bytes &framed, size_t &end) {
-    struct linsjoar_message message;
+    struct linsjoar_bounds message;
     uint8_t number = linsjoar_message_with_options(of(framed), framed.size(), &options, &message);
     if (number) return error_of(number);
     std::vector<Bytes> segments;
@@ -118,9 +118,71 @@ static Lines write(const Case &c, const std::vector<Bytes> &segments) {
     return {"packed: " + (number ? error_of(number) : "bytes" + shown(text.substr(0, written)))};
 }
 
+// The pointer that a case asks, where the segments have a frame within the limits, or why it isn't found.
+struct Asked {
+    Bytes framed;
+    linsjoar_reader reader;
+    linsjoar_place pointer;
+    uint8_t number = 0;
+
+    Asked(const Case &c, const std::string &written) {
+        if (!frame(c, segments_of(written), framed)) framed.clear();
+        auto options = options_of(c);
+        number = linsjoar_open_with_options(of(framed), framed.size(), &options, &reader);
+        if (!number) number = linsjoar_root(of(framed), framed.size(), &reader, &pointer);
+        for (unsigned index : c.path) {
+            struct linsjoar_struct fields;
+            if (!number) number = linsjoar_struct(of(framed), framed.size(), &reader, &pointer, &fields);
+            if (!number) number = linsjoar_struct_pointer(&fields, index, &pointer);
+        }
+    }
+};
+
+// The number of these bits.
+template <typename T> static T number_of(uint64_t bits) {
+    T number;
+    memcpy(&number, &bits, sizeof number);
+    return number;
+}
+
+static Lines field(const Case &c, const Field &asked) {
+    Asked a(c, asked.segments);
+    struct linsjoar_struct fields;
+    if (a.framed.empty()) return {};
+    if (!a.number) a.number = linsjoar_struct(of(a.framed), a.framed.size(), &a.reader, &a.pointer, &fields);
+    if (a.number) return {error_of(a.number)};
+    return {"number " + by_number(asked.number, [&](auto zero) {
+        bool is_bool = std::is_same<decltype(zero), bool>::value;
+        uint64_t bits = is_bool ? linsjoar_bool(of(a.framed), &fields, asked.index)
+            : linsjoar_field(of(a.framed), &fields, asked.index * sizeof zero, sizeof zero);
+        return shown_number(number_of<decltype(zero)>(bits ^ asked.bits));
+    })};
+}
+
+// A list of numbers.
+static Lines numbers(const Case &c, const std::string &rest) {
+    size_t space = rest.find(' ');
+    std::string elements = rest.substr(0, space);
+    Asked a(c, rest.substr(space + 1));
+    struct linsjoar_list list;
+    int code = code_of(elements);
+    if (a.framed.empty() || code > LINSJOAR_EIGHT_BYTES) return {};
+    if (!a.number) a.number = linsjoar_list(of(a.framed), a.framed.size(), &a.reader, &a.pointer, uint8_t(code), &list);
+    if (a.number) return {"upgraded: " + error_of(a.number)};
+    return {"upgraded: " + shown_elements(list.count, [&](uint32_t i) {
+        uint64_t bits;
+        uint8_t number = linsjoar_list_number(of(a.framed), a.framed.size(), &list, i, &bits);
+        if (number) return error_of(number);
+        return code == LINSJOAR_VOID ? hex(bits)
+            : by_number(elements, [&](auto zero) { return shown_number(number_of<decltype(zero)>(bits)); });
+    })};
+}
+
 static Lines results(const Case &c, const std::string &word, const std::string &rest) {
     if (word == "unpack") return unpack(std::stoul(rest), segments_of(rest.substr(rest.find(' ') + 1))[0]);
-    if (word == "list" || word == "field" || word == "pointer" || word == "framed") return {};
+    if (word == "list") return numbers(c, rest);
+    if (word == "field") return field(c, Field(rest));
+    if (word == "pointer" || word == "framed") return {};
     auto segments = segments_of(rest);
     if (word == "pack") return pack(segments);
     if (word == "write") return write(c, segments);

@@ -186,58 +186,34 @@ static Lines canonical(const Case &c, const std::vector<Bytes> &written) {
     };
 }
 
-static std::string field(const Case &c, const std::string &rest) {
-    std::stringstream words(rest);
-    unsigned width, index;
-    uint64_t mask;
-    words >> width >> index >> std::hex >> mask >> std::ws;
-    std::string written;
-    std::getline(words, written);
-    return ask(c, segments_of(written), [&](Pointer p) {
+static std::string field(const Case &c, const Field &asked) {
+    return ask(c, segments_of(asked.segments), [&](Pointer p) {
         auto fields = p.getStruct(nullptr);
-        auto at = index * capnp::ELEMENTS;
-        return "number " + hex(width == 1 ? fields.getDataField<bool>(at, mask) : width == 8 ? fields.getDataField<uint8_t>(at, mask)
-            : width == 16 ? fields.getDataField<uint16_t>(at, mask) : width == 32 ? fields.getDataField<uint32_t>(at, mask)
-            : fields.getDataField<uint64_t>(at, mask));
+        return "number " + by_number(asked.number, [&](auto zero) {
+            return shown_number(fields.getDataField<decltype(zero)>(asked.index * capnp::ELEMENTS, asked.bits));
+        });
     });
 }
 
 static std::string list(const Case &c, const std::string &rest) {
-    using Size = capnp::ElementSize;
     size_t space = rest.find(' ');
     std::string elements = rest.substr(0, space);
-    Size size = elements == "void" ? Size::VOID : elements == "bool" ? Size::BIT : elements == "8" ? Size::BYTE
-        : elements == "16" ? Size::TWO_BYTES : elements == "32" ? Size::FOUR_BYTES : elements == "64" ? Size::EIGHT_BYTES
-        : elements == "pointers" ? Size::POINTER : Size::INLINE_COMPOSITE;
+    auto size = capnp::ElementSize(code_of(elements));
     return ask(c, segments_of(rest.substr(space + 1)), [&](Pointer p) {
         auto list = p.getList(size, nullptr);
-        unsigned count = list.size() / capnp::ELEMENTS;
-        auto element = [&](unsigned i) -> std::string {
+        return shown_elements(list.size() / capnp::ELEMENTS, [&](unsigned i) -> std::string {
             auto at = i * capnp::ELEMENTS;
-            switch (size) {
-            case Size::VOID: return "0";
-            case Size::BIT: return hex(list.getDataElement<bool>(at));
-            case Size::BYTE: return hex(list.getDataElement<uint8_t>(at));
-            case Size::TWO_BYTES: return hex(list.getDataElement<uint16_t>(at));
-            case Size::FOUR_BYTES: return hex(list.getDataElement<uint32_t>(at));
-            case Size::EIGHT_BYTES: return hex(list.getDataElement<uint64_t>(at));
-            case Size::POINTER: return list.getPointerElement(at).isNull() ? "null" : "set";
-            default: return shown_struct(list.getStructElement(at));
-            }
-        };
-        std::string line = "list of " + std::to_string(count) + (count ? ":" : "");
-        for (unsigned i = 0, next; i < std::min(count, 64u); i = next) {
-            std::string one = element(i);
-            for (next = i + 1; next < std::min(count, 64u) && element(next) == one; next++) {}
-            line += " " + one + (next - i > 1 ? "*" + std::to_string(next - i) : "");
-        }
-        return line + (count > 64 ? " .." : "");
+            if (size == capnp::ElementSize::VOID) return "0";
+            if (size == capnp::ElementSize::POINTER) return list.getPointerElement(at).isNull() ? "null" : "set";
+            if (size == capnp::ElementSize::INLINE_COMPOSITE) return shown_struct(list.getStructElement(at));
+            return by_number(elements, [&](auto zero) { return shown_number(list.getDataElement<decltype(zero)>(at)); });
+        });
     });
 }
 
 static Lines results(const Case &c, const std::string &word, const std::string &rest) {
     Lines lines;
-    if (word == "field") return {field(c, rest)};
+    if (word == "field") return {field(c, Field(rest))};
     if (word == "list") return {"upgraded: " + list(c, rest)};
     if (word == "unpack") return {unpack(std::stoul(rest), segments_of(rest.substr(rest.find(' ') + 1))[0])};
     auto segments = segments_of(rest);

@@ -218,23 +218,29 @@ fn canonical(case: &Case, segments: &[&[u8]]) -> Vec<String> {
     vec![format!("test: {}", test), format!("form: {}", form)]
 }
 
-fn field(case: &Case, segments: &[&[u8]], width: &str, index: usize, default: u64) -> Vec<String> {
+fn field(case: &Case, segments: &[&[u8]], number: &str, index: usize, default: u64) -> Vec<String> {
     let line = ask(case, segments, |p| {
         let fields = p.get_struct(None)?;
-        let number = match width {
-            "1" => fields.get_bool_field_mask(index, default != 0) as u64,
-            "8" => fields.get_data_field_mask::<u8>(index, default as u8) as u64,
-            "16" => fields.get_data_field_mask::<u16>(index, default as u16) as u64,
-            "32" => fields.get_data_field_mask::<u32>(index, default as u32) as u64,
-            _ => fields.get_data_field_mask::<u64>(index, default),
+        let shown = match number {
+            "1" => format!("{:x}", fields.get_bool_field_mask(index, default != 0) as u8),
+            "8" => format!("{:x}", fields.get_data_field_mask::<u8>(index, default as u8)),
+            "16" => format!("{:x}", fields.get_data_field_mask::<u16>(index, default as u16)),
+            "32" => format!("{:x}", fields.get_data_field_mask::<u32>(index, default as u32)),
+            "64" => format!("{:x}", fields.get_data_field_mask::<u64>(index, default)),
+            "i8" => fields.get_data_field_mask::<i8>(index, default as i8).to_string(),
+            "i16" => fields.get_data_field_mask::<i16>(index, default as i16).to_string(),
+            "i32" => fields.get_data_field_mask::<i32>(index, default as i32).to_string(),
+            "i64" => fields.get_data_field_mask::<i64>(index, default as i64).to_string(),
+            "f32" => fields.get_data_field_mask::<f32>(index, default as u32).to_string(),
+            _ => fields.get_data_field_mask::<f64>(index, default).to_string(),
         };
-        Ok(format!("number {:x}", number))
+        Ok(format!("number {}", shown))
     });
     vec![line]
 }
 
 fn list(case: &Case, segments: &[&[u8]], elements: &str) -> Vec<String> {
-    let size = match elements {
+    let size = match elements.trim_start_matches(&['i', 'f'][..]) {
         "void" => ElementSize::Void,
         "bool" => ElementSize::Bit,
         "8" => ElementSize::Byte,
@@ -251,6 +257,12 @@ fn list(case: &Case, segments: &[&[u8]], elements: &str) -> Vec<String> {
         "16" => format!("{:x}", <u16 as PrimitiveElement>::get(list, i)),
         "32" => format!("{:x}", <u32 as PrimitiveElement>::get(list, i)),
         "64" => format!("{:x}", <u64 as PrimitiveElement>::get(list, i)),
+        "i8" => <i8 as PrimitiveElement>::get(list, i).to_string(),
+        "i16" => <i16 as PrimitiveElement>::get(list, i).to_string(),
+        "i32" => <i32 as PrimitiveElement>::get(list, i).to_string(),
+        "i64" => <i64 as PrimitiveElement>::get(list, i).to_string(),
+        "f32" => <f32 as PrimitiveElement>::get(list, i).to_string(),
+        "f64" => <f64 as PrimitiveElement>::get(list, i).to_string(),
         "pointers" => shown_pointer(list.get_pointer_element(i)),
         _ => shown_struct(list.get_struct_element(i)),
     };

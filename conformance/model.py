@@ -1,0 +1,608 @@
+#!/usr/bin/env python3
+"""A model of Cap'n Proto's message layer: the rules of docs/FORMAT.md as a program, by which results are expected.
+
+`model.py [FILE ..]` copies files of cases, or standard input, and writes what it finds in the place of each result
+(conformance/README.md). Other programs import its functions. It knows nothing of the library, and follows the order of the
+encoding document.
+"""
+import fileinput
+import itertools
+import math
+import re
+import struct
+from dataclasses import dataclass
+from decimal import Decimal
+
+WORDS_LIMIT, NESTING_LIMIT, SEGMENTS_COUNT_LIMIT = 8388608, 64, 512
+
+# The kinds of errors, by their numbers.
+KINDS = ["", "FailedToFillTheWholeBuffer", "BufferNotLargeEnough", "EmptyBuffer", "EmptySlice", "InvalidNumberOfSegments",
+         "MessageEndsPrematurely", "MessageSizeOverflow", "MessageTooLarge", "PrematureEndOfFile", "PrematureEndOfPackedInput",
+         "PackedInputDidNotEndCleanlyOnASegmentBoundary", "OutOfMemory", "DeviceFailed", "NotWholeWords", "AllocationTooLarge",
+         "SegmentTaken", "PointerOutOfBounds", "InvalidSegmentId", "NestingLimitExceeded", "ReadLimitExceeded",
+         "CapabilityRefused", "WrongPointerKind", "TextNotTerminated", "CanonicalTooLarge", "NotOneSegment", "NonZeroPadding"]
+
+
+class Invalid(Exception):
+    """A call fails: with a kind of error, and its numbers."""
+
+    def __init__(self, kind, *numbers):
+        super().__init__(kind, *numbers)
+        self.kind, self.number = kind, KINDS.index(kind)
+        self.text = kind + ("(%s)" % ", ".join(map(str, numbers)) if numbers else "")
+
+
+class NoMessage(Exception):
+    """A stream has no further message."""
+
+
+def require(condition, kind, *numbers):
+    if not condition:
+        raise Invalid(kind, *numbers)
+
+
+# Serialization over a stream
+
+def take(unread, size, kind="FailedToFillTheWholeBuffer"):
+    """The next bytes, which are consumed; where there are fewer, all are consumed and the call fails."""
+    found, unread[:size] = bytes(unread[:size]), b""
+    require(len(found) == size, kind)
+    return found
+
+
+def number_of(encoding):
+    return int.from_bytes(encoding, "little")
+
+
+def take_field(unread):
+    """A number of a segment table."""
+    require(len(unread) >= 4, "MessageEndsPrematurely", 4, len(unread))
+    return number_of(take(unread, 4))
+
+
+def table_size(count):
+    return 8 * (count // 2 + 1)
+
+
+def segment_table(segments):
+    require(0 < len(segments) < SEGMENTS_COUNT_LIMIT, "InvalidNumberOfSegments", len(segments))
+    fields = [len(segments) - 1, *(len(segment) // 8 for segment in segments)]
+    return b"".join(field.to_bytes(4, "little") for field in fields).ljust(table_size(len(segments)), b"\0")
+
+
+def frame(segments):
+    """The framed message, with a padding of zeros."""
+    return segment_table(segments) + b"".join(segments)
+
+
+def split(content, lengths):
+    """The segments of these lengths in words."""
+    content = bytearray(content)
+    return [take(content, 8 * length) for length in lengths]
+
+
+def read_message(unread, request=take, lenient=False, limit=WORDS_LIMIT, room=math.inf):
+    """The next message of a stream, by three requests: `take` over plain bytes, `unpack` over packed ones."""
+    require(room >= 8, "BufferNotLargeEnough")
+    if not unread:
+        raise NoMessage
+    table = bytearray(request(unread, 8))
+    count = (take_field(table) + 1) % 2**32
+    require(0 < count < SEGMENTS_COUNT_LIMIT, "InvalidNumberOfSegments", count)
+    require(room >= table_size(count), "BufferNotLargeEnough")
+    table += request(unread, table_size(count) - 8)
+    lengths = [take_field(table) for _ in range(count)]
+    words = sum(lengths)
+    require(words <= limit, "MessageTooLarge", words)
+    require(lenient or not any(table), "NonZeroPadding")
+    require(room >= table_size(count) + 8 * words, "BufferNotLargeEnough")
+    return split(request(unread, 8 * words), lengths)
+
+
+def read_flat(unread, lenient=False, limit=WORDS_LIMIT):
+    """The message at the front of bytes in memory, whose table is taken in whole words."""
+    require(unread, "EmptySlice")
+    table = bytearray(take(unread, 8))
+    count = (take_field(table) + 1) % 2**32
+    require(0 < count < SEGMENTS_COUNT_LIMIT, "InvalidNumberOfSegments", count)
+    table += take(unread, table_size(count) - 8)
+    lengths = [take_field(table) for _ in range(count)]
+    require(sum(lengths) <= limit, "MessageTooLarge", sum(lengths))
+    require(lenient or not any(table), "NonZeroPadding")
+    return take_segments(unread, lengths)
+
+
+def read_fields(unread, lenient=False, limit=WORDS_LIMIT):
+    """The message at the front of bytes in memory, whose table is taken field by field."""
+    count = take_field(unread) + 1
+    require(count < SEGMENTS_COUNT_LIMIT, "InvalidNumberOfSegments", count)
+    lengths = [take_field(unread) for _ in range(count)]
+    require(sum(lengths) <= limit, "MessageTooLarge", sum(lengths))
+    require(count % 2 or take_field(unread) == 0 or lenient, "NonZeroPadding")
+    return take_segments(unread, lengths)
+
+
+def take_segments(unread, lengths):
+    require(len(unread) >= 8 * sum(lengths), "MessageEndsPrematurely", sum(lengths), len(unread) // 8)
+    return split(take(unread, 8 * sum(lengths)), lengths)
+
+
+# Packing
+
+def pack(chunk):
+    """The packing of whole words, whose runs are as long as they can be."""
+    words, packed = [chunk[at:at + 8] for at in range(0, len(chunk), 8)], b""
+    zeros = "".join(str(word.count(0)) for word in words)
+    for run in re.finditer("8{1,256}|0[01]{0,255}|.", zeros):
+        word, *others = words[run.start():run.end()]
+        packed += bytes([sum(1 << bit for bit in range(8) if word[bit]), *filter(None, word)])
+        packed += bytes([len(others)]) + b"".join(filter(any, others)) if word.count(0) in (0, 8) else b""
+    return packed
+
+
+def unpack(unread, size):
+    """The chunk of this size, group by group; no run goes on past its end."""
+    chunk, cut = bytearray(), "PrematureEndOfPackedInput"
+    while len(chunk) < size:
+        tag = take(unread, 1, cut if chunk else "FailedToFillTheWholeBuffer")[0]
+        chunk += b"".join(take(unread, 1, cut) if tag >> bit & 1 else b"\0" for bit in range(8))
+        if tag in (0x00, 0xff):
+            run = 8 * take(unread, 1, cut)[0]
+            require(run <= size - len(chunk), "PackedInputDidNotEndCleanlyOnASegmentBoundary")
+            chunk += take(unread, run) if tag else bytes(run)
+    return bytes(chunk)
+
+
+def packed_message(segments):
+    """The packed message as it is written: the table and each segment by itself."""
+    return b"".join(map(pack, [segment_table(segments), *segments]))
+
+
+# Pointers and objects
+
+STRUCT, LIST, FAR, CAPABILITY = range(4)
+BITS_OF_ELEMENTS = [0, 1, 8, 16, 32, 64, 64]
+BYTES, POINTERS, STRUCTS = 2, 6, 7
+
+
+@dataclass
+class Object:
+    """What a pointer points to: a struct, or a list of `count` elements of a code; of null an empty one of any kind."""
+    kind: int
+    segment: int = 0
+    begin: int = 0  # the first word, of a list of structs that of the first element
+    data: int = 0  # the data words and the pointers of the struct, or of each element of a list of structs
+    pointers: int = 0
+    code: int = 0
+    count: int = 0
+    room: int = 0  # the words of a list of structs by its pointer
+    counted: int = 0  # what it counts against the traversal limit
+    nesting: int = 0  # the nesting depth that is left at its pointers
+
+    def step(self):
+        return self.data + self.pointers
+
+    def size(self):
+        """Its words, without those that no element of a list of structs uses."""
+        if self.kind == STRUCT:
+            return self.step()
+        return 1 + self.count * self.step() if self.code == STRUCTS else -(-self.count * BITS_OF_ELEMENTS[self.code] // 64)
+
+    def structs(self):
+        """The first words of the struct, or of the elements."""
+        return range(self.begin, self.begin + self.count * self.step(), self.step()) if self.step() else []
+
+    def places(self):
+        """The places of its pointers, in their order."""
+        if self.kind == LIST and self.code == POINTERS:
+            return [self.begin + index for index in range(self.count)]
+        return [first + self.data + index for first in self.structs() for index in range(self.pointers)]
+
+
+def offset_of(word):
+    """Bits 2 to 31, signed."""
+    return (word >> 2 & 2**30 - 1) - (word >> 1 & 2**30)
+
+
+class Message:
+    """Segments that are read, under the traversal limit and the nesting limit."""
+
+    def __init__(self, segments, limit=WORDS_LIMIT, nesting=NESTING_LIMIT):
+        self.segments = [segment[:len(segment) // 8 * 8] for segment in segments]
+        self.limit, self.nesting, self.left = limit, max(0, nesting), limit
+
+    def word(self, segment, index):
+        require(segment < len(self.segments), "InvalidSegmentId", segment)
+        require(index < len(self.segments[segment]) // 8, "PointerOutOfBounds")
+        return number_of(self.segments[segment][8 * index:8 * index + 8])
+
+    def bytes_at(self, segment, begin, words):
+        return self.segments[segment][8 * begin:8 * (begin + words)]
+
+    def object_at(self, segment, index, nesting):
+        """What the pointer at a place points to, or None of null; it isn't counted yet."""
+        word = self.word(segment, index)
+        if word == 0:
+            return None
+        require(word & 3 != CAPABILITY, "CapabilityRefused")
+        pads = 0
+        if word & 3 == FAR:
+            pads, segment, index = 1 + (word >> 2 & 1), word >> 32, word >> 3 & 2**29 - 1
+            word, tag = self.word(segment, index), self.word(segment, index + pads - 1)
+        begin = index + 1 + offset_of(word)
+        if pads == 2:
+            require(word & 7 == FAR, "PointerOutOfBounds")
+            segment, begin, word = word >> 32, word >> 3 & 2**29 - 1, tag
+            require(segment < len(self.segments), "InvalidSegmentId", segment)
+        require(word & 3 != FAR, "PointerOutOfBounds")
+        require(word & 3 != CAPABILITY, "CapabilityRefused")
+        require(nesting > 0, "NestingLimitExceeded")
+        return self.body(word, Object(word & 3, segment, begin, nesting=nesting - 1), pads)
+
+    def body(self, word, found, pads):
+        """The object that a pointer word says, at the place where it begins, behind landing pads of so many words."""
+        if found.kind == STRUCT:
+            found.data, found.pointers, found.count = word >> 32 & 0xffff, word >> 48, 1
+        else:
+            found.code, found.count = word >> 32 & 7, word >> 35
+        is_structs = found.kind == LIST and found.code == STRUCTS
+        words = 1 + found.count if is_structs else found.size()
+        require(0 <= found.begin <= found.begin + words <= len(self.segments[found.segment]) // 8, "PointerOutOfBounds")
+        if is_structs:
+            tag = self.word(found.segment, found.begin)
+            require(tag & 3 == STRUCT, "WrongPointerKind")
+            found.room, found.begin = found.count, found.begin + 1
+            found.count, found.data, found.pointers = tag >> 2 & 2**30 - 1, tag >> 32 & 0xffff, tag >> 48
+            require(found.count * found.step() <= found.room, "PointerOutOfBounds")
+        no_words = found.kind == LIST and (found.step() == 0 if is_structs else found.code == 0)
+        found.counted = pads + words + (found.count if no_words else 0)
+        return found
+
+    def count(self, found):
+        """Counts an object against the traversal limit."""
+        self.left -= found.counted if found else 0
+        require(self.left >= 0, "ReadLimitExceeded")
+        return found
+
+    def read(self, segment, index, nesting):
+        return self.count(self.object_at(segment, index, nesting))
+
+    def root(self):
+        return 0, 0, self.nesting
+
+
+# Views of objects
+
+def bytes_of(message, found):
+    """Data: a list of bytes."""
+    if not found:
+        return b""
+    require(found.kind == LIST and found.code == BYTES, "WrongPointerKind")
+    return message.bytes_at(found.segment, found.begin, found.size())[:found.count]
+
+
+def text_of(message, found):
+    """Data whose last byte is zero, without it."""
+    data = bytes_of(message, found)
+    require(not found or data[-1:] == b"\0", "TextNotTerminated")
+    return data[:-1]
+
+
+def struct_of(found):
+    require(not found or found.kind == STRUCT, "WrongPointerKind")
+    return found or Object(STRUCT)
+
+
+def field_of(message, found, bits, index, default):
+    """The number of so many bits at an index in units of its width; past the data it is the default."""
+    data = number_of(message.bytes_at(found.segment, found.begin, found.data))
+    return data >> bits * index & 2**bits - 1 ^ default
+
+
+CODES = {"void": 0, "bool": 1, "pointers": POINTERS, "structs": STRUCTS,
+         **{kind + bits: code for kind in ("", "i", "f") for bits, code in (("8", 2), ("16", 3), ("32", 4), ("64", 5))}}
+
+
+def elements_of(message, found, name, upgraded):
+    """The number of elements of a list, and the one at an index: bits, a pointer word, or a struct's data and pointer words."""
+    if not found:
+        return 0, None
+    wanted = CODES[name]
+    require(found.kind == LIST, "WrongPointerKind")
+    if found.code == STRUCTS and wanted != STRUCTS:
+        has_first = found.pointers if wanted == POINTERS else found.data or wanted == 0
+        require(upgraded and wanted != 1 and has_first, "WrongPointerKind")
+    elif found.code != wanted:
+        require(upgraded and wanted == STRUCTS and found.code != 1, "WrongPointerKind")
+
+    def number_at(index):
+        bits = BITS_OF_ELEMENTS[found.code]
+        word = message.word(found.segment, found.begin + bits * index // 64) if bits else 0
+        return word >> bits * index % 64 & 2**bits - 1
+
+    def element_at(index):
+        if found.code == STRUCTS:
+            sections = sections_of(message, found, index)
+            if wanted == STRUCTS:
+                return sections
+            return sections[1][0] if wanted == POINTERS else sections[0][0] & 2**BITS_OF_ELEMENTS[wanted] - 1 if wanted else 0
+        if wanted != STRUCTS:
+            return number_at(index)
+        return ([], [number_at(index)]) if found.code == POINTERS else ([number_at(index)] if found.code else [], [])
+
+    return found.count, element_at
+
+
+def sections_of(message, found, element=0):
+    """The data words and the pointer words of a struct, or of an element of a list of structs."""
+    first = found.begin + element * found.step()
+    words = [message.word(found.segment, first + index) for index in range(found.step())]
+    return words[:found.data], words[found.data:]
+
+
+# Trees: what a walk over all objects finds, in preorder
+
+def walk(message, segment, index, nesting):
+    """The object at a place and all below it, as a pair of the object and of the trees at its pointers; each is counted."""
+    found = message.read(segment, index, nesting)
+    if not found:
+        return None
+    return found, [walk(message, found.segment, place, found.nesting) for place in found.places()]
+
+
+def size_of(tree):
+    """The words of all objects, without landing pads."""
+    return tree[0].size() + sum(map(size_of, tree[1])) if tree else 0
+
+
+# Canonical form
+
+def pointer_word(found, offset, data=0, pointers=0):
+    """A pointer to an object at an offset; of a list of structs the count is of words."""
+    if found.kind == STRUCT:
+        return offset % 2**30 << 2 | data << 32 | pointers << 48
+    count = found.count * (data + pointers) if found.code == STRUCTS else found.count
+    return offset % 2**30 << 2 | LIST | found.code << 32 | count << 35
+
+
+def trimmed_sizes(message, found):
+    """The least data words and pointers that hold every word of the struct, or of the elements, that isn't zero."""
+    least = [0, 0]
+    for element in range(found.count if found.step() else 0):
+        for side, words in enumerate(sections_of(message, found, element)):
+            least[side] = max([least[side], *(index + 1 for index, word in enumerate(words) if word)])
+    return least
+
+
+def put(words, at, message, tree):
+    """Writes a tree, trimmed: its pointer at a word that is there, its body at the end, in preorder."""
+    if not tree:
+        return
+    (found, trees), begin = tree, len(words)
+    data = pointers = 0
+    if found.kind == STRUCT or found.code == STRUCTS:
+        data, pointers = trimmed_sizes(message, found)
+    words[at] = pointer_word(found, begin - at - 1, data, pointers)
+    if found.kind == LIST and found.code < POINTERS:
+        whole = number_of(message.bytes_at(found.segment, found.begin, found.size()))
+        whole &= 2**(found.count * BITS_OF_ELEMENTS[found.code]) - 1
+        words += [whole >> 64 * index & 2**64 - 1 for index in range(found.size())]
+        return
+    if found.kind == STRUCT and data + pointers == 0:
+        words[at] = pointer_word(found, -1)
+    if found.kind == LIST and found.code == STRUCTS:
+        words.append(found.count << 2 | data << 32 | pointers << 48)
+    below = []
+    if found.kind == LIST and found.code == POINTERS:
+        below = [(len(words) + index, tree) for index, tree in enumerate(trees)]
+        words += [0] * found.count
+    else:
+        for element in range(found.count if data + pointers else 0):
+            first = found.begin + element * found.step()
+            words += [message.word(found.segment, first + index) for index in range(data)]
+            some = trees[element * found.pointers:][:pointers]
+            below += [(len(words) + index, tree) for index, tree in enumerate(some)]
+            words += [0] * pointers
+    for place, tree in below:
+        put(words, place, message, tree)
+
+
+def canonical_form(message):
+    """The bytes of the one segment that is the canonical form of the root and all below it."""
+    words = [0]
+    put(words, 0, message, walk(message, *message.root()))
+    require(len(words) <= 2**29, "CanonicalTooLarge")
+    return b"".join(word.to_bytes(8, "little") for word in words)
+
+
+def is_canonical(message):
+    """Whether a message is its canonical form; what is met first decides, an error or an object that isn't as there."""
+    if len(message.segments) > 1:
+        return False
+    free = follow(message, 1, *message.root())
+    return free == len(message.segments[0]) // 8
+
+
+def follow(message, free, segment, index, nesting):
+    """Where the bodies end that begin at a free word, or None where one isn't as the canonical form has it."""
+    if message.word(segment, index) & 3 == FAR:
+        return None
+    found = message.read(segment, index, nesting)
+    if not found:
+        return free
+    words = [0] * free
+    put(words, index, message, (found, [None] * len(found.places())))
+    if words[index] != message.word(segment, index):
+        return None
+    body = words[free:]
+    for place in found.places():
+        body[place - free] = message.word(segment, place)
+    if body != [message.word(segment, free + index) for index in range(len(body))]:
+        return None
+    free += len(body)
+    for place in found.places():
+        free = follow(message, free, segment, place, found.nesting)
+        if free is None:
+            return None
+    return free
+
+
+# Cases
+
+ASKED = {"framed": ["strict", "lenient"], "packed": ["strict", "lenient"], "write": ["framed", "packed"],
+         "flat": ["words", "fields", "lenient words", "lenient fields"], "pack": ["packed"], "unpack": ["unpacked"],
+         "pointer": ["null", "text", "data", "struct", "size"], "list": ["exact", "upgraded"], "field": ["field"],
+         "canonical": ["test", "form"]}
+DEFAULTS = {"limit": WORDS_LIMIT, "nesting": NESTING_LIMIT, "calls": math.inf, "buffer": math.inf, "at": ()}
+
+
+def parse(text):
+    """The segments, or chunks, of a case."""
+    text = re.sub('"([^"]*)"', lambda quoted: quoted[1].encode().hex(), text)
+    text = re.sub(r"(\w+|-)\*(\d+)", lambda run: ("|" if run[1] == "-" else "").join([run[1]] * int(run[2])), text)
+    return [] if text == "none" else [bytes.fromhex(segment.replace("-", "")) for segment in text.split("|")]
+
+
+def show(segments):
+    text = " | ".join(segment.hex(" ", -8) or "-" for segment in segments)
+    return re.sub(r"(\w{16})( \1)+|-( \| -)+", lambda run: f"{run[1] or '-'}*{run[0].count(run[1] or '-')}", text)
+
+
+def show_struct(sections):
+    data, pointers = sections
+    return "[%s]" % " ".join([*("%x" % word for word in data), "|", *(show_pointer(word) for word in pointers)])
+
+
+def show_pointer(word):
+    return "set" if word else "null"
+
+
+def show_number(kind, bits):
+    """Hexadecimal; of `i8` and so on decimal, with a sign; of `f32` and `f64` the fewest digits that tell the float."""
+    if kind[0] not in "if":
+        return "%x" % bits
+    encoding = bits.to_bytes(int(kind[1:]) // 8, "little")
+    if kind[0] == "i":
+        return str(int.from_bytes(encoding, "little", signed=True))
+    form = "<f" if kind == "f32" else "<d"
+    value = struct.unpack(form, encoding)[0]
+    if not math.isfinite(value):
+        return "NaN" if math.isnan(value) else str(value)
+    texts = ("%.*g" % (digits, value) for digits in range(1, 18))
+    return format(Decimal(next(text for text in texts if struct.pack(form, float(text)) == encoding)), "f")
+
+
+def show_elements(kind, count, element_at):
+    """The first 64 elements, equal ones in a row as one."""
+    shown = {"structs": show_struct, "pointers": show_pointer}.get(kind, lambda bits: show_number(kind, bits))
+    texts = itertools.groupby(shown(element_at(index)) for index in range(min(count, 64)))
+    runs = [(text, len(list(run))) for text, run in texts]
+    words = [f"list of {count}" + ":" * (count > 0), *(text if times == 1 else f"{text}*{times}" for text, times in runs)]
+    return " ".join(words + [".."] * (count > 64))
+
+
+def of_streams(call, who, source, options):
+    """The results of a reader of a stream, until it returns no message or fails."""
+    given = []
+    while len(given) < options["calls"]:
+        try:
+            segments = read_message(source, unpack if call == "packed" else take, who == "lenient", options["limit"],
+                                    options["buffer"])
+            given.append("message " + show(segments))
+        except NoMessage:
+            given.append("end")
+        except Invalid as error:
+            given.append(f"error {error.number} {error.text}")
+        unread = f"; {len(source)} unread" if source and "error 11" not in given[-1] else ""
+        given[-1] += unread
+        if not given[-1].startswith("message") and options["calls"] == math.inf:
+            break
+    return given
+
+
+def of_bytes(call, who, text, options):
+    """The result of a call over bytes in memory."""
+    size, text = text.split(" ", 1) if call == "unpack" else (0, text)
+    segments = parse(text)
+    source = bytearray(b"".join(segments)) if call in ("flat", "unpack") else b""
+    whole = len(source)
+    try:
+        if call == "flat":
+            read = read_fields if who.endswith("fields") else read_flat
+            result = "message " + show(read(source, who.startswith("lenient"), options["limit"]))
+        elif call == "unpack":
+            result = "bytes " + show([unpack(source, int(size))])
+        elif call == "write":
+            result = "bytes " + show([frame(segments) if who == "framed" else packed_message(segments)])
+        else:
+            result = "bytes " + show([b"".join(map(pack, segments))])
+    except Invalid as error:
+        result = f"error {error.number} {error.text}"
+        source = bytes(whole) if call == "flat" else b""
+    return [result + (f"; {len(source)} unread" if source else "")]
+
+
+def of_objects(call, who, text, options):
+    """The result about an object, of a message from which nothing was read."""
+    words = text.split(" ", {"list": 1, "field": 3}.get(call, 0))
+    message = Message(parse(words[-1]), options["limit"], options["nesting"])
+    try:
+        return [about_object(call, who, words, message, options["at"])]
+    except Invalid as error:
+        return [f"error {error.number} {error.text}"]
+
+
+def about_object(call, who, words, message, path):
+    place = message.root()
+    message.word(*place[:2])
+    for index in path:
+        found = struct_of(message.read(*place))
+        if index >= found.pointers:
+            place = None
+            break
+        place = found.segment, found.begin + found.data + index, found.nesting
+    if who == "null":
+        return "yes" if place is None or message.word(*place[:2]) == 0 else "no"
+    if call == "canonical":
+        if who == "test":
+            return "yes" if is_canonical(message) else "no"
+        return "bytes " + show([canonical_form(message)])
+    if who == "size":
+        message.left = message.limit
+        return str(size_of(walk(message, *place)) if place else 0)
+    found = message.read(*place) if place else None
+    if call == "list":
+        return show_elements(words[0], *elements_of(message, found, words[0], who == "upgraded"))
+    if call == "field":
+        kind, index, default = words[0], int(words[1]), int(words[2], 16)
+        return "number " + show_number(kind, field_of(message, struct_of(found), int(kind.lstrip("if")), index, default))
+    if who == "struct":
+        return "struct " + show_struct(sections_of(message, struct_of(found)))
+    return "bytes " + show([text_of(message, found) if who == "text" else bytes_of(message, found)])
+
+
+def results(call, who, text, options):
+    if call in ("framed", "packed"):
+        return of_streams(call, who, bytearray(b"".join(parse(text))), options)
+    return (of_objects if call in ("pointer", "list", "field", "canonical") else of_bytes)(call, who, text, options)
+
+
+def main():
+    options = dict(DEFAULTS)
+    for line in fileinput.input():
+        word, _, text = line.rstrip("\n").partition(" ")
+        print("" if word == ">" else line, end="")
+        options = dict(DEFAULTS) if word == "case" else options
+        if word == "at":
+            options["at"] = [int(index) for index in text.split()]
+        elif word in DEFAULTS:
+            options[word] = math.inf if text == "none" else int(text)
+        given = {who: tuple(results(word, who, text, options)) for who in ASKED.get(word, [])}
+        for some in dict.fromkeys(given.values()):
+            names = [who for who in given if given[who] == some]
+            for result in some:
+                print(f"> {result}" if len(names) == len(given) else f"> {', '.join(names)}: {result}")
+
+
+if __name__ == "__main__":
+    main()
