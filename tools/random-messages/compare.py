@@ -9,40 +9,18 @@ import struct
 import subprocess
 import sys
 
+import running
 from makers import Maker
 from programs import Program, roots, taken_names
+from running import fail, rt, tool, write
 from schemas import fields
 from values import Values, bytes_of, steps_text
 
 folder, count, seed, schema_count = sys.argv[1], *map(int, sys.argv[2:5])
 example = sys.argv[5] if len(sys.argv) > 5 else None
+running.TOOL = "build-with-capnp"
 chance = random.Random(seed)
 sources = os.path.join(folder, "crates/made/src")
-
-
-def fail(what):
-    sys.exit("build-with-capnp: " + what)
-
-
-def tool(*words, stream=b""):
-    """What the C++ tool prints, or None where it ends with another status than 0, or complains."""
-    done = subprocess.run(["capnp", *words], input=stream, capture_output=True)
-    return None if done.returncode or done.stderr else done.stdout
-
-
-def write(path, text):
-    os.makedirs(os.path.dirname(path), exist_ok=True)
-    with open(path, "w") as file:
-        file.write(text)
-    return path
-
-
-def rt(crate, stream, *words):
-    """Runs a crate's program, and returns what is wrong, if anything."""
-    # The interpreter, which `rt try` asks first, reads no arguments.
-    done = subprocess.run(["rt", "try", "--steps", "1", "--seconds", "3600", "--", *words], input=stream,
-                          cwd=os.path.join(folder, "crates", crate), capture_output=True)
-    return done.returncode and done.stderr.decode()[-4000:]
 
 
 def by_library_for_c(word, stream):
@@ -78,7 +56,7 @@ class Case:
                 yield bytes([chance.randrange(2), self.index, index]) + bytes_of(("struct", made), steps)
 
     def convert(self, way, made, stream):
-        name = ".".join(part.name for part in [*made.scope, made])
+        name = made.path()
         return tool("convert", "--short", way, self.path, name, stream=stream)
 
     def compare(self, built):
@@ -125,16 +103,6 @@ def parts(output):
         at += 8 + length
 
 
-def write_types(cases):
-    """The types of all schemas, as the schema compiler makes them."""
-    names = ["schema%d.capnp" % case.index for case in cases]
-    request = subprocess.run(["capnp", "compile", "-o-", *names], cwd=folder, check=True, capture_output=True).stdout
-    os.makedirs(sources + "/schemas")
-    wrong = rt("capnpc_rattle", request, sources + "/schemas", "builders")
-    if wrong:
-        fail("the schema compiler ended: " + wrong)
-
-
 def write_program(cases):
     taken = taken_names(os.path.join(folder, "crates/capnpc_rattle/src/reserved.rt"))
     write(sources + "/schemas.rt", roots(len(cases)))
@@ -146,9 +114,7 @@ def write_program(cases):
 def build(cases):
     """What the program builds: framed messages, each with its canonical form."""
     output = os.path.join(folder, "built")
-    wrong = rt("made", b"".join(part for case in cases for part in case.description()), output)
-    if wrong:
-        fail("the program ended: " + wrong)
+    rt(folder, "made", b"".join(part for case in cases for part in case.description()), output)
     with open(output, "rb") as file:
         found = list(parts(file.read()))
     return list(zip(found[::2], found[1::2]))
@@ -157,7 +123,7 @@ def build(cases):
 cases = [Case(index) for index in range(schema_count)]
 for index in range(count):
     cases[index % len(cases)].add_message()
-write_types(cases)
+running.write_types(folder, len(cases), sources + "/schemas", "builders")
 write_program(cases)
 built = build(cases)
 left = iter(built)

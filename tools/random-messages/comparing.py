@@ -13,42 +13,20 @@ from calls import Calls
 from makers import Maker
 from peers import main_text, peer_text
 from programs import taken_names
+from running import fail, rt, run, write, write_types
 from schemas import PEER, fields
 from telling import Teller, roots
 from values import bytes_of
 
 HERE = os.path.dirname(os.path.abspath(__file__))
-TOOL = "compile-with-capnp"
 LIBRARIES = ["-lcapnp-rpc", "-lcapnp", "-lkj-async", "-lkj"]
 
 
-def fail(what):
-    sys.exit("%s: %s" % (TOOL, what))
-
-
-def run(words, folder, stream=b""):
-    """What a program prints, which has to end well."""
-    done = subprocess.run(words, cwd=folder, input=stream, capture_output=True)
-    if done.returncode:
-        fail("%s ended: %s" % (" ".join(words[:4]), (done.stdout + done.stderr).decode(errors="replace")[-4000:]))
-    return done.stdout
-
-
-def write(path, text):
-    os.makedirs(os.path.dirname(path), exist_ok=True)
-    with open(path, "w" if isinstance(text, str) else "wb") as file:
-        file.write(text)
-
-
-def rt(folder, crate, stream, *words):
-    # The interpreter, which `rt try` asks first, reads no arguments.
-    run(["rt", "try", "--steps", "1", "--seconds", "3600", "--", *words], folder + "/crates/" + crate, stream)
-
-
-def take_schema(chance, folder, index, has_long_names):
-    """A schema that the C++ tool takes, which refuses some orders of groups and unions. The types in C++ are made."""
+def take_schema(chance, folder, index, has_long_names, many=255):
+    """A schema that the C++ tool takes, which refuses some orders of groups and unions. The types in C++ are made. An enum
+    of the first has so many enumerants: Rattle takes no more than 255."""
     while True:
-        schema = Maker(chance, True, has_long_names, index == 0).schema()
+        schema = Maker(chance, True, has_long_names, many * (index == 0)).schema()
         write("%s/schema%d.capnp" % (folder, index), schema.text(True))
         write("%s/peer/schema%d.capnp" % (folder, index), schema.text(PEER, index))
         done = subprocess.run(["capnp", "compile", "-oc++", "schema%d.capnp" % index], cwd=folder + "/peer",
@@ -87,11 +65,8 @@ def by_peer(folder, schemas, description):
 
 def by_types(folder, schemas, description):
     """What the program says that uses the types of the schema compiler."""
-    names = ["schema%d.capnp" % index for index in range(len(schemas))]
-    request = run(["capnp", "compile", "-o-", *names], folder)
     sources = folder + "/crates/made/src"
-    os.makedirs(sources + "/schemas")
-    rt(folder, "capnpc_rattle", request, sources + "/schemas", "builders", "print")
+    write_types(folder, len(schemas), sources + "/schemas", "builders", "print")
     taken = taken_names(folder + "/crates/capnpc_rattle/src/reserved.rt")
     write(sources + "/schemas.rt", roots(len(schemas)))
     for index, schema in enumerate(schemas):
@@ -137,8 +112,9 @@ def main():
     schemas = [take_schema(chance, folder, index, "long" in sys.argv[5:]) for index in range(schema_count)]
     described = list(messages(chance, schemas, count))
     description = b"".join(part for part, _, _, _ in described)
+    found = by_types(folder, schemas, description)
     wanted = by_peer(folder, schemas, description)
-    different = compare(schemas, described, wanted, by_types(folder, schemas, description))
+    different = compare(schemas, described, wanted, found)
     structs = [made for schema in schemas for made in schema.structs]
     print("compile-with-capnp: %d messages of %d schemas with %d structs, %d fields and %d constants, %d lines: %s" % (
         count, schema_count, len(structs), sum(len(list(fields(made.members))) for made in structs),

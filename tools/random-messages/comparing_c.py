@@ -7,14 +7,15 @@ import os
 import random
 import sys
 
-import comparing
 import making_c
+import running
 import telling_c
-from comparing import HERE, by_peer, compare, fail, messages, rt, run, take_schema, write
+from comparing import HERE, by_peer, compare, messages, take_schema
+from running import fail, run, write, write_types
 from schemas import Group, fields
 from values import groups_of
 
-comparing.TOOL = "c-with-capnp"
+running.TOOL = "c-with-capnp"
 WARNINGS = ["-Wall", "-Wextra", "-pedantic", "-Werror"]
 
 
@@ -29,25 +30,32 @@ def is_ambiguous(made):
 
 def take_unambiguous(chance, folder, index, has_long_names):
     while True:
-        schema = take_schema(chance, folder, index, has_long_names)
+        schema = take_schema(chance, folder, index, has_long_names, 300)
         if not any(map(is_ambiguous, schema.structs)):
             return schema
 
 
 def headers(folder, schemas):
-    """The folder of the headers, each of which has to be C++ as it is, too."""
+    """The folder of the headers, each of which has to be C and C++ as it is."""
     made = folder + "/headers"
-    os.makedirs(made)
-    request = run(["capnp", "compile", "-o-", *("schema%d.capnp" % index for index in range(len(schemas)))], folder)
-    rt(folder, "capnpc_rattle", request, made, "c")
+    write_types(folder, len(schemas), made, "c")
     names = sorted(os.listdir(made))
     if names != sorted("schema%d_capnp.h" % index for index in range(len(schemas))):
         fail("the schema compiler wrote %s" % names)
     for name in names:
         write(made + "/header.cc", '#include "%s"\n' % name)
-        run([os.environ.get("CXX", "g++"), "-std=c++11", *WARNINGS, "-fsyntax-only", "-I" + folder + "/crates/capnp_c",
-             "header.cc"], made)
+        for compiler in ([os.environ.get("CXX", "g++"), "-std=c++11"], [os.environ.get("CXX", "g++"), "-std=c++17"],
+                         [os.environ.get("CC", "cc"), "-std=c11", "-xc"]):
+            run([*compiler, *WARNINGS, "-Wconversion", "-fsyntax-only", "-I" + folder + "/crates/capnp_c", "header.cc"], made)
     return made
+
+
+def library():
+    """The library for C, proved here and built where it is not yet."""
+    crate = os.path.abspath(HERE + "/../../crates/capnp_c")
+    if not os.path.exists(crate + "/out/libcapnp_c.a"):
+        run(["rt", "lib"], crate)
+    return crate + "/out/libcapnp_c.a"
 
 
 def program(folder, made, name, schemas, writer):
@@ -57,9 +65,8 @@ def program(folder, made, name, schemas, writer):
     for index, schema in enumerate(schemas):
         names.append("%s%d.c" % (name, index))
         write("%s/%s" % (made, names[-1]), writer.text(index, schema))
-    library = folder + "/crates/capnp_c"
     run([os.environ.get("CC", "cc"), "-std=c11", "-O1", *WARNINGS, *os.environ.get("CFLAGS", "").split(), "-I" + HERE,
-         "-I" + library, "-I.", "-o", name, *names, library + "/out/libcapnp_c.a"], made)
+         "-I" + folder + "/crates/capnp_c", "-I.", "-o", name, *names, library()], made)
 
 
 def said_by(words, folder, said):
@@ -67,9 +74,9 @@ def said_by(words, folder, said):
     return open("%s/%s" % (folder, said), encoding="utf-8", errors="surrogateescape").read().rstrip("\n")
 
 
-def by_c(folder, schemas):
+def by_c(folder, schemas, made):
     """What the program in C says of the messages of the one in C++, and what that says of what the other one built."""
-    made, peer = headers(folder, schemas), folder + "/peer"
+    peer = folder + "/peer"
     program(folder, made, "telling", schemas, telling_c)
     program(folder, made, "making", schemas, making_c)
     read = said_by(["./telling", peer + "/messages", "said"], made, "said")
@@ -94,8 +101,9 @@ def main():
     chance = random.Random(seed)
     schemas = [take_unambiguous(chance, folder, index, "long" in sys.argv[5:]) for index in range(schema_count)]
     described = list(messages(chance, schemas, count))
+    made = headers(folder, schemas)
     said = by_peer(folder, schemas, b"".join(part for part, _, _, _ in described)).rstrip("\n")
-    read, of_built = by_c(folder, schemas)
+    read, of_built = by_c(folder, schemas, made)
     wanted = shown_alone(said)
     different = compare(schemas, described, wanted, read)
     different += compare(schemas, [(*made[:3], True) for made in described], built_alone(said), built_alone(of_built))

@@ -53,6 +53,26 @@ def edges(number):
     return made
 
 
+def widths(number, many):
+    """A struct of unions in one another, whose groups have fields of every width, and of an enum with many enumerants. In
+    most other orders the C++ tool rejects them (its issue 344)."""
+    made = Struct("Widths", [], None, number)
+    pointers = [("text", None), ("struct", made), ("list", ("list", ("list", ("number", "UInt16"))))]
+
+    def members(name, numbers, others=()):
+        return [field_of("%s%d" % (name, index), kind)
+                for index, kind in enumerate([*(("number", number) for number in numbers.split()), *others])]
+    rest = Group("rest", False, members("last", "UInt16 Bool UInt64 Int64 Float64", pointers))
+    both = Group("both", False, [*members("left", "Int32"), rest])
+    every = Group("every", False, members("more", "Bool UInt8 UInt16 Float32 UInt64", [("enum", many)]))
+    inner = Group("inner", True, [*members("small", "UInt8"), both, every])
+    outer = Group("outer", True, [*members("middle", "UInt32"), inner])
+    made.members = [Group("", True, [*members("large", "UInt64", [("data", None)]), outer]),
+                    field_of("choice", ("enum", many), many.names[-2])]
+    number_members(made, lambda numbered: None)
+    return made
+
+
 def number_members(made, shuffle):
     """Numbers the fields in some order, and the groups."""
     numbered = [field for _, field in fields(made.members)]
@@ -64,16 +84,17 @@ def number_members(made, shuffle):
 
 
 class Maker:
-    """Makes one schema. Of the struct that is made it has the names of fields and groups, of modules, and of
-    setters, and how many fields are left to be made."""
+    """Makes one schema; with `many` it has what random ones seldom have, and an enum of so many enumerants. Of the struct
+    that is made it has the names of fields and groups, of modules, and of setters, and how many fields are left to be
+    made."""
 
-    def __init__(self, chance, has_constants=False, has_long_names=False, has_edges=False):
+    def __init__(self, chance, has_constants=False, has_long_names=False, many=0):
         self.chance, self.count = chance, 0
-        self.has_constants, self.has_long_names, self.has_edges = has_constants, has_long_names, has_edges
+        self.has_constants, self.has_long_names, self.many = has_constants, has_long_names, many
         self.structs, self.enums, self.constants = [], [], []
 
     def schema(self):
-        modules = {"edges"}
+        modules = {"edges", "widths", "many"}
         self.enum([], modules)
         outer = [self.struct([], modules) for _ in range(self.chance.randrange(1, 4))]
         for made in self.structs:
@@ -81,9 +102,12 @@ class Maker:
         for made in self.structs:
             for _, field in fields(made.members):
                 self.add_default(field)
-        if self.has_edges:
-            outer.append(edges(len(self.structs)))
-            self.structs.append(outer[-1])
+        if self.many:
+            self.enums.append(Enum("Many", ["many%d" % number for number in range(self.many)], [], len(self.enums)))
+            for made in (edges(len(self.structs)), widths(len(self.structs) + 1, self.enums[-1])):
+                outer.append(made)
+                self.structs.append(made)
+            self.add_constant([], ("list", ("number", "UInt64")), str([2**64 - 1 - number for number in range(600)]))
         if self.has_constants:
             self.add_constants()
         return Schema(2**63 + self.chance.randrange(2**63), outer, self.structs, self.enums, self.constants)

@@ -5,11 +5,12 @@ compares the lines with those of the C++ tool.
 import os
 import random
 import struct
-import subprocess
 import sys
 
+import running
 from makers import Maker
 from programs import Program, taken_names
+from running import fail, rt, tool, write
 from schemas import OPAQUE
 from values import Values, steps_text
 
@@ -43,32 +44,6 @@ ARM = """\
         }"""
 
 
-def fail(what):
-    sys.exit("print-with-capnp: " + what)
-
-
-def tool(*words, stream=b""):
-    """What the C++ tool prints, or None where it ends with another status than 0, or complains."""
-    done = subprocess.run(["capnp", *words], input=stream, capture_output=True)
-    return None if done.returncode or done.stderr else done.stdout
-
-
-def write(path, text):
-    os.makedirs(os.path.dirname(path), exist_ok=True)
-    with open(path, "w" if isinstance(text, str) else "wb") as file:
-        file.write(text)
-    return path
-
-
-def rt(folder, crate, stream, *words):
-    """Runs a crate's program, and ends where it fails."""
-    # The interpreter, which `rt try` asks first, reads no arguments.
-    done = subprocess.run(["rt", "try", "--steps", "1", "--seconds", "3600", "--", *words], input=stream,
-                          cwd=os.path.join(folder, "crates", crate), capture_output=True)
-    if done.returncode:
-        fail("the program of %s ended: %s" % (crate, done.stderr.decode()[-4000:]))
-
-
 class Case:
     """A schema, and messages of its structs: the C++ tool reads them from text by a schema that has no any pointers,
     and prints them by one that has no parameters."""
@@ -89,7 +64,7 @@ class Case:
                 return schema, told
 
     def convert(self, way, path, made, stream):
-        name = ".".join(part.name for part in [*made.scope, made])
+        name = made.path()
         found = tool("convert", "--short", way, path, name, stream=stream)
         if found is None:
             fail("the C++ tool does not take %s of %s: %r" % (name, path, stream))
@@ -108,12 +83,8 @@ class Case:
             yield struct.pack("<BBI", self.index, index, len(framed)) + framed
 
 
-def write_types(folder, cases):
-    names = ["schema%d.capnp" % case.index for case in cases]
-    request = subprocess.run(["capnp", "compile", "-o-", *names], cwd=folder, check=True, capture_output=True).stdout
+def write_program(folder, cases):
     sources = folder + "/crates/made/src"
-    os.makedirs(sources + "/schemas")
-    rt(folder, "capnpc_rattle", request, sources + "/schemas", "readers", "print")
     taken = taken_names(folder + "/crates/capnpc_rattle/src/reserved.rt")
     arms = []
     for case in cases:
@@ -125,13 +96,17 @@ def write_types(folder, cases):
     write(sources + "/schemas.rt", HEAD % {"modules": modules, "arms": "\n".join(arms)})
 
 
+running.TOOL = "print-with-capnp"
+
+
 def main():
     folder, count, seed, schema_count = sys.argv[1], *map(int, sys.argv[2:5])
     chance = random.Random(seed)
     cases = [Case(chance, folder, index) for index in range(schema_count)]
     for index in range(count):
         cases[index % len(cases)].add_message()
-    write_types(folder, cases)
+    running.write_types(folder, schema_count, folder + "/crates/made/src/schemas", "readers", "print")
+    write_program(folder, cases)
     printed = os.path.join(folder, "printed")
     rt(folder, "made", b"".join(part for case in cases for part in case.description()), printed)
     with open(printed, "rb") as file:

@@ -26,6 +26,10 @@ OPAQUE, PEER = "opaque", "peer"
 NUMBERS = ["Bool", *UNSIGNED, *SIGNED, *FLOATS]
 
 
+# What each struct and field says of itself: the ends and beginnings of comments, and signs of text, of C and of Rattle.
+COMMENT = r' # */ ends, /* begins, // too: "@name@" \ {}'
+
+
 class Field:
     """A field; `default` is its value, or None, and `default_text` that as the schema has it."""
 
@@ -65,6 +69,10 @@ class Struct:
 
     def peer(self):
         return "Struct%d" % self.number
+
+    def path(self):
+        """Its name, after those of the structs around it."""
+        return ".".join(part.name for part in [*self.scope, self])
 
 
 class Constant:
@@ -175,15 +183,15 @@ def struct_lines(made, mode):
         inner += struct_lines(held, mode)
     inner += member_lines(made.members, mode)
     parameter = "(Parameter)" if made.parameter and mode is True else ""
-    return ["struct %s%s {" % (name_in(made, mode), parameter), *("  " + line for line in inner), "}"]
+    return ["struct %s%s {%s" % (name_in(made, mode), parameter, COMMENT), *("  " + line for line in inner), "}"]
 
 
 def member_lines(members, mode):
     for member in members:
         if isinstance(member, Field):
             default = member.default_text and " = " + member.default_text
-            yield "%s @%d : %s%s%s;" % (member.name, member.number, kind_text(member.kind, mode), default,
-                                        renamed(member, mode))
+            yield "%s @%d : %s%s%s;%s" % (member.name, member.number, kind_text(member.kind, mode), default,
+                                          renamed(member, mode), COMMENT)
             continue
         kind = "union" if member.is_union else "group"
         yield "%s {" % (member.name and "%s :%s%s" % (member.name, kind, renamed(member, mode)) or kind)

@@ -2,7 +2,7 @@
 #ifndef SHOWN_H
 #define SHOWN_H
 
-#include "capnp_c_types.h"
+#include "linsjoar_types.h"
 
 #include <inttypes.h>
 #include <stdio.h>
@@ -67,8 +67,8 @@ static inline void show_list(struct shown *shown, uint32_t len) {
     show_bits(shown, len);
 }
 
-static inline void show_error(struct shown *shown, uint8_t error) {
-    if (error != 0)
+static inline void show_error(struct shown *shown, enum linsjoar_error error) {
+    if (error != LINSJOAR_OK)
         fprintf(shown->text, " failed %s", linsjoar_error_name(error));
 }
 

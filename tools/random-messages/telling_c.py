@@ -1,14 +1,14 @@
 """The C file that says what the structs of a schema show, by the types that the schema compiler made for C: as the C++
 file of peers.py, with the names of that."""
 from peers import DEPTH, MOST, named as peer_named
-from schemas import FLOATS, SIGNED, UNSIGNED, Field
+from schemas import FLOATS, SIGNED, UNSIGNED, Field, fields
 from values import is_pointer
 
 HEAD = """\
 #include "schema%(index)d_capnp.h"
 #include "shown.h"
 
-%(declared)s
+%(lists)s%(declared)s
 void show_constants%(index)d(struct shown *shown);
 void show_root%(index)d(struct shown *shown, uint8_t index, const struct linsjoar_pointer_reader *root);
 %(structs)s
@@ -67,7 +67,7 @@ int main(int argc, char **argv) {
         show_field(&shown, "message");
         show_field(&shown, "shown");
         shown.left = %(most)d;
-        show_error(&shown, linsjoar_open(input + at, len, &reader));
+        show_error(&shown, (enum linsjoar_error)linsjoar_open(input + at, len, &reader));
         reader.words_left = LINSJOAR_NO_LIMIT;
         show_error(&shown, linsjoar_read_root(input + at, len, &reader, &root));
         switch (schema) {
@@ -83,6 +83,12 @@ CONSTANTS = """\
     show_field(&shown, "schema");
     shown.left = %d;
     show_constants%d(&shown);"""
+LIST_OF_LISTS = """\
+#ifndef LINSJOAR_HAS_%(name)s_list
+#define LINSJOAR_HAS_%(name)s_list
+LINSJOAR_LIST_OF_LISTS(%(name)s, %(code)s)
+#endif
+"""
 CODES = {1: "BIT", 8: "BYTE", 16: "TWO_BYTES", 32: "FOUR_BYTES", 64: "EIGHT_BYTES"}
 
 
@@ -118,11 +124,32 @@ def code(kind):
     return "LINSJOAR_POINTERS" if is_pointer(kind) else "LINSJOAR_" + CODES[width(kind)]
 
 
-def element(kind):
-    """The call that returns an element of a list of numbers."""
+def type_name(kind):
+    """The name with which the types and the calls of a type begin."""
     form, of = kind
-    short = {"Bool": "bool", "Float32": "float", "Float64": "double"}.get(of)
-    return "linsjoar_list_" + (short or ("i" if of in SIGNED else "u") + str(width(kind)))
+    if form == "list":
+        return type_name(of) + "_list"
+    if form in ("text", "data"):
+        return "linsjoar_" + form
+    if form in ("struct", "enum"):
+        return path(of)
+    short = {"Bool": "bool", "Float32": "float", "Float64": "double", "Void": "void"}.get(of)
+    return "linsjoar_" + (short or ("i" if of in SIGNED else "u") + str(width(kind)))
+
+
+def lists_of_lists(schema):
+    """What declares the lists of lists that any pointers of a schema point to, as its header declares those of its fields."""
+    declared = []
+    for struct in schema.structs:
+        for _, field in fields(struct.members):
+            kind = field.kind[1] if field.kind[0] in ("any", "parameter") else ("",)
+            found = []
+            while kind[0] == "list" and kind[1][0] == "list":
+                kind = kind[1]
+                of = "LINSJOAR_STRUCTS" if kind[1][0] == "struct" else code(kind[1])
+                found.insert(0, LIST_OF_LISTS % {"name": type_name(kind), "code": of})
+            declared += [text for text in found if text not in declared]
+    return "".join(declared)
 
 
 def number_shown(kind, value):
@@ -134,16 +161,6 @@ def number_shown(kind, value):
     return "show_bits(shown, %s%s);" % (cast, value)
 
 
-def view(kind):
-    """The struct that shows what a pointer of a type points to."""
-    form, of = kind
-    if form in ("text", "data"):
-        return "linsjoar_%s_reader" % form
-    if form == "struct":
-        return path(of) + "_reader"
-    return path(of[1]) + "_list_reader" if of[0] == "struct" else "linsjoar_list_reader"
-
-
 def read(kind, pointer, value):
     """The call that reads what a pointer of a type points to."""
     form, of = kind
@@ -153,13 +170,14 @@ def read(kind, pointer, value):
         return "%s_read(&%s, &%s)" % (path(of), pointer, value)
     if of[0] == "struct":
         return "%s_list_read(&%s, &%s)" % (path(of[1]), pointer, value)
-    return "linsjoar_read_list(&%s, %s, &%s)" % (pointer, code(of), value)
+    return "linsjoar_read_list(&%s, %s, &%s.elements)" % (pointer, code(of), value)
 
 
 def pointer_shown(kind, call, level=0):
     """What says what a call reads into its last argument, which is named `value` and a level."""
     value = "value%d" % level
-    return "{ struct %s %s; show_error(shown, %s); %s }" % (view(kind), value, call(value), value_shown(kind, value, level))
+    return "{ struct %s_reader %s; show_error(shown, %s); %s }" % (
+        type_name(kind), value, call(value), value_shown(kind, value, level))
 
 
 def value_shown(kind, value, level):
@@ -170,16 +188,17 @@ def value_shown(kind, value, level):
         return "show_bytes(shown, %s.bytes, %s.len);" % (value, value)
     if form == "struct":
         return "show%d(shown, depth, &%s);" % (of.number, value)
-    length = "%s_list_len(&%s)" % (path(of[1]) if of[0] == "struct" else "linsjoar", value)
-    at = "i%d" % level
+    at, got = "i%d" % level, "%s_get(&%s, i%d" % (type_name(kind), value, level)
     if of[0] == "struct":
-        each = pointer_shown(of, lambda inner: "%s_list_get(&%s, %s, &%s)" % (path(of[1]), value, at, inner), level + 1)
+        inner = "value%d" % (level + 1)
+        each = "struct %s_reader %s = %s); %s" % (type_name(of), inner, got, value_shown(of, inner, level + 1))
     elif is_pointer(of):
-        pointer = "pointer%d" % level
-        each = "struct linsjoar_pointer_reader %s = linsjoar_list_get_pointer(&%s, %s); " % (pointer, value, at)
-        each += pointer_shown(of, lambda inner: read(of, pointer, inner), level + 1)
+        each = pointer_shown(of, lambda inner: "%s, &%s)" % (got, inner), level + 1)
+    elif of[0] == "enum":
+        each = number_shown(of, got.replace("_get(", "_get_number(") + ")")
     else:
-        each = number_shown(of, "%s(&%s, %s)" % (element(of), value, at)) if of != ("number", "Void") else ""
+        each = number_shown(of, got + ")") if of != ("number", "Void") else ""
+    length = "%s_len(&%s)" % (type_name(kind), value)
     loop = "for (uint32_t %s = 0; %s < %s; %s++) { %s }" % (at, at, length, at, each) if each else ""
     return 'show_list(shown, %s); %s show_word(shown, "]");' % (length, loop)
 
@@ -191,7 +210,7 @@ def field_shown(prefix, field):
     if field.kind == ("number", "Void") or form == "interface":
         return ""
     if not is_pointer(field.kind):
-        return number_shown(field.kind, got + ")")
+        return number_shown(field.kind, got.replace("(read", "_number(read" if form == "enum" else "(read") + ")")
     has = "show_flag(shown, %s_has_%s(read));" % (prefix, field.name)
     if form in ("any", "parameter"):
         shown = pointer_shown(of, lambda value: read(of, "pointer", value))
@@ -230,6 +249,8 @@ def shown_union(prefix, union):
         else:
             yield from shown_group(prefix, member)
         yield "break;"
+    mark = "_" if any(member.name.startswith("notInSchema") for member in union.members) else ""
+    yield "case %s_which_notInSchema%s: break;" % (prefix, mark)
     yield "}"
 
 
@@ -252,7 +273,7 @@ def constant_text(index, constant):
 def text(index, schema):
     """The file of a schema."""
     return HEAD % {
-        "index": index, "depth": DEPTH,
+        "index": index, "depth": DEPTH, "lists": lists_of_lists(schema),
         "declared": "\n".join(DECLARED % (made.number, path(made)) for made in schema.structs),
         "structs": "".join(struct_text(made) for made in schema.structs),
         "roots": "\n".join(ROOT % {"number": made.number, "type": path(made), "depth": DEPTH}
