@@ -1,6 +1,7 @@
 # What the tools in bash share. Each reads it first, below its head, by `. "$(dirname "$0")/prelude.sh"`. `root` is then the top
 # of the repository and `tool` the tool's name. Called with --help alone, a tool prints its head.
 #
+#   libraries                            `capnp`, the crate that programs list, and all below it, each after those that it lists
 #   temporary NAME                       makes a folder that is removed in the end, and sets NAME to it
 #   copy_tree FOLDER [CRATE..]           copies the tracked files, as they stand in the working tree, and what checks here kept of
 #                                        these crates in out/, unless the folder has that already
@@ -14,6 +15,8 @@ set -euo pipefail
 root=$(cd "$(dirname "${BASH_SOURCE[0]}")/.." && pwd)
 tool=$(basename "$0")
 temporaries=()
+# shellcheck disable=SC2034
+libraries=(capnp_frame capnp_pack capnp_layout capnp_wire capnp_values capnp_orphans capnp_build capnp_message capnp)
 
 print_head() {
     sed -n '2,/^[^#]/s/^# \{0,1\}//p' "$0"

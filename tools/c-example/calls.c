@@ -47,7 +47,7 @@ static void unpack_words(void) {
 }
 
 static void find_message(void) {
-    struct linsjoar_message found = {UNWRITTEN, UNWRITTEN, UNWRITTEN};
+    struct linsjoar_bounds found = {UNWRITTEN, UNWRITTEN, UNWRITTEN};
     NUMBER(0, linsjoar_message(two_segments, TWO_SEGMENTS_LEN, &found));
     PLACE(2, 16, 40, found);
     NUMBER(LINSJOAR_MESSAGE_ENDS_PREMATURELY, linsjoar_message(two_segments, TWO_SEGMENTS_LEN - 1, &found));
@@ -142,7 +142,26 @@ static void measure_and_write_form(void) {
     NUMBER(0, size);
 }
 
+/* The front of a message says how long it is, or how many bytes more its table needs. */
+static void measure_fronts(void) {
+    size_t len, needed;
+    for (size_t front = 0; front <= TWO_SEGMENTS_LEN; front++) {
+        size_t of_table = front == 0 ? 8 : 16;
+        len = needed = UNWRITTEN;
+        NUMBER(0, linsjoar_message_size(two_segments, front, &len, &needed));
+        NUMBER(front < 16 ? 0 : TWO_SEGMENTS_LEN, len);
+        NUMBER(front < of_table ? of_table - front : 0, needed);
+    }
+    for (size_t front = 0; front <= PACKED_LEN; front++) {
+        len = UNWRITTEN;
+        NUMBER(front == 0 ? LINSJOAR_PREMATURE_END_OF_FILE : front == 1 ? LINSJOAR_PREMATURE_END_OF_PACKED_INPUT : 0,
+               linsjoar_unpacked_size(packed, front, &len));
+        NUMBER(front < 2 ? 0 : FRAMED_LEN, len);
+    }
+}
+
 int main(void) {
+    measure_fronts();
     pack_words();
     unpack_words();
     find_message();

@@ -3,7 +3,7 @@
 #ifndef COMPARE_H
 #define COMPARE_H
 
-#include "capnp_c.h"
+#include "linsjoar.h"
 
 #include <stdio.h>
 #include <stdlib.h>

@@ -1,5 +1,6 @@
-"""Compares the errors of crates/capnp_c/capnp_c.h with `ErrorKind` of crates/capnp_frame/src/error.rt: the name, the
-number and the text of each. One more is of the library for C alone, of crates/capnp_c/src/reading.rt.
+"""Compares the errors of crates/capnp_c/linsjoar.h with `ErrorKind` of crates/capnp_frame/src/error.rt: the name, the
+number and the text of each. One more is of the library for C alone, of crates/capnp_c/src/reading.rt. The texts have to
+be those of linsjoar.py, too, which PYTHONPATH has.
 
     errors.py KINDS OWN CC FLAG..      compiles a program with the header, which the flags find, and runs it
 
@@ -11,7 +12,9 @@ import subprocess
 import sys
 import tempfile
 
-PROGRAM = """#include "capnp_c.h"
+import linsjoar
+
+PROGRAM = """#include "linsjoar.h"
 #include <stdio.h>
 
 static int number_of(enum linsjoar_error error) {
@@ -37,8 +40,8 @@ def kinds_of(path):
     texts = {name: text for text, name in texts.items()}
     if not numbers or set(numbers) != set(texts):
         sys.exit("errors.py: the kinds of %s are not read: %s" % (path, set(numbers) ^ set(texts)))
-    return [(int(number), "LINSJOAR_" + re.sub(r"\B([A-Z])", r"_\1", name).upper(), texts[name])
-            for name, number in numbers.items()]
+    return [(0, "LINSJOAR_OK", ""), *((int(number), "LINSJOAR_" + re.sub(r"\B([A-Z])", r"_\1", name).upper(), texts[name])
+                                      for name, number in numbers.items())]
 
 
 def own_kind(path):
@@ -64,6 +67,8 @@ def compare(kinds, compiler, flags):
     wanted = "".join("%d %s\n" % (number, texts.get(number, "")) for number in range(-1, 300))
     if printed != wanted:
         sys.exit("errors.py: linsjoar_error_name returns other texts than ErrorKind has")
+    if linsjoar.ERRORS != [texts[number] for number in sorted(texts) if number]:
+        sys.exit("errors.py: linsjoar.py has other errors than ErrorKind")
 
 
 compare([*kinds_of(sys.argv[1]), own_kind(sys.argv[2])], sys.argv[3], sys.argv[4:])

@@ -4,7 +4,7 @@
 #define GUARDED_H
 
 #define _DEFAULT_SOURCE
-#include "capnp_c.h"
+#include "linsjoar.h"
 
 #include <stdio.h>
 #include <stdlib.h>

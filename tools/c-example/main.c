@@ -3,7 +3,7 @@
  * `list` prints a line a message: its index, how many segments it has, how many words in all, and the
  * words of each segment. `canonical` takes one message, and `words` packs words that are no message. The status is the number of the refusal, whose
  * name stands on standard error, and 0 without one. */
-#include "capnp_c.h"
+#include "linsjoar.h"
 
 #include <stdio.h>
 #include <stdlib.h>
@@ -55,7 +55,7 @@ static int unpack(size_t len) {
 
 /* Prints the line of a message. */
 static uint8_t list_message(const uint8_t *bytes, size_t len, size_t index) {
-    struct linsjoar_message message;
+    struct linsjoar_bounds message;
     uint8_t refusal = linsjoar_message(bytes, len, &message);
     if (refusal)
         return refusal;

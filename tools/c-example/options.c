@@ -13,7 +13,7 @@ static struct linsjoar_options of_words(size_t words) {
 
 static void find_and_step_over(void) {
     const struct linsjoar_options enough = of_words(TWO_SEGMENTS_WORDS), few = of_words(TWO_SEGMENTS_WORDS - 1);
-    struct linsjoar_message found = {UNWRITTEN, UNWRITTEN, UNWRITTEN};
+    struct linsjoar_bounds found = {UNWRITTEN, UNWRITTEN, UNWRITTEN};
     size_t len = UNWRITTEN;
     NUMBER(0, linsjoar_message_with_options(two_segments, TWO_SEGMENTS_LEN, &enough, &found));
     PLACE(2, 16, 40, found);
@@ -27,6 +27,21 @@ static void find_and_step_over(void) {
     len = UNWRITTEN;
     NUMBER(LINSJOAR_MESSAGE_TOO_LARGE,
            linsjoar_next_message_with_options(two_segments, TWO_SEGMENTS_LEN, &few, &len));
+    NUMBER(0, len);
+}
+
+static void measure_fronts(void) {
+    const struct linsjoar_options enough = of_words(TWO_SEGMENTS_WORDS), few = of_words(TWO_SEGMENTS_WORDS - 1);
+    const struct linsjoar_options packed_enough = of_words(FRAMED_WORDS), packed_few = of_words(FRAMED_WORDS - 1);
+    size_t len = UNWRITTEN, needed = UNWRITTEN;
+    NUMBER(0, linsjoar_message_size_with_options(two_segments, TWO_SEGMENTS_LEN, &enough, &len, &needed));
+    NUMBER(TWO_SEGMENTS_LEN, len);
+    NUMBER(LINSJOAR_MESSAGE_TOO_LARGE,
+           linsjoar_message_size_with_options(two_segments, TWO_SEGMENTS_LEN, &few, &len, &needed));
+    NUMBER(0, len);
+    NUMBER(0, linsjoar_unpacked_size_with_options(packed, PACKED_LEN, &packed_enough, &len));
+    NUMBER(FRAMED_LEN, len);
+    NUMBER(LINSJOAR_MESSAGE_TOO_LARGE, linsjoar_unpacked_size_with_options(packed, PACKED_LEN, &packed_few, &len));
     NUMBER(0, len);
 }
 
@@ -117,7 +132,7 @@ enum {
 
 static void find_large(const uint8_t *large) {
     const struct linsjoar_options enough = of_words(LARGE_WORDS), unlimited = of_words(LINSJOAR_NO_LIMIT);
-    struct linsjoar_message found;
+    struct linsjoar_bounds found;
     size_t size;
     NUMBER(LINSJOAR_MESSAGE_TOO_LARGE, linsjoar_message(large, LARGE_LEN, &found));
     NUMBER(LINSJOAR_MESSAGE_TOO_LARGE, linsjoar_message_with_options(large, LARGE_LEN, &defaults, &found));
@@ -166,6 +181,7 @@ static void large_message(void) {
 
 int main(void) {
     find_and_step_over();
+    measure_fronts();
     count_segments();
     pack_and_unpack();
     measure_and_write_form();

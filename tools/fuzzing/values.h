@@ -5,7 +5,7 @@
 #ifndef VALUES_H
 #define VALUES_H
 
-#include "capnp_c.h"
+#include "linsjoar.h"
 
 #include <stdio.h>
 #include <stdlib.h>

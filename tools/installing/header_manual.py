@@ -1,6 +1,6 @@
 """Writes the manual page linsjoar(3): header_manual.py ROOT
 
-The page is made of crates/capnp_c/capnp_c.h. A comment with an empty line after it begins a section, if its first
+The page is made of crates/capnp_c/linsjoar.h. A comment with an empty line after it begins a section, if its first
 sentence is short, or is a paragraph. Another comment is the text of what is declared below it.
 """
 import os
@@ -42,6 +42,8 @@ def declared(code):
     """The lines of some declarations: of a function that has a body only what is before that."""
     declaration = lambda found: found[1].replace("\n" + " " * len(INLINE), "\n") + ";"
     code = re.sub("^" + INLINE + r"([^{]*?) \{(?:.*\}$|[\s\S]*?^\}$)", declaration, code, flags=re.M)
+    code = re.sub(r"LINSJOAR_CHECKED\s", "", code)
+    code = re.sub(r"^(#define \w+\(.*?\)) *\\\n(?:.*\\\n)*.*\n", r"\1\n", code, flags=re.M)
     return [] if code.startswith("#if") else code.splitlines()
 
 
@@ -60,27 +62,46 @@ def errors(header):
     return page
 
 
-def page_of(header):
-    """The page but for its head, of a header."""
-    about, rest = header.split("#ifndef", 1)
-    body = re.search(r'extern "C" \{\n#endif\n([\s\S]*)\n#ifdef', rest)[1]
-    first, *more = text_of(about.strip()[2:-2])
-    sentence, _, after = first.partition(". ")
-    page = [".SH SYNOPSIS", ".nf", bold("#include <capnp_c.h>"), "", bold("cc ... $(pkg-config --cflags --libs linsjoar)"), ".fi",
-            ".SH DESCRIPTION", paragraphs([after, *more])]
+def described(header):
+    """What a header declares, by its comments."""
+    body = re.search(r'extern "C" \{\n#endif\n([\s\S]*)\n#ifdef', header)[1]
     for block in BLOCK.finditer(body):
         comment, code = block["comment"], block["code"]
-        if "enum linsjoar_error {" in code:
-            continue
-        page += item(comment, code) if code else section(comment) if comment else []
+        if "enum linsjoar_error {" not in code:
+            yield from item(comment, code) if code else section(comment) if comment else []
+
+
+def page_of(header, types):
+    """The page but for its head, of the header of the library and that of the types that the schema compiler writes."""
+    first, *more = text_of(header.split("#ifndef", 1)[0].strip()[2:-2])
+    sentence, _, after = first.partition(". ")
+    page = [".SH SYNOPSIS", ".nf", bold("#include <linsjoar.h>"), bold("#include <linsjoar_types.h>"), "",
+            bold("cc ... $(pkg-config --cflags --libs linsjoar)"), ".fi", ".SH DESCRIPTION", paragraphs([after, *more])]
+    page += [*described(header), ".SH TYPES OF A SCHEMA", about(types), *described(types)]
     return sentence, page + errors(header)
 
 
+def about(header):
+    """The comment at the head of a header, with its examples as they are."""
+    lines = re.sub(r"^ \* ?", "", header.split("#ifndef", 1)[0].strip()[2:-2], flags=re.M).split("\n")
+    shown = []
+    for line in lines:
+        is_example = line.startswith("    ")
+        if is_example != (shown[-1:] == [".fi"]):
+            shown += [".PP", ".nf", ".fi"] if is_example else [".PP"]
+        if is_example:
+            shown.insert(-1, escaped(line))
+        elif line.strip():
+            shown.append(escaped(line.strip()))
+    return "\n".join(shown)
+
+
 [root] = sys.argv[1:]
-with open(os.path.join(root, "crates/capnp_c/capnp_c.h")) as file:
-    about, page = page_of(file.read())
+crate = os.path.join(root, "crates/capnp_c")
+with open(os.path.join(crate, "linsjoar.h")) as file, open(os.path.join(crate, "linsjoar_types.h")) as types:
+    name, page = page_of(file.read(), types.read())
 with open(os.path.join(root, "VERSION")) as file:
     version = file.read().strip()
 print('.TH "LINSJOAR" 3 "" "linsjoar %s"' % version)
-print(".SH NAME\nlinsjoar \\- %s" % escaped(about[0].lower() + about[1:]))
+print(".SH NAME\nlinsjoar \\- %s" % escaped(name[0].lower() + name[1:]))
 print("\n".join(page))

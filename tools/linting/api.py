@@ -3,9 +3,9 @@ function, from their sources.
 
 An item stands under the path that its user writes: by its modules, or where one of these is private by
 the `pub use` that names it. A line has the item's kind and the first sentence of its documentation; the line below a
-function has what it takes and returns, without its contract. The page has two parts: the crates that programs name,
-of which `capnp` also has what it re-exports, and what else the crates below have, for authors of views and
-allocators. `laws`, whose functions do nothing, are left out.
+function has what it takes and returns, without its contract. The page has two parts: `capnp`, the crate that programs
+name, with what it re-exports, and what else the crates below have, for authors of views and allocators. `laws`, whose
+functions do nothing, are left out.
 """
 import re
 
@@ -13,11 +13,13 @@ from .tree import ROOT, text_of
 
 PAGE = "docs/API.md"
 PARTS = [
-    ("For programs", ["capnp", "capnp_orphans", "capnp_values"]),
+    ("For programs", ["capnp"]),
     ("For authors of views and allocators",
-     ["capnp_message", "capnp_frame", "capnp_pack", "capnp_layout", "capnp_wire", "capnp_build"]),
+     ["capnp_message", "capnp_frame", "capnp_pack", "capnp_layout", "capnp_wire", "capnp_build", "capnp_orphans", "capnp_values"]),
 ]
 LEFT_OUT = {"laws"}
+# What code names that the schema compiler writes, and no program.
+FOR_MADE_CODE = re.compile(r"constant::|upgraded::(FromStruct|OwnedStructs|StructFields|Structs)$")
 ITEM = re.compile(r"( *)pub (?:const (?=fn))?(?:unsafe )?(?:extern \"C\" )?(fn|struct|enum|trait|const|type) (\w+)")
 MEMBER = re.compile(r"    (fn) (\w+)")
 BLOCK = re.compile(r"(?:unsafe )?impl(?:<.*?>)? (.*?) \{|pub trait (\w+)")
@@ -128,7 +130,7 @@ def leaves(text):
 
 
 def passed_on(crate):
-    """What a crate re-exports of others: the crate, the path there, the path here."""
+    """What a crate re-exports of others: the crate, the path there, none of a whole crate, and the path here."""
     source = ROOT / "crates" / crate / "src"
     for file in sorted(source.rglob("*.rt")):
         path = list(file.relative_to(source).with_suffix("").parts)
@@ -136,13 +138,18 @@ def passed_on(crate):
         if is_public(source, path) and not LEFT_OUT & set(path):
             for used in re.findall(r"^pub use (capnp_[^;]*);", text_of(file), re.M):
                 for leaf in leaves(used):
-                    other, *names = leaf.split("::")
-                    yield other, names, "::".join(path + names[-1:])
+                    there, _, name = leaf.partition(" as ")
+                    other, *names = there.split("::")
+                    yield other, names, "::".join(path + ([name] if name else names[-1:]))
 
 
 def take(found, names, here):
-    """Takes an item, or all of a module, out of a crate's items, and gives it its path here. What the root of a crate
-    names may be in a public module of it, too."""
+    """Takes an item, or all of a module or of the crate, out of a crate's items, and gives it its path here. What the root
+    of a crate names may be in a public module of it, too."""
+    if not names:
+        taken = {(f"{here}::{item[0]}", *item[1:]) for item in found}
+        found.clear()
+        return taken
     origins = {"::".join(names)}
     if len(names) == 1:
         origins |= {path for path, *_ in found if re.fullmatch(rf"([a-z_]+::)*{names[0]}", path)}
@@ -183,14 +190,15 @@ def page():
 
 
 def without_example():
-    """The types and traits that programs name, and the free functions of `capnp`, that have no example."""
-    found = found_items()
-    for crate in PARTS[0][1]:
-        for path, kind, _, _, example in sorted(found[crate], key=lambda item: item[0]):
-            owner = path.split("::")[-2] if "::" in path else ""
-            wanted = kind in ("struct", "enum", "type", "trait") or kind == "fn" and crate == "capnp" and not owner[:1].isupper()
-            if wanted and not example:
-                yield f"{crate}::{path}"
+    """The types and traits that programs name, and the free functions of `capnp` but those of whole crates, that have no
+    example."""
+    whole = {here for _, names, here in passed_on("capnp") if not names}
+    for path, kind, _, _, example in sorted(found_items()["capnp"], key=lambda item: item[0]):
+        *owners, _ = path.split("::")
+        is_free = not owners or owners[0] not in whole and not owners[-1][:1].isupper()
+        wanted = kind in ("struct", "enum", "type", "trait") or kind == "fn" and is_free
+        if wanted and not example and not FOR_MADE_CODE.match(path):
+            yield f"capnp::{path}"
 
 
 def check(tree):

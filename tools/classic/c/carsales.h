@@ -13,9 +13,9 @@ struct name {
     size_t len;
 };
 
-static uint64_t add_name(struct message *message, const struct name *name) {
-    uint64_t orphan;
-    expect(linsjoar_add_text(&message->builder, message->region, ROOM, (const uint8_t *)name->letters, name->len, &orphan));
+static struct linsjoar_text_orphan add_name(struct linsjoar_message *message, const struct name *name) {
+    struct linsjoar_text_orphan orphan;
+    expect(linsjoar_add_string_with_len(message, name->letters, name->len, &orphan));
     return orphan;
 }
 
@@ -29,9 +29,9 @@ static uint32_t extras_value(bool windows, bool steering, bool cruise, bool syst
     return (windows ? 100 : 0) + (steering ? 200 : 0) + (cruise ? 400 : 0) + (system ? 2000 : 0);
 }
 
-static uint32_t fill_wheels(struct random *random, struct message *message, struct Car_draft *car) {
+static uint32_t fill_wheels(struct random *random, struct linsjoar_message *message, struct Car_draft *car) {
     struct Wheel_draft wheels[4];
-    uint64_t orphan;
+    struct Wheel_list_orphan orphan;
     uint32_t value = 0;
     for (int i = 0; i < 4; i++) {
         uint16_t diameter = 25 + random_below(random, 15);
@@ -43,7 +43,7 @@ static uint32_t fill_wheels(struct random *random, struct message *message, stru
         Wheel_set_snowTires(&wheels[i], snow);
         value += wheel_value(diameter, snow);
     }
-    expect(Wheel_add_list(&message->builder, message->region, ROOM, wheels, 4, &orphan));
+    expect(Wheel_add_list(message, wheels, 4, &orphan));
     Car_set_wheels(car, orphan);
     return value;
 }
@@ -60,9 +60,9 @@ static uint32_t fill_size(struct random *random, struct Car_draft *car) {
     return volume / 50;
 }
 
-static uint32_t fill_engine(struct random *random, struct message *message, struct Car_draft *car) {
+static uint32_t fill_engine(struct random *random, struct linsjoar_message *message, struct Car_draft *car) {
     struct Engine_draft engine = Engine_new();
-    uint64_t orphan;
+    struct Engine_orphan orphan;
     uint16_t horsepower = 100 * random_below(random, 400);
     bool electric;
     Engine_set_horsepower(&engine, horsepower);
@@ -71,7 +71,7 @@ static uint32_t fill_engine(struct random *random, struct message *message, stru
     Engine_set_usesGas(&engine, true);
     electric = random_flag(random);
     Engine_set_usesElectric(&engine, electric);
-    expect(Engine_add(&message->builder, message->region, ROOM, &engine, &orphan));
+    expect(Engine_add(message, &engine, &orphan));
     Car_set_engine(car, orphan);
     return engine_value(horsepower, true, electric);
 }
@@ -89,7 +89,7 @@ static uint32_t fill_extras(struct random *random, struct Car_draft *car) {
 }
 
 /* Sets each field of a car, and returns its value. */
-static uint64_t fill_car(struct random *random, struct message *message, struct Car_draft *car) {
+static uint64_t fill_car(struct random *random, struct linsjoar_message *message, struct Car_draft *car) {
     static const struct name makes[] = {{"Toyota", 6}, {"GM", 2}, {"Ford", 4}, {"Honda", 5}, {"Tesla", 5}};
     static const struct name models[] = {{"Camry", 5}, {"Prius", 5}, {"Volt", 4}, {"Accord", 6}, {"Leaf", 4}, {"Model S", 7}};
     uint8_t seats, doors;
@@ -98,7 +98,7 @@ static uint64_t fill_car(struct random *random, struct message *message, struct 
     *car = Car_new();
     Car_set_make(car, add_name(message, &makes[random_below(random, 5)]));
     Car_set_model(car, add_name(message, &models[random_below(random, 6)]));
-    Car_set_color(car, random_below(random, 9));
+    Car_set_color(car, (enum Color)random_below(random, 9));
     seats = 2 + random_below(random, 6);
     doors = 2 + random_below(random, 3);
     Car_set_seats(car, seats);
@@ -114,17 +114,19 @@ static uint64_t fill_car(struct random *random, struct message *message, struct 
 }
 
 /* Builds a request, and returns what the response has to say. */
-static uint64_t build_request(struct random *random, struct message *message) {
+static uint64_t build_request(struct random *random, struct linsjoar_message *message) {
     static struct Car_draft cars[MOST_CARS];
     struct ParkingLot_draft lot = ParkingLot_new();
     uint32_t count = random_below(random, MOST_CARS);
-    uint64_t orphan, value = 0;
+    struct Car_list_orphan orphan;
+    struct ParkingLot_orphan root;
+    uint64_t value = 0;
     for (uint32_t i = 0; i < count; i++)
         value += fill_car(random, message, &cars[i]);
-    expect(Car_add_list(&message->builder, message->region, ROOM, cars, count, &orphan));
+    expect(Car_add_list(message, cars, count, &orphan));
     ParkingLot_set_cars(&lot, orphan);
-    expect(ParkingLot_add(&message->builder, message->region, ROOM, &lot, &orphan));
-    expect(linsjoar_set_root(&message->builder, message->region, ROOM, orphan));
+    expect(ParkingLot_add(message, &lot, &root));
+    expect(linsjoar_message_set_root(message, root.word));
     return value;
 }
 
@@ -135,8 +137,7 @@ static uint64_t value_of(const struct Car_reader *car) {
     struct Engine_reader engine;
     expect(Car_get_wheels(car, &wheels));
     for (uint32_t i = 0; i < Wheel_list_len(&wheels); i++) {
-        struct Wheel_reader wheel;
-        expect(Wheel_list_get(&wheels, i, &wheel));
+        struct Wheel_reader wheel = Wheel_list_get(&wheels, i);
         value += wheel_value(Wheel_get_diameter(&wheel), Wheel_get_snowTires(&wheel));
     }
     value += (uint32_t)Car_get_length(car) * Car_get_width(car) * Car_get_height(car) / 50;
@@ -148,21 +149,21 @@ static uint64_t value_of(const struct Car_reader *car) {
 }
 
 /* Reads a request, and builds the response to it. */
-static void respond(const struct linsjoar_pointer_reader *request, struct message *response) {
+static void respond(const struct linsjoar_pointer_reader *request, struct linsjoar_message *response) {
     struct ParkingLot_reader lot;
     struct Car_list_reader cars;
     struct TotalValue_draft total = TotalValue_new();
-    uint64_t orphan, amount = 0;
+    struct TotalValue_orphan orphan;
+    uint64_t amount = 0;
     expect(ParkingLot_read(request, &lot));
     expect(ParkingLot_get_cars(&lot, &cars));
     for (uint32_t i = 0; i < Car_list_len(&cars); i++) {
-        struct Car_reader car;
-        expect(Car_list_get(&cars, i, &car));
+        struct Car_reader car = Car_list_get(&cars, i);
         amount += value_of(&car);
     }
     TotalValue_set_amount(&total, amount);
-    expect(TotalValue_add(&response->builder, response->region, ROOM, &total, &orphan));
-    expect(linsjoar_set_root(&response->builder, response->region, ROOM, orphan));
+    expect(TotalValue_add(response, &total, &orphan));
+    expect(linsjoar_message_set_root(response, orphan.word));
 }
 
 /* What a response says. */

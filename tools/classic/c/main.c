@@ -6,8 +6,8 @@
 
 /* A message that is passed: where it is built, the bytes that it is read of, and its reader. */
 struct passed {
-    struct message message;
-    uint8_t bytes[ROOM];
+    struct linsjoar_message message;
+    uint8_t region[ROOM], bytes[ROOM];
     struct linsjoar_reader reader;
 };
 
@@ -32,11 +32,11 @@ static void write_canonical(const uint8_t *framed, size_t len) {
 
 /* Passes a message that was built, as the mode says, and returns its root. */
 static struct linsjoar_pointer_reader pass(struct passed *passed, const char *mode, struct tally *tally) {
-    struct message *message = &passed->message;
+    struct linsjoar_message *message = &passed->message;
     struct linsjoar_pointer_reader root;
     const uint8_t *framed = message->region;
     size_t len;
-    expect(linsjoar_finish(&message->builder, message->region, ROOM, &len));
+    expect(linsjoar_message_finish(message, &len));
     if (strcmp(mode, "bytes") == 0) {
         memcpy(passed->bytes, framed, len);
         framed = passed->bytes;
@@ -58,8 +58,8 @@ static struct linsjoar_pointer_reader pass(struct passed *passed, const char *mo
 static void exchange(struct random *random, const char *mode, struct tally *tally) {
     struct linsjoar_pointer_reader root;
     uint64_t expected, value;
-    expect(linsjoar_begin(&request.message.builder, request.message.region, ROOM));
-    expect(linsjoar_begin(&response.message.builder, response.message.region, ROOM));
+    expect(linsjoar_message_begin(&request.message, request.region, ROOM, NULL));
+    expect(linsjoar_message_begin(&response.message, response.region, ROOM, NULL));
     expected = build_request(random, &request.message);
     root = pass(&request, mode, tally);
     respond(&root, &response.message);

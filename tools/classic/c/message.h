@@ -1,25 +1,20 @@
-/* A message that is built in memory of its own, and read. */
+/* How much memory a message has that is built, and what ends the program where a call fails. */
 #ifndef MESSAGE_H
 #define MESSAGE_H
 
-#include "capnp_c_types.h"
+#include "linsjoar_types.h"
 
 #include <stdio.h>
 #include <stdlib.h>
 
 enum { ROOM = 1 << 19 };
 
-struct message {
-    struct linsjoar_builder builder;
-    uint8_t region[ROOM];
-};
-
 /* Ends the program where a call failed. */
-static inline void expect(uint8_t number) {
-    if (number == 0)
+static inline void expect(int error) {
+    if (error == LINSJOAR_OK)
         return;
-    fprintf(stderr, "carsales: %d %s\n", number, linsjoar_error_name(number));
-    exit(number);
+    fprintf(stderr, "carsales: %d %s\n", error, linsjoar_error_name(error));
+    exit(error);
 }
 
 #endif
