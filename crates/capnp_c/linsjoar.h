@@ -1,8 +1,8 @@
 /* Framed and packed messages of Cap'n Proto over caller-provided buffers. No call takes memory; the functions of
  * linsjoar_types.h over a message that grows take it by a function of the caller's. The library is built for x86-64-v2.
  *
- * Each call returns 0, or the number of an error, an `enum linsjoar_error`; then each number that it has
- * to write is 0. A pointer and the length after it are one block; what is written overlaps nothing else
+ * Each call returns an `enum linsjoar_error` of 32 bits: LINSJOAR_OK, which is 0, or an error, and then each number
+ * that it has to write is 0. A pointer and the length after it are one block; what is written overlaps nothing else
  * that is passed. A call puts its result at the front of the block that it writes. The bytes after that
  * may have changed, and after an error all bytes of the block. Messages have 1 to 511 segments, zeros as
  * the padding of their table, and no more words than a limit. The limit is 8,388,608 (64 MiB), except in
@@ -183,55 +183,59 @@ struct linsjoar_options {
  * message to the next. It returns 0 wherever a message is there. Where there are no bytes it returns 0
  * and counts 0; otherwise it counts 0 only where it returns an error. */
 LINSJOAR_CHECKED
-uint8_t linsjoar_next_message(const uint8_t *bytes, size_t len, size_t *message_len);
+enum linsjoar_error linsjoar_next_message(const uint8_t *bytes, size_t len, size_t *message_len);
 LINSJOAR_CHECKED
-uint8_t linsjoar_next_message_with_options(const uint8_t *bytes, size_t len,
-                                           const struct linsjoar_options *options, size_t *message_len);
+enum linsjoar_error linsjoar_next_message_with_options(const uint8_t *bytes, size_t len,
+                                                       const struct linsjoar_options *options,
+                                                       size_t *message_len);
 
 /* Counts the bytes of the framed message whose front these bytes are, whether or not all of them are there, for readers
  * of streams. Where its table is cut, message_len is 0, and needed is how many more bytes have to be there to tell: these
  * are the message's, whatever they are, so such a reader takes no byte of what follows it. Else needed is 0. The buffer
  * may be empty. It returns 5, 8 or 26 as soon as no bytes that follow could make a message of these. */
 LINSJOAR_CHECKED
-uint8_t linsjoar_message_size(const uint8_t *bytes, size_t len, size_t *message_len, size_t *needed);
+enum linsjoar_error linsjoar_message_size(const uint8_t *bytes, size_t len, size_t *message_len,
+                                          size_t *needed);
 LINSJOAR_CHECKED
-uint8_t linsjoar_message_size_with_options(const uint8_t *bytes, size_t len,
-                                           const struct linsjoar_options *options, size_t *message_len,
-                                           size_t *needed);
+enum linsjoar_error linsjoar_message_size_with_options(const uint8_t *bytes, size_t len,
+                                                       const struct linsjoar_options *options,
+                                                       size_t *message_len, size_t *needed);
 
 /* Packs a framed message, and counts the bytes that this takes. The buffer has to be one message and no
  * more. It returns 0 exactly where it is and there is room for the packed encoding, 2 where there is no room,
  * and 6 where the message is cut or bytes follow it. For n words, with the table, a packed encoding has at
  * most 10 n bytes. */
 LINSJOAR_CHECKED
-uint8_t linsjoar_pack_message(const uint8_t *framed, size_t framed_len, uint8_t *packed,
-                              size_t packed_room, size_t *packed_len);
+enum linsjoar_error linsjoar_pack_message(const uint8_t *framed, size_t framed_len, uint8_t *packed,
+                                          size_t packed_room, size_t *packed_len);
 LINSJOAR_CHECKED
-uint8_t linsjoar_pack_message_with_options(const uint8_t *framed, size_t framed_len,
-                                           const struct linsjoar_options *options, uint8_t *packed,
-                                           size_t packed_room, size_t *packed_len);
+enum linsjoar_error linsjoar_pack_message_with_options(const uint8_t *framed, size_t framed_len,
+                                                       const struct linsjoar_options *options,
+                                                       uint8_t *packed, size_t packed_room,
+                                                       size_t *packed_len);
 
 /* Unpacks the packed message at the front of a buffer into its framed encoding. It counts the bytes of that
  * encoding, and the packed bytes that it takes: what follows them may be the next message. It returns 0
  * wherever a message is there and its framed encoding has room, and 2 where it has no room. Before all else
  * it returns 2 where there is no room for 8 bytes. It returns 9 where there are no packed bytes. */
 LINSJOAR_CHECKED
-uint8_t linsjoar_unpack_message(const uint8_t *packed, size_t packed_len, uint8_t *framed,
-                                size_t framed_room, size_t *framed_len, size_t *packed_read);
+enum linsjoar_error linsjoar_unpack_message(const uint8_t *packed, size_t packed_len, uint8_t *framed,
+                                            size_t framed_room, size_t *framed_len, size_t *packed_read);
 LINSJOAR_CHECKED
-uint8_t linsjoar_unpack_message_with_options(const uint8_t *packed, size_t packed_len,
-                                             const struct linsjoar_options *options, uint8_t *framed,
-                                             size_t framed_room, size_t *framed_len,
-                                             size_t *packed_read);
+enum linsjoar_error linsjoar_unpack_message_with_options(const uint8_t *packed, size_t packed_len,
+                                                         const struct linsjoar_options *options,
+                                                         uint8_t *framed, size_t framed_room,
+                                                         size_t *framed_len, size_t *packed_read);
 
 /* Counts the bytes of the framed encoding of the packed message at the front of a buffer, which is the room that
  * linsjoar_unpack_message needs. Only the packed table has to be there. It returns 9 where there are no packed bytes,
  * and else the error of the table. */
 LINSJOAR_CHECKED
-uint8_t linsjoar_unpacked_size(const uint8_t *packed, size_t packed_len, size_t *framed_len);
+enum linsjoar_error linsjoar_unpacked_size(const uint8_t *packed, size_t packed_len, size_t *framed_len);
 LINSJOAR_CHECKED
-uint8_t linsjoar_unpacked_size_with_options(const uint8_t *packed, size_t packed_len,
-                                            const struct linsjoar_options *options, size_t *framed_len);
+enum linsjoar_error linsjoar_unpacked_size_with_options(const uint8_t *packed, size_t packed_len,
+                                                        const struct linsjoar_options *options,
+                                                        size_t *framed_len);
 
 /* Where a framed message is in a buffer, in bytes. */
 struct linsjoar_bounds {
@@ -242,39 +246,40 @@ struct linsjoar_bounds {
 
 /* Finds the framed message at the front of a buffer. It returns 0 wherever a message is there. */
 LINSJOAR_CHECKED
-uint8_t linsjoar_message(const uint8_t *bytes, size_t len, struct linsjoar_bounds *message);
+enum linsjoar_error linsjoar_message(const uint8_t *bytes, size_t len, struct linsjoar_bounds *message);
 LINSJOAR_CHECKED
-uint8_t linsjoar_message_with_options(const uint8_t *bytes, size_t len,
-                                      const struct linsjoar_options *options,
-                                      struct linsjoar_bounds *message);
+enum linsjoar_error linsjoar_message_with_options(const uint8_t *bytes, size_t len,
+                                                  const struct linsjoar_options *options,
+                                                  struct linsjoar_bounds *message);
 
 /* Counts the words of a segment of that message. It returns 18 where the message has no segment of this
  * number. The segments follow one another. */
 LINSJOAR_CHECKED
-uint8_t linsjoar_segment(const uint8_t *bytes, size_t len, uint32_t id, size_t *words);
+enum linsjoar_error linsjoar_segment(const uint8_t *bytes, size_t len, uint32_t id, size_t *words);
 LINSJOAR_CHECKED
-uint8_t linsjoar_segment_with_options(const uint8_t *bytes, size_t len,
-                                      const struct linsjoar_options *options, uint32_t id,
-                                      size_t *words);
+enum linsjoar_error linsjoar_segment_with_options(const uint8_t *bytes, size_t len,
+                                                  const struct linsjoar_options *options, uint32_t id,
+                                                  size_t *words);
 
 /* Counts the words of the canonical form of that message, with its root pointer. It returns 0 wherever
  * there is such a form. */
 LINSJOAR_CHECKED
-uint8_t linsjoar_canonical_size(const uint8_t *bytes, size_t len, size_t *words);
+enum linsjoar_error linsjoar_canonical_size(const uint8_t *bytes, size_t len, size_t *words);
 LINSJOAR_CHECKED
-uint8_t linsjoar_canonical_size_with_options(const uint8_t *bytes, size_t len,
-                                             const struct linsjoar_options *options, size_t *words);
+enum linsjoar_error linsjoar_canonical_size_with_options(const uint8_t *bytes, size_t len,
+                                                         const struct linsjoar_options *options,
+                                                         size_t *words);
 
 /* Writes that form to the front of a block, and counts its words. It returns 2 where there is no room. */
 LINSJOAR_CHECKED
-uint8_t linsjoar_canonical(const uint8_t *bytes, size_t len, uint8_t *block, size_t block_len,
-                           size_t *words);
+enum linsjoar_error linsjoar_canonical(const uint8_t *bytes, size_t len, uint8_t *block, size_t block_len,
+                                       size_t *words);
 LINSJOAR_CHECKED
-uint8_t linsjoar_canonical_with_options(const uint8_t *bytes, size_t len,
-                                        const struct linsjoar_options *options, uint8_t *block,
-                                        size_t block_len, size_t *words);
+enum linsjoar_error linsjoar_canonical_with_options(const uint8_t *bytes, size_t len,
+                                                    const struct linsjoar_options *options, uint8_t *block,
+                                                    size_t block_len, size_t *words);
 
-/* Words, the parts that a message is made of. These two calls know no messages. */
+/* Words, the parts that a message is made of. These three calls know no messages. */
 
 /* Packs whole words into an encoding, and counts the bytes that this takes. It returns 0 exactly where the
  * words are whole ones and there is room for what they are packed to. It returns 14 where the last word is
@@ -283,14 +288,24 @@ uint8_t linsjoar_canonical_with_options(const uint8_t *bytes, size_t len,
  * the first word of its table, the table's other words, and each segment are packed one by one;
  * linsjoar_pack_message does that. */
 LINSJOAR_CHECKED
-uint8_t linsjoar_pack(const uint8_t *words, size_t words_len, uint8_t *encoding, size_t encoding_len,
-                      size_t *written);
+enum linsjoar_error linsjoar_pack(const uint8_t *words, size_t words_len, uint8_t *encoding,
+                                  size_t encoding_len, size_t *written);
 
 /* Fills words with what is packed at the front of an encoding, and counts the bytes of it that this takes. It
  * returns 0 wherever a packing of that many bytes is there. */
 LINSJOAR_CHECKED
-uint8_t linsjoar_unpack(const uint8_t *encoding, size_t encoding_len, uint8_t *words, size_t words_len,
-                        size_t *read);
+enum linsjoar_error linsjoar_unpack(const uint8_t *encoding, size_t encoding_len, uint8_t *words,
+                                    size_t words_len, size_t *read);
+
+/* Goes on over packed words that come in parts: unpacks as much as is there, of the part at the front of which the
+ * encoding goes on, to the front of `words`, which is all that is left of the words that are packed together. It counts
+ * the packed bytes that it takes, the bytes that it writes, and how many packed bytes more than those that are there
+ * are needed at least, which is 0 exactly where all words are written. What it takes is done with; what it doesn't take
+ * is less than 2,050 bytes where more are needed, and the front of the next part. It returns 14 where the last word is
+ * cut, and 11 where a run goes past the end of the words; a part that ends anywhere is no error. */
+LINSJOAR_CHECKED
+enum linsjoar_error linsjoar_unpack_part(const uint8_t *packed, size_t packed_len, uint8_t *words,
+                                         size_t words_len, size_t *read, size_t *written, size_t *needed);
 
 /* Objects of a framed message, read in place.
  *
@@ -359,21 +374,22 @@ enum linsjoar_code {
 /* Opens the framed message at the front of a buffer: 0 wherever one is there, else what linsjoar_message
  * returns. */
 LINSJOAR_CHECKED
-uint8_t linsjoar_open(const uint8_t *bytes, size_t len, struct linsjoar_reader *reader);
+enum linsjoar_error linsjoar_open(const uint8_t *bytes, size_t len, struct linsjoar_reader *reader);
 LINSJOAR_CHECKED
-uint8_t linsjoar_open_with_options(const uint8_t *bytes, size_t len, const struct linsjoar_options *options,
-                                   struct linsjoar_reader *reader);
+enum linsjoar_error linsjoar_open_with_options(const uint8_t *bytes, size_t len,
+                                               const struct linsjoar_options *options,
+                                               struct linsjoar_reader *reader);
 
 /* Finds the root pointer. It returns 17 where the first segment has no word. */
 LINSJOAR_CHECKED
-uint8_t linsjoar_root(const uint8_t *bytes, size_t len, const struct linsjoar_reader *reader,
-                      struct linsjoar_place *root);
+enum linsjoar_error linsjoar_root(const uint8_t *bytes, size_t len, const struct linsjoar_reader *reader,
+                                  struct linsjoar_place *root);
 
 /* Tells what a pointer points to, an enum linsjoar_kind, and for a list the enum linsjoar_code of its elements. It
  * takes nothing from words_left. */
 LINSJOAR_CHECKED
-uint8_t linsjoar_kind(const uint8_t *bytes, size_t len, const struct linsjoar_reader *reader,
-                      const struct linsjoar_place *pointer, uint8_t *kind, uint8_t *code);
+enum linsjoar_error linsjoar_kind(const uint8_t *bytes, size_t len, const struct linsjoar_reader *reader,
+                                  const struct linsjoar_place *pointer, uint8_t *kind, uint8_t *code);
 
 /* The calls that follow a pointer return, in this order: 27 where the reader is not one of these bytes; 17, 18,
  * 19, 21 or 22 where the pointer points to no object, or too deep; 20 where the object has more words than are
@@ -381,42 +397,46 @@ uint8_t linsjoar_kind(const uint8_t *bytes, size_t len, const struct linsjoar_re
 
 /* Reads the struct that a pointer points to. Null is an empty one. */
 LINSJOAR_CHECKED
-uint8_t linsjoar_struct(const uint8_t *bytes, size_t len, struct linsjoar_reader *reader,
-                        const struct linsjoar_place *pointer, struct linsjoar_struct *fields);
+enum linsjoar_error linsjoar_struct(const uint8_t *bytes, size_t len, struct linsjoar_reader *reader,
+                                    const struct linsjoar_place *pointer, struct linsjoar_struct *fields);
 
 /* Finds a pointer of a struct. */
 LINSJOAR_CHECKED
-uint8_t linsjoar_struct_pointer(const struct linsjoar_struct *fields, uint16_t index, struct linsjoar_place *pointer);
+enum linsjoar_error linsjoar_struct_pointer(const struct linsjoar_struct *fields, uint16_t index,
+                                            struct linsjoar_place *pointer);
 
 /* Reads the Text that a pointer points to: how many bytes of the message are before it, and how many it has without
  * the zero byte that follows them. Null is empty, and has no such byte. It returns 23 where no zero byte is at the
  * end. */
 LINSJOAR_CHECKED
-uint8_t linsjoar_text(const uint8_t *bytes, size_t len, struct linsjoar_reader *reader,
-                      const struct linsjoar_place *pointer, size_t *start, size_t *text_len);
+enum linsjoar_error linsjoar_text(const uint8_t *bytes, size_t len, struct linsjoar_reader *reader,
+                                  const struct linsjoar_place *pointer, size_t *start, size_t *text_len);
 
 /* Reads the Data that a pointer points to. Null is empty. */
 LINSJOAR_CHECKED
-uint8_t linsjoar_data(const uint8_t *bytes, size_t len, struct linsjoar_reader *reader,
-                      const struct linsjoar_place *pointer, size_t *start, size_t *data_len);
+enum linsjoar_error linsjoar_data(const uint8_t *bytes, size_t len, struct linsjoar_reader *reader,
+                                  const struct linsjoar_place *pointer, size_t *start, size_t *data_len);
 
 /* Reads the list that a pointer points to, its elements as an enum linsjoar_code says. Null is an empty one. As older
  * and newer writers have them, numbers and pointers are read as structs with these as their first field, and
  * structs as their first number or their first pointer; bits are read as bits alone. */
 LINSJOAR_CHECKED
-uint8_t linsjoar_list(const uint8_t *bytes, size_t len, struct linsjoar_reader *reader,
-                      const struct linsjoar_place *pointer, uint8_t code, struct linsjoar_list *list);
+enum linsjoar_error linsjoar_list(const uint8_t *bytes, size_t len, struct linsjoar_reader *reader,
+                                  const struct linsjoar_place *pointer, uint8_t code,
+                                  struct linsjoar_list *list);
 
 /* Finds an element of a list that is read as numbers, as structs, as pointers: 0, an empty struct, and no pointer past
  * the last one. They return 27 for a list that is read as something else, or whose element does not
  * lie within the bytes or has no place. */
 LINSJOAR_CHECKED
-uint8_t linsjoar_list_number(const uint8_t *bytes, size_t len, const struct linsjoar_list *list, uint32_t index,
-                             uint64_t *number);
+enum linsjoar_error linsjoar_list_number(const uint8_t *bytes, size_t len, const struct linsjoar_list *list,
+                                         uint32_t index, uint64_t *number);
 LINSJOAR_CHECKED
-uint8_t linsjoar_list_struct(const struct linsjoar_list *list, uint32_t index, struct linsjoar_struct *fields);
+enum linsjoar_error linsjoar_list_struct(const struct linsjoar_list *list, uint32_t index,
+                                         struct linsjoar_struct *fields);
 LINSJOAR_CHECKED
-uint8_t linsjoar_list_pointer(const struct linsjoar_list *list, uint32_t index, struct linsjoar_place *pointer);
+enum linsjoar_error linsjoar_list_pointer(const struct linsjoar_list *list, uint32_t index,
+                                          struct linsjoar_place *pointer);
 
 /* Messages that are built, from the bottom up.
  *
@@ -453,18 +473,18 @@ struct linsjoar_builder {
 /* Begins a message, whose root is null: it takes 16 bytes, whatever is there. It returns 2 where there is no room for
  * them; then the builder is of no region. */
 LINSJOAR_CHECKED
-uint8_t linsjoar_begin(struct linsjoar_builder *builder, uint8_t *region, size_t room);
+enum linsjoar_error linsjoar_begin(struct linsjoar_builder *builder, uint8_t *region, size_t room);
 
 /* Adds a Text of these bytes, which are to be UTF-8 (no call tests it), and a zero byte after them: (len + 8) / 8
  * words. */
 LINSJOAR_CHECKED
-uint8_t linsjoar_add_text(struct linsjoar_builder *builder, uint8_t *region, size_t room, const uint8_t *text,
-                          size_t len, uint64_t *orphan);
+enum linsjoar_error linsjoar_add_text(struct linsjoar_builder *builder, uint8_t *region, size_t room,
+                                      const uint8_t *text, size_t len, uint64_t *orphan);
 
 /* Adds a Data of these bytes: (len + 7) / 8 words. */
 LINSJOAR_CHECKED
-uint8_t linsjoar_add_data(struct linsjoar_builder *builder, uint8_t *region, size_t room, const uint8_t *data,
-                          size_t len, uint64_t *orphan);
+enum linsjoar_error linsjoar_add_data(struct linsjoar_builder *builder, uint8_t *region, size_t room,
+                                      const uint8_t *data, size_t len, uint64_t *orphan);
 
 /* Adds a list of `count` numbers of an enum linsjoar_code from LINSJOAR_VOID to LINSJOAR_EIGHT_BYTES. `elements` are
  * the numbers as the message has them: little-endian, one after the other; bits from the lowest of each byte on, and
@@ -472,28 +492,30 @@ uint8_t linsjoar_add_data(struct linsjoar_builder *builder, uint8_t *region, siz
  * passed as it is. `len` is how many bytes these are: the bits of all, rounded up to whole bytes; else 27 is
  * returned, and for other codes. */
 LINSJOAR_CHECKED
-uint8_t linsjoar_add_numbers(struct linsjoar_builder *builder, uint8_t *region, size_t room, uint8_t code,
-                             size_t count, const uint8_t *elements, size_t len, uint64_t *orphan);
+enum linsjoar_error linsjoar_add_numbers(struct linsjoar_builder *builder, uint8_t *region, size_t room,
+                                         uint8_t code, size_t count, const uint8_t *elements, size_t len,
+                                         uint64_t *orphan);
 
 /* Adds a struct of these data words, numbers whose lowest byte comes first in the message, and of pointers to these
  * orphans. It returns 15 for 65536 or more of either. */
 LINSJOAR_CHECKED
-uint8_t linsjoar_add_struct(struct linsjoar_builder *builder, uint8_t *region, size_t room, const uint64_t *words,
-                            size_t data_words, const uint64_t *orphans, size_t pointers, uint64_t *orphan);
+enum linsjoar_error linsjoar_add_struct(struct linsjoar_builder *builder, uint8_t *region, size_t room,
+                                        const uint64_t *words, size_t data_words, const uint64_t *orphans,
+                                        size_t pointers, uint64_t *orphan);
 
 /* Adds a list of pointers to these orphans: of texts, of data, of lists, or of structs that are added one by one. */
 LINSJOAR_CHECKED
-uint8_t linsjoar_add_pointers(struct linsjoar_builder *builder, uint8_t *region, size_t room,
-                              const uint64_t *orphans, size_t count, uint64_t *orphan);
+enum linsjoar_error linsjoar_add_pointers(struct linsjoar_builder *builder, uint8_t *region, size_t room,
+                                          const uint64_t *orphans, size_t count, uint64_t *orphan);
 
 /* Adds a list of `count` structs that have `data_words` data words and `pointers` pointers each. `elements` has each
  * struct in order: its data words, and then its orphans. So an array of structs of C that hold uint64_t words[..] and
  * then uint64_t orphans[..] is passed as it is. It returns 27 where `elements_len`, the number of words, is not
  * count * (data_words + pointers). */
 LINSJOAR_CHECKED
-uint8_t linsjoar_add_structs(struct linsjoar_builder *builder, uint8_t *region, size_t room, const uint64_t *elements,
-                             size_t elements_len, size_t count, uint16_t data_words, uint16_t pointers,
-                             uint64_t *orphan);
+enum linsjoar_error linsjoar_add_structs(struct linsjoar_builder *builder, uint8_t *region, size_t room,
+                                         const uint64_t *elements, size_t elements_len, size_t count,
+                                         uint16_t data_words, uint16_t pointers, uint64_t *orphan);
 
 /* Adds a copy of what a pointer of another message points to, with all below it, untrimmed. `bytes`, `len`, the reader
  * and the place are as linsjoar_kind takes them, and the bytes are not the region's. Null makes the orphan of no
@@ -502,22 +524,23 @@ uint8_t linsjoar_add_structs(struct linsjoar_builder *builder, uint8_t *region, 
  * is below the nesting of the place; and then the number of the error with which the walk stops, 20 among them
  * where the objects have more words than are left. */
 LINSJOAR_CHECKED
-uint8_t linsjoar_add_copy(struct linsjoar_builder *builder, uint8_t *region, size_t room, const uint8_t *bytes,
-                          size_t len, const struct linsjoar_reader *reader, const struct linsjoar_place *pointer,
-                          uint64_t *orphan);
+enum linsjoar_error linsjoar_add_copy(struct linsjoar_builder *builder, uint8_t *region, size_t room,
+                                      const uint8_t *bytes, size_t len, const struct linsjoar_reader *reader,
+                                      const struct linsjoar_place *pointer, uint64_t *orphan);
 
 /* Makes the root point to an orphan, or null. It returns 0, or 27 where the builder is not one of the region. It may be
  * called again, before and after other objects are added. */
 LINSJOAR_CHECKED
-uint8_t linsjoar_set_root(const struct linsjoar_builder *builder, uint8_t *region, size_t room,
-                          uint64_t orphan);
+enum linsjoar_error linsjoar_set_root(const struct linsjoar_builder *builder, uint8_t *region, size_t room,
+                                      uint64_t orphan);
 
 /* Writes the table, so that the first `message_len` bytes of the region are the framed message, to be sent, opened by
  * linsjoar_open, or packed by linsjoar_pack_message. message_len is builder->used. It returns 0, or 27 where the
  * builder is not one of the region. More may be added after it: no byte of the message changes by that, so it stays
  * valid until linsjoar_set_root makes its root point past it. Then linsjoar_finish is called again. */
 LINSJOAR_CHECKED
-uint8_t linsjoar_finish(const struct linsjoar_builder *builder, uint8_t *region, size_t room, size_t *message_len);
+enum linsjoar_error linsjoar_finish(const struct linsjoar_builder *builder, uint8_t *region, size_t room,
+                                    size_t *message_len);
 
 /* The rest is C, and no proof covers it. It takes structs that a call wrote for these bytes, so that their data lie
  * within these, and tests nothing. */

@@ -10,7 +10,7 @@
  *     return error == LINSJOAR_PREMATURE_END_OF_FILE ? 0 : error;
  *
  * A reader asks for no byte that follows its message, so that another one may go on there. So a packed message is asked
- * for in small parts, which a `FILE *` has in its buffer. */
+ * for in parts, of as many bytes as it has at least, and a `FILE *` has small ones in its buffer. */
 #ifndef LINSJOAR_STREAMS_H
 #define LINSJOAR_STREAMS_H
 
@@ -37,7 +37,7 @@ struct linsjoar_stream {
     struct linsjoar_options options;          /* the limits of messages */
     void *(*grow)(void *region, size_t room); /* as that of a `struct linsjoar_message` */
     struct linsjoar_block message;            /* framed */
-    struct linsjoar_block packed;             /* the packed message that this was */
+    struct linsjoar_block packed;             /* packed bytes that are not unpacked yet */
 };
 
 /* Begins to read a stream: within these limits, or the default ones where they are NULL. */
@@ -69,6 +69,8 @@ static inline LINSJOAR_CHECKED enum linsjoar_error linsjoar_stream_reserve(
     uint8_t *bytes;
     if (room <= block->room)
         return LINSJOAR_OK;
+    if (stream->grow == NULL)
+        return LINSJOAR_BUFFER_NOT_LARGE_ENOUGH;
     if (room < 2 * block->room)
         room = 2 * block->room;
     bytes = (uint8_t *)stream->grow(block->bytes, room);
@@ -105,7 +107,7 @@ static inline LINSJOAR_CHECKED enum linsjoar_error linsjoar_stream_next(struct l
     size_t message_len = 0, needed = 0;
     message->len = 0;
     do {
-        error = (enum linsjoar_error)linsjoar_message_size_with_options(
+        error = linsjoar_message_size_with_options(
             message->bytes, message->len, &stream->options, &message_len, &needed);
         if (error == LINSJOAR_OK)
             error = linsjoar_stream_fill(stream, message, needed > 0 ? needed : message_len - message->len);
@@ -113,58 +115,52 @@ static inline LINSJOAR_CHECKED enum linsjoar_error linsjoar_stream_next(struct l
     return error;
 }
 
-/* Reads the next group of packed bytes, and counts the words that it is unpacked to. */
-static inline LINSJOAR_CHECKED enum linsjoar_error linsjoar_stream_group(
-    struct linsjoar_stream *stream, size_t *words) {
-    struct linsjoar_block *packed = &stream->packed;
-    size_t more = 0;
-    enum linsjoar_error error = linsjoar_stream_fill(stream, packed, 1);
-    if (error != LINSJOAR_OK)
-        return error;
-    *words += 1;
-    for (unsigned tag = packed->bytes[packed->len - 1], bit = 0; bit < 8; bit++)
-        more += tag >> bit & 1;
-    if (more > 0 && more < 8)
-        return linsjoar_stream_fill(stream, packed, more);
-    error = linsjoar_stream_fill(stream, packed, more + 1);
-    if (error != LINSJOAR_OK)
-        return error;
-    *words += packed->bytes[packed->len - 1];
-    return more == 0 ? error : linsjoar_stream_fill(stream, packed, 8 * (size_t)packed->bytes[packed->len - 1]);
+/* Reads and unpacks a given number of bytes of a message, which are packed together. */
+static inline LINSJOAR_CHECKED enum linsjoar_error linsjoar_stream_unpack(struct linsjoar_stream *stream, size_t more) {
+    struct linsjoar_block *message = &stream->message, *packed = &stream->packed;
+    size_t end = message->len + more, read, written, needed;
+    enum linsjoar_error error = linsjoar_stream_reserve(stream, message, end);
+    while (error == LINSJOAR_OK && message->len < end) {
+        error = linsjoar_unpack_part(
+            packed->bytes, packed->len, message->bytes + message->len, end - message->len, &read, &written, &needed);
+        message->len += written;
+        packed->len -= read;
+        if (read > 0)
+            memmove(packed->bytes, packed->bytes + read, packed->len);
+        if (error == LINSJOAR_OK && needed > 0)
+            error = linsjoar_stream_fill(stream, packed, needed);
+    }
+    if (error == LINSJOAR_FAILED_TO_FILL_THE_WHOLE_BUFFER ||
+        (error == LINSJOAR_PREMATURE_END_OF_FILE && message->len > 0))
+        error = LINSJOAR_PREMATURE_END_OF_PACKED_INPUT;
+    return error;
 }
 
-/* Reads the next packed message, and unpacks it. It fails as linsjoar_unpack_message does, with
- * LINSJOAR_PREMATURE_END_OF_FILE where the stream ends before the message. */
+/* Reads the next packed message, and unpacks it, in time that is linear in it. It fails with
+ * LINSJOAR_PREMATURE_END_OF_FILE where the stream ends before it, with LINSJOAR_PREMATURE_END_OF_PACKED_INPUT where it
+ * ends within it, and else as linsjoar_unpack_message does, as soon as the front shows it. */
 static inline LINSJOAR_CHECKED enum linsjoar_error linsjoar_stream_next_packed(struct linsjoar_stream *stream) {
-    struct linsjoar_block *message = &stream->message, *packed = &stream->packed;
-    size_t words = 0, len = 0, read;
+    struct linsjoar_block *message = &stream->message;
+    size_t message_len = 0, needed = 0;
     enum linsjoar_error error;
     message->len = 0;
-    packed->len = 0;
-    /* 10 says that the table isn't whole yet, which has at most 256 words */
+    stream->packed.len = 0;
+    /* the first word, the rest of the table, and the segments are packed one by one */
     do {
-        error = linsjoar_stream_group(stream, &words);
-        if (error == LINSJOAR_OK && len == 0) {
-            error = (enum linsjoar_error)linsjoar_unpacked_size_with_options(
-                packed->bytes, packed->len, &stream->options, &len);
-            if (error == LINSJOAR_PREMATURE_END_OF_PACKED_INPUT && words < 256)
-                error = LINSJOAR_OK;
-        }
-    } while (error == LINSJOAR_OK && (len == 0 || words < len / 8));
-    if (error == LINSJOAR_FAILED_TO_FILL_THE_WHOLE_BUFFER)
-        error = LINSJOAR_PREMATURE_END_OF_PACKED_INPUT;
-    if (error == LINSJOAR_OK)
-        error = linsjoar_stream_reserve(stream, message, len);
-    if (error == LINSJOAR_OK)
-        error = (enum linsjoar_error)linsjoar_unpack_message_with_options(
-            packed->bytes, packed->len, &stream->options, message->bytes, message->room, &message->len, &read);
+        error = linsjoar_message_size_with_options(
+            message->bytes, message->len, &stream->options, &message_len, &needed);
+        if (error == LINSJOAR_OK)
+            error = linsjoar_stream_unpack(stream, needed > 0 ? needed : message_len - message->len);
+    } while (error == LINSJOAR_OK && needed > 0);
     return error;
 }
 
 /* Frees the memory of a stream. */
 static inline void linsjoar_stream_free(struct linsjoar_stream *stream) {
-    (void)stream->grow(stream->message.bytes, 0);
-    (void)stream->grow(stream->packed.bytes, 0);
+    if (stream->grow != NULL) {
+        (void)stream->grow(stream->message.bytes, 0);
+        (void)stream->grow(stream->packed.bytes, 0);
+    }
     memset(stream, 0, sizeof *stream);
 }
 

@@ -1,5 +1,5 @@
 /* What the headers share that the schema compiler writes for C (docs/COMPILER.md, "Types for C"). It is C over the
- * calls of linsjoar.h, and no proof covers it.
+ * calls of linsjoar.h, and no proof covers it: texts, data and structs are also written here, without a call.
  *
  * A message is read from its root on:
  *
@@ -90,7 +90,7 @@ static inline LINSJOAR_CHECKED enum linsjoar_error linsjoar_read_root(
     root->source.bytes = bytes;
     root->source.len = len;
     root->source.reader = reader;
-    return (enum linsjoar_error)linsjoar_root(bytes, len, reader, &root->place);
+    return linsjoar_root(bytes, len, reader, &root->place);
 }
 
 /* The root pointer of a constant: a message of one segment. */
@@ -122,7 +122,7 @@ static inline struct linsjoar_reader *linsjoar_reader_of(
 static inline bool linsjoar_is_null(const struct linsjoar_pointer_reader *pointer) {
     struct linsjoar_reader of_constant;
     uint8_t kind, code;
-    uint8_t error = linsjoar_kind(
+    enum linsjoar_error error = linsjoar_kind(
         pointer->source.bytes, pointer->source.len, linsjoar_reader_of(&pointer->source, &of_constant), &pointer->place,
         &kind, &code);
     return error == 0 && kind == LINSJOAR_NULL;
@@ -133,7 +133,7 @@ static inline LINSJOAR_CHECKED enum linsjoar_error linsjoar_read_struct(
     const struct linsjoar_pointer_reader *pointer, struct linsjoar_struct_reader *value) {
     struct linsjoar_reader of_constant;
     value->source = pointer->source;
-    return (enum linsjoar_error)linsjoar_struct(
+    return linsjoar_struct(
         pointer->source.bytes, pointer->source.len, linsjoar_reader_of(&pointer->source, &of_constant), &pointer->place,
         &value->fields);
 }
@@ -146,7 +146,7 @@ static inline LINSJOAR_CHECKED enum linsjoar_error linsjoar_open_root(
     static const struct linsjoar_options defaults = LINSJOAR_DEFAULT_OPTIONS;
     struct linsjoar_pointer_reader pointer;
     enum linsjoar_error error =
-        (enum linsjoar_error)linsjoar_open_with_options(bytes, len, options == NULL ? &defaults : options, reader);
+        linsjoar_open_with_options(bytes, len, options == NULL ? &defaults : options, reader);
     memset(root, 0, sizeof *root);
     if (error == LINSJOAR_OK)
         error = linsjoar_read_root(bytes, len, reader, &pointer);
@@ -160,7 +160,7 @@ static inline LINSJOAR_CHECKED enum linsjoar_error linsjoar_read_list(
     const struct linsjoar_pointer_reader *pointer, uint8_t code, struct linsjoar_list_reader *value) {
     struct linsjoar_reader of_constant;
     value->source = pointer->source;
-    return (enum linsjoar_error)linsjoar_list(
+    return linsjoar_list(
         pointer->source.bytes, pointer->source.len, linsjoar_reader_of(&pointer->source, &of_constant), &pointer->place,
         code, &value->elements);
 }
@@ -170,12 +170,12 @@ static inline LINSJOAR_CHECKED enum linsjoar_error linsjoar_read_text(
     const struct linsjoar_pointer_reader *pointer, struct linsjoar_text_reader *value) {
     struct linsjoar_reader of_constant;
     size_t start;
-    uint8_t error = linsjoar_text(
+    enum linsjoar_error error = linsjoar_text(
         pointer->source.bytes, pointer->source.len, linsjoar_reader_of(&pointer->source, &of_constant), &pointer->place,
         &start, &value->len);
     /* no byte of a table is a Text's, so 0 says that there is none */
     value->bytes = start == 0 ? "" : (const char *)linsjoar_at(pointer->source.bytes, start);
-    return (enum linsjoar_error)error;
+    return error;
 }
 
 /* Reads the Data that a pointer points to. Null is an empty one. */
@@ -183,11 +183,11 @@ static inline LINSJOAR_CHECKED enum linsjoar_error linsjoar_read_data(
     const struct linsjoar_pointer_reader *pointer, struct linsjoar_data_reader *value) {
     struct linsjoar_reader of_constant;
     size_t start;
-    uint8_t error = linsjoar_data(
+    enum linsjoar_error error = linsjoar_data(
         pointer->source.bytes, pointer->source.len, linsjoar_reader_of(&pointer->source, &of_constant), &pointer->place,
         &start, &value->len);
     value->bytes = linsjoar_at(pointer->source.bytes, start);
-    return (enum linsjoar_error)error;
+    return error;
 }
 
 /* No pointer, which is read as null. */
@@ -260,7 +260,7 @@ static inline uint32_t linsjoar_list_len(const struct linsjoar_list_reader *list
 /* An element of a list of numbers. */
 static inline LINSJOAR_CHECKED enum linsjoar_error linsjoar_list_get_number(
     const struct linsjoar_list_reader *list, uint32_t index, uint64_t *number) {
-    return (enum linsjoar_error)linsjoar_list_number(
+    return linsjoar_list_number(
         list->source.bytes, list->source.len, &list->elements, index, number);
 }
 
@@ -269,7 +269,7 @@ static inline LINSJOAR_CHECKED enum linsjoar_error linsjoar_list_get_struct(
     const struct linsjoar_list_reader *list, uint32_t index, struct linsjoar_struct_reader *value) {
     value->source = list->source;
     if (index >= list->elements.count || list->elements.code != LINSJOAR_STRUCTS)
-        return (enum linsjoar_error)linsjoar_list_struct(&list->elements, index, &value->fields);
+        return linsjoar_list_struct(&list->elements, index, &value->fields);
     value->fields = linsjoar_struct_at(&list->elements, index);
     return LINSJOAR_OK;
 }
@@ -279,7 +279,7 @@ static inline LINSJOAR_CHECKED enum linsjoar_error linsjoar_list_get_pointer(
     const struct linsjoar_list_reader *list, uint32_t index, struct linsjoar_pointer_reader *pointer) {
     pointer->source = list->source;
     if (index >= list->elements.count || list->elements.code != LINSJOAR_POINTERS)
-        return (enum linsjoar_error)linsjoar_list_pointer(&list->elements, index, &pointer->place);
+        return linsjoar_list_pointer(&list->elements, index, &pointer->place);
     pointer->place = list->elements.first;
     pointer->place.word += (size_t)index * (list->elements.step / 64);
     pointer->place.is_there = 1;
@@ -329,7 +329,7 @@ struct linsjoar_message {
     struct linsjoar_builder builder;          /* after linsjoar_message_finish its `used` is the message's length */
     uint8_t *region;                          /* has the message at its front */
     size_t room;                              /* how many bytes the region has */
-    size_t pushed;                            /* how many bytes of drafts are collected at its end */
+    size_t end;                               /* how many of these are the message's: drafts are collected after them */
     void *(*grow)(void *region, size_t room); /* as realloc, but frees where `room` is 0; NULL for a fixed room */
 };
 
@@ -341,22 +341,11 @@ static inline void *linsjoar_heap(void *region, size_t room) {
     return NULL;
 }
 
-/* Where the drafts end that a message collects: after the last whole word of its region. */
-static inline size_t linsjoar_message_end(const struct linsjoar_message *message) {
-    size_t past = (size_t)(((uintptr_t)message->region + message->room) & 7);
-    return message->room < past ? 0 : message->room - past;
-}
-
-/* How many bytes of the region a call may build in. */
-static inline size_t linsjoar_message_room(const struct linsjoar_message *message) {
-    return message->pushed == 0 ? message->room : linsjoar_message_end(message) - message->pushed;
-}
-
 /* Makes room for this many bytes more. Without `grow` it fails with LINSJOAR_BUFFER_NOT_LARGE_ENOUGH, and with
  * LINSJOAR_OUT_OF_MEMORY where that has none. */
 static inline LINSJOAR_CHECKED enum linsjoar_error linsjoar_message_grow(
     struct linsjoar_message *message, size_t more) {
-    size_t end = linsjoar_message_end(message), larger;
+    size_t collected = message->room - message->end, larger;
     uint8_t *region;
     if (message->grow == NULL)
         return LINSJOAR_BUFFER_NOT_LARGE_ENOUGH;
@@ -366,9 +355,10 @@ static inline LINSJOAR_CHECKED enum linsjoar_error linsjoar_message_grow(
     region = (uint8_t *)message->grow(message->region, larger);
     if (region == NULL)
         return LINSJOAR_OUT_OF_MEMORY;
+    memmove(region + larger - collected, region + message->end, collected);
     message->region = region;
     message->room = larger;
-    memmove(region + linsjoar_message_end(message) - message->pushed, region + end - message->pushed, message->pushed);
+    message->end = larger - collected;
     return LINSJOAR_OK;
 }
 
@@ -387,10 +377,10 @@ static inline LINSJOAR_CHECKED enum linsjoar_error linsjoar_message_begin(
     enum linsjoar_error error;
     message->region = region;
     message->room = room;
-    message->pushed = 0;
+    message->end = room;
     message->grow = grow;
     do
-        error = (enum linsjoar_error)linsjoar_begin(&message->builder, message->region, message->room);
+        error = linsjoar_begin(&message->builder, message->region, message->room);
     while (linsjoar_message_grows(message, 16, &error));
     return error;
 }
@@ -398,15 +388,13 @@ static inline LINSJOAR_CHECKED enum linsjoar_error linsjoar_message_begin(
 /* Makes the root point to what is at an orphan's `word`. */
 static inline LINSJOAR_CHECKED enum linsjoar_error linsjoar_message_set_root(
     struct linsjoar_message *message, uint64_t orphan) {
-    return (enum linsjoar_error)linsjoar_set_root(
-        &message->builder, message->region, linsjoar_message_room(message), orphan);
+    return linsjoar_set_root(&message->builder, message->region, message->end, orphan);
 }
 
 /* Writes the table: the first `len` bytes of the region are then the framed message. */
 static inline LINSJOAR_CHECKED enum linsjoar_error linsjoar_message_finish(
     struct linsjoar_message *message, size_t *len) {
-    return (enum linsjoar_error)linsjoar_finish(
-        &message->builder, message->region, linsjoar_message_room(message), len);
+    return linsjoar_finish(&message->builder, message->region, message->end, len);
 }
 
 /* Frees the region of a message that grows. */
@@ -434,16 +422,76 @@ static inline struct linsjoar_pointer_orphan linsjoar_any_orphan(uint64_t word) 
     return orphan;
 }
 
+/* The next ones write texts, data and structs as linsjoar_add_text, linsjoar_add_data, linsjoar_add_struct and
+ * linsjoar_add_structs do, without a call, and fail with the same errors. */
+
+/* A segment has fewer words than this, and a list fewer elements. */
+#define LINSJOAR_MAX_WORDS ((size_t)1 << 29)
+
+/* Writes words as a message has them. */
+static inline void linsjoar_put_words(uint8_t *to, const void *words, size_t count) {
+    uint64_t word;
+    if (LINSJOAR_LITTLE_ENDIAN)
+        memcpy(to, words, 8 * count);
+    else
+        for (size_t i = 0; i < 8 * count; i++) {
+            memcpy(&word, (const uint8_t *)words + i / 8 * 8, sizeof word);
+            to[i] = (uint8_t)(word >> i % 8 * 8);
+        }
+}
+
+/* Makes room for an object of this many words, which begins at `used`. */
+static inline LINSJOAR_CHECKED enum linsjoar_error linsjoar_message_reserve(
+    struct linsjoar_message *message, size_t words) {
+    size_t used = message->builder.used, end = message->end;
+    /* `used` in words; past any limit where it is not whole words */
+    size_t used_words = used >> 3 | used << (8 * sizeof used - 3);
+    if (used < 16 || used > end || used_words > LINSJOAR_MAX_WORDS)
+        return LINSJOAR_INVALID_ARGUMENT;
+    if (words > LINSJOAR_MAX_WORDS - used_words)
+        return LINSJOAR_ALLOCATION_TOO_LARGE;
+    return end - used < 8 * words ? linsjoar_message_grow(message, 8 * words) : LINSJOAR_OK;
+}
+
+/* Takes that room, and returns the number of its first word in the segment. */
+static inline size_t linsjoar_message_take(struct linsjoar_message *message, size_t words) {
+    size_t place = message->builder.used / 8 - 1;
+    message->builder.used += 8 * words;
+    return place;
+}
+
+/* The orphan of a list, by the number of its first word, the code of its elements, and how many it has. */
+static inline uint64_t linsjoar_list_orphan(size_t place, unsigned code, size_t count) {
+    return 1 + 4 * (uint64_t)place + ((uint64_t)code << 32) + ((uint64_t)count << 35);
+}
+
+/* The orphan of a struct, or the tag of a list of structs, by how many there are. */
+static inline uint64_t linsjoar_struct_word(size_t place, uint16_t data_words, uint16_t pointers) {
+    return 4 * (uint64_t)place + ((uint64_t)data_words << 32) + ((uint64_t)pointers << 48);
+}
+
+/* Adds a list of bytes, and zeros after them up to a whole word. */
+static inline LINSJOAR_CHECKED enum linsjoar_error linsjoar_add_blob(
+    struct linsjoar_message *message, const void *bytes, size_t len, size_t zeros, uint64_t *orphan) {
+    size_t words = len < LINSJOAR_MAX_WORDS - zeros ? (len + zeros + 7) / 8 : LINSJOAR_MAX_WORDS;
+    enum linsjoar_error error = linsjoar_message_reserve(message, words);
+    uint8_t *at;
+    *orphan = LINSJOAR_NULL_ORPHAN;
+    if (error != LINSJOAR_OK)
+        return error;
+    at = message->region + message->builder.used;
+    if (words > 0)
+        memset(at + 8 * (words - 1), 0, 8);
+    if (len > 0)
+        memcpy(at, bytes, len);
+    *orphan = linsjoar_list_orphan(linsjoar_message_take(message, words), LINSJOAR_BYTE, len + zeros);
+    return LINSJOAR_OK;
+}
+
 /* Adds a Text that ends before a zero byte, or of a given number of bytes. They lie outside of the region. */
 static inline LINSJOAR_CHECKED enum linsjoar_error linsjoar_add_string_with_len(
     struct linsjoar_message *message, const char *text, size_t len, struct linsjoar_text_orphan *orphan) {
-    enum linsjoar_error error;
-    do
-        error = (enum linsjoar_error)linsjoar_add_text(
-            &message->builder, message->region, linsjoar_message_room(message), (const uint8_t *)text, len,
-            &orphan->word);
-    while (linsjoar_message_grows(message, len, &error));
-    return error;
+    return linsjoar_add_blob(message, text, len, 1, &orphan->word);
 }
 static inline LINSJOAR_CHECKED enum linsjoar_error linsjoar_add_string(
     struct linsjoar_message *message, const char *text, struct linsjoar_text_orphan *orphan) {
@@ -453,13 +501,7 @@ static inline LINSJOAR_CHECKED enum linsjoar_error linsjoar_add_string(
 /* Adds a Data of these bytes, which lie outside of the region. */
 static inline LINSJOAR_CHECKED enum linsjoar_error linsjoar_add_bytes(
     struct linsjoar_message *message, const void *bytes, size_t len, struct linsjoar_data_orphan *orphan) {
-    enum linsjoar_error error;
-    do
-        error = (enum linsjoar_error)linsjoar_add_data(
-            &message->builder, message->region, linsjoar_message_room(message), (const uint8_t *)bytes, len,
-            &orphan->word);
-    while (linsjoar_message_grows(message, len, &error));
-    return error;
+    return linsjoar_add_blob(message, bytes, len, 0, &orphan->word);
 }
 
 /* Adds a copy of what a pointer of another message points to, or the root of a constant. The made calls take these
@@ -470,41 +512,84 @@ static inline LINSJOAR_CHECKED enum linsjoar_error linsjoar_add_copy_of(
     const struct linsjoar_reader *reader = linsjoar_reader_of(&pointer->source, &of_constant);
     enum linsjoar_error error;
     do
-        error = (enum linsjoar_error)linsjoar_add_copy(
-            &message->builder, message->region, linsjoar_message_room(message), pointer->source.bytes,
-            pointer->source.len, reader, &pointer->place, orphan);
+        error = linsjoar_add_copy(
+            &message->builder, message->region, message->end, pointer->source.bytes, pointer->source.len, reader,
+            &pointer->place, orphan);
     while (linsjoar_message_grows(message, 0, &error));
     return error;
 }
+
+/* The pointer that is this word of the segment, to what an orphan is. */
+static inline uint64_t linsjoar_pointer_word(uint64_t orphan, size_t place) {
+    if ((orphan & UINT64_C(0xffffffff00000003)) == 0)
+        return orphan; /* null, or a struct of no words */
+    return orphan >> 32 << 32 | (uint32_t)(orphan - 4 * ((uint64_t)place + 1));
+}
+
+/* Writes a struct from this word of the segment on: data words, and pointers to orphans. */
+static inline void linsjoar_put_struct(
+    uint8_t *segment, size_t place, const void *words, size_t data_words, const void *orphans, size_t pointers) {
+    linsjoar_put_words(segment + 8 * place, words, data_words);
+    place += data_words;
+    for (size_t i = 0; i < pointers; i++) {
+        uint64_t orphan;
+        memcpy(&orphan, (const uint8_t *)orphans + 8 * i, sizeof orphan);
+        orphan = linsjoar_pointer_word(orphan, place + i);
+        linsjoar_put_words(segment + 8 * (place + i), &orphan, 1);
+    }
+}
 static inline LINSJOAR_CHECKED enum linsjoar_error linsjoar_add_draft(
-    struct linsjoar_message *message, const uint64_t *words, size_t data_words, const uint64_t *orphans,
-    size_t pointers, uint64_t *orphan) {
-    enum linsjoar_error error;
-    do
-        error = (enum linsjoar_error)linsjoar_add_struct(
-            &message->builder, message->region, linsjoar_message_room(message), words, data_words, orphans, pointers,
-            orphan);
-    while (linsjoar_message_grows(message, 8 * (data_words + pointers), &error));
-    return error;
+    struct linsjoar_message *message, const uint64_t *words, uint16_t data_words, const uint64_t *orphans,
+    uint16_t pointers, uint64_t *orphan) {
+    size_t size = (size_t)data_words + pointers, place;
+    enum linsjoar_error error = linsjoar_message_reserve(message, size);
+    *orphan = LINSJOAR_NULL_ORPHAN;
+    if (error != LINSJOAR_OK)
+        return error;
+    place = linsjoar_message_take(message, size);
+    linsjoar_put_struct(message->region + 8, place, words, data_words, orphans, pointers);
+    /* a struct of no words is one word before its pointer */
+    *orphan = linsjoar_struct_word(size == 0 ? ((size_t)1 << 30) - 1 : place, data_words, pointers);
+    return LINSJOAR_OK;
+}
+
+/* Writes a list of structs, which has room: from its first draft on, or from its last one, if the drafts are in
+ * the other order. */
+static inline uint64_t linsjoar_put_drafts(
+    struct linsjoar_message *message, const void *drafts, bool is_reversed, size_t count, uint16_t data_words,
+    uint16_t pointers) {
+    size_t size = (size_t)data_words + pointers, place = linsjoar_message_take(message, 1 + size * count);
+    uint8_t *segment = message->region + 8;
+    const uint8_t *draft = (const uint8_t *)drafts;
+    uint64_t tag = linsjoar_struct_word(count, data_words, pointers);
+    linsjoar_put_words(segment + 8 * place, &tag, 1);
+    for (size_t i = 0; size > 0 && i < count; i++) {
+        const uint8_t *one = draft + 8 * size * (is_reversed ? count - 1 - i : i);
+        linsjoar_put_struct(segment, place + 1 + size * i, one, data_words, one + 8 * (size_t)data_words, pointers);
+    }
+    return linsjoar_list_orphan(place, LINSJOAR_STRUCTS, size * count);
+}
+
+/* How many words a list of structs takes. */
+static inline size_t linsjoar_words_of_drafts(size_t count, size_t size) {
+    return count < LINSJOAR_MAX_WORDS ? 1 + count * size : LINSJOAR_MAX_WORDS;
 }
 static inline LINSJOAR_CHECKED enum linsjoar_error linsjoar_add_draft_list(
     struct linsjoar_message *message, const void *drafts, size_t count, uint16_t data_words, uint16_t pointers,
     uint64_t *orphan) {
-    size_t words = ((size_t)data_words + pointers) * count;
-    enum linsjoar_error error;
-    do
-        error = (enum linsjoar_error)linsjoar_add_structs(
-            &message->builder, message->region, linsjoar_message_room(message), (const uint64_t *)drafts, words, count,
-            data_words, pointers, orphan);
-    while (linsjoar_message_grows(message, 8 * words, &error));
+    size_t words = linsjoar_words_of_drafts(count, (size_t)data_words + pointers);
+    enum linsjoar_error error = linsjoar_message_reserve(message, words);
+    *orphan = LINSJOAR_NULL_ORPHAN;
+    if (error == LINSJOAR_OK)
+        *orphan = linsjoar_put_drafts(message, drafts, false, count, data_words, pointers);
     return error;
 }
 static inline LINSJOAR_CHECKED enum linsjoar_error linsjoar_add_pointer_words(
     struct linsjoar_message *message, const uint64_t *orphans, size_t count, uint64_t *orphan) {
     enum linsjoar_error error;
     do
-        error = (enum linsjoar_error)linsjoar_add_pointers(
-            &message->builder, message->region, linsjoar_message_room(message), orphans, count, orphan);
+        error = linsjoar_add_pointers(
+            &message->builder, message->region, message->end, orphans, count, orphan);
     while (linsjoar_message_grows(message, 8 * count, &error));
     return error;
 }
@@ -512,9 +597,8 @@ static inline LINSJOAR_CHECKED enum linsjoar_error linsjoar_add_number_bytes(
     struct linsjoar_message *message, uint8_t code, size_t count, const void *numbers, size_t len, uint64_t *orphan) {
     enum linsjoar_error error;
     do
-        error = (enum linsjoar_error)linsjoar_add_numbers(
-            &message->builder, message->region, linsjoar_message_room(message), code, count, (const uint8_t *)numbers,
-            len, orphan);
+        error = linsjoar_add_numbers(
+            &message->builder, message->region, message->end, code, count, (const uint8_t *)numbers, len, orphan);
     while (linsjoar_message_grows(message, len, &error));
     return error;
 }
@@ -529,64 +613,45 @@ struct linsjoar_drafts {
 /* Whether the drafts are the last ones that were collected, each of a given number of bytes. */
 static inline bool linsjoar_drafts_are_last(
     const struct linsjoar_message *message, struct linsjoar_drafts *drafts, size_t size) {
+    size_t collected = message->room - message->end;
     if (drafts->count == 0)
-        drafts->begin = message->pushed;
-    return drafts->begin + drafts->count * size == message->pushed;
+        drafts->begin = collected;
+    return drafts->begin + drafts->count * size == collected;
 }
 
 /* Collects a draft of a given number of bytes. Fails with LINSJOAR_INVALID_ARGUMENT where other drafts are the last
  * ones. */
 static inline LINSJOAR_CHECKED enum linsjoar_error linsjoar_push_draft(
     struct linsjoar_message *message, struct linsjoar_drafts *drafts, const void *draft, size_t size) {
-    enum linsjoar_error error = LINSJOAR_OK;
-    if (message->builder.used == 0 || !linsjoar_drafts_are_last(message, drafts, size))
+    enum linsjoar_error error;
+    if (!linsjoar_drafts_are_last(message, drafts, size))
         return LINSJOAR_INVALID_ARGUMENT;
-    if (linsjoar_message_end(message) < message->builder.used + message->pushed + size)
-        error = linsjoar_message_grow(message, size);
+    error = linsjoar_message_reserve(message, size / 8);
     if (error != LINSJOAR_OK)
         return error;
-    message->pushed += size;
+    message->end -= size;
     drafts->count++;
-    memcpy(message->region + linsjoar_message_end(message) - message->pushed, draft, size);
+    memcpy(message->region + message->end, draft, size);
     return LINSJOAR_OK;
-}
-
-/* Turns the order of blocks of a given number of words. */
-static inline void linsjoar_reverse(uint64_t *words, size_t count, size_t words_of_one) {
-    for (size_t i = 0; i < count / 2; i++)
-        for (size_t j = 0; j < words_of_one; j++) {
-            uint64_t *one = words + i * words_of_one + j, *other = words + (count - 1 - i) * words_of_one + j;
-            uint64_t word = *one;
-            *one = *other;
-            *other = word;
-        }
 }
 
 /* Adds the list of the drafts that were collected, each of a given number of words, and forgets them. */
 static inline LINSJOAR_CHECKED enum linsjoar_error linsjoar_add_drafts(
     struct linsjoar_message *message, struct linsjoar_drafts *drafts, uint16_t data_words, uint16_t pointers,
     uint64_t *orphan) {
-    size_t words_of_one = (size_t)data_words + pointers, words = words_of_one * drafts->count;
+    size_t size = (size_t)data_words + pointers;
     enum linsjoar_error error;
-    uint64_t *first;
-    if (message->builder.used == 0 || !linsjoar_drafts_are_last(message, drafts, 8 * words_of_one))
+    *orphan = LINSJOAR_NULL_ORPHAN;
+    if (!linsjoar_drafts_are_last(message, drafts, 8 * size))
         return LINSJOAR_INVALID_ARGUMENT;
-    /* the last one is at the front */
-    linsjoar_reverse(
-        (uint64_t *)(void *)(message->region + linsjoar_message_end(message) - message->pushed), drafts->count,
-        words_of_one);
-    do {
-        first = (uint64_t *)(void *)(message->region + linsjoar_message_end(message) - message->pushed);
-        error = (enum linsjoar_error)linsjoar_add_structs(
-            &message->builder, message->region, linsjoar_message_room(message), first, words, drafts->count, data_words,
-            pointers, orphan);
-    } while (linsjoar_message_grows(message, 8 * words, &error));
-    if (error == LINSJOAR_OK) {
-        message->pushed = drafts->begin;
-        drafts->count = 0;
-    } else
-        linsjoar_reverse(first, drafts->count, words_of_one);
-    return error;
+    error = linsjoar_message_reserve(message, linsjoar_words_of_drafts(drafts->count, size));
+    if (error != LINSJOAR_OK)
+        return error;
+    *orphan =
+        linsjoar_put_drafts(message, message->region + message->end, true, drafts->count, data_words, pointers);
+    message->end = message->room - drafts->begin;
+    drafts->count = 0;
+    return LINSJOAR_OK;
 }
 
 /* Copies a struct that is read to the words of a draft, and what its pointers point to into a message. */

@@ -1,7 +1,10 @@
 -- The lemmas.
 pub mod UniqueFrontMessageLemmas
 pub mod MessageSizeFromTableLemmas
+pub mod TableCutShortLemmas
 pub mod PackedTableSizeLemmas
+pub mod FirstGroupByHeadLemmas
+pub mod GroupsUnpackedInPartsLemmas
 pub mod UniqueCanonicalFormOutcomeLemmas
 pub mod PackMessageIntoBufferLemmas
 pub mod PackWordsIntoBufferLemmas

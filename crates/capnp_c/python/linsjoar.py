@@ -48,9 +48,9 @@ def _check(number, where=None):
 
 # The calls of the library, and of each what it takes: `b` a block and its length, `p` the address of what is read or
 # written, `n` a number as large as a length, a digit a number of so many bytes.
-_MESSAGE_CALLS = """message:bp segment:b4p next_message:bp pack_message:bbp unpack_message:bbpp canonical_size:bp
-canonical:bbp open:bp""".split()
-_OBJECT_CALLS = """pack:bbp unpack:bbp root:bpp kind:bpppp struct:bppp struct_pointer:p2p text:bpppp data:bpppp list:bpp1p
+_MESSAGE_CALLS = """message:bp segment:b4p next_message:bp message_size:bpp pack_message:bbp unpack_message:bbpp
+unpacked_size:bp canonical_size:bp canonical:bbp open:bp""".split()
+_OBJECT_CALLS = """pack:bbp unpack:bbp unpack_part:bbppp root:bpp kind:bpppp struct:bppp struct_pointer:p2p text:bpppp data:bpppp list:bpp1p
 list_number:bp4p list_struct:p4p list_pointer:p4p begin:pb set_root:pb8 finish:pbp add_text:pbbp add_data:pbbp
 add_numbers:pb1nbp add_struct:pbpnpnp add_pointers:pbpnp add_structs:pbpnn22p add_copy:pbbppp""".split()
 _MESSAGE_CALLS += [call.replace(":b", "_with_options:bp") for call in _MESSAGE_CALLS]
@@ -64,7 +64,7 @@ _calls = {}
 for _library, _names in ((ctypes.CDLL(_PATH), _MESSAGE_CALLS), (ctypes.PyDLL(_PATH), _OBJECT_CALLS)):
     for _name, _takes in (_call.split(":") for _call in _names):
         _calls[_name] = _library["linsjoar_" + _name]
-        _calls[_name].argtypes, _calls[_name].restype = [kind for letter in _takes for kind in _TAKEN[letter]], c_uint8
+        _calls[_name].argtypes, _calls[_name].restype = [kind for letter in _takes for kind in _TAKEN[letter]], c_uint32
 _kind, _struct, _text, _data, _list = (_calls[name] for name in ("kind", "struct", "text", "data", "list"))
 # A place, a struct and a list of the library. One call of `struct` packs or unpacks all numbers of one, in a tenth of
 # the time that the attributes of a ctypes.Structure take.

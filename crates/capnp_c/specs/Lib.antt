@@ -4,6 +4,7 @@ pub mod Fronts
 pub mod Packing
 pub mod Exports
 pub mod Sizes
+pub mod Parts
 pub mod Reading
 pub mod Entering
 pub mod ReadingExports

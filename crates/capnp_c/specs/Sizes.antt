@@ -46,6 +46,8 @@ pub record TellsSize (options : ReaderOptions) (bytes : List ℕ) (message_len n
   -- 0 exactly where a message can begin like this; else the number of the reader's error
   pub accepted : IsAcceptedTable options (table_front bytes) → result ≡ 0
   pub errors : (kind : ErrorKind) → IsRejectedTable options (table_front bytes) kind → result ≡ kind_number kind
+  -- where it fails no bytes that follow make a message of these
+  pub never : 0 < result → (more : List ℕ) (segments : List (List ℕ)) (rest : List ℕ) → IsAtFront options (bytes ++ more) segments rest → ⊥
   pub stays : 0 < result → (message_len ≡ 0) × (needed ≡ 0)
 
 -- The table of a packed message is unpacked: its first word, its other words, and zeros after them.

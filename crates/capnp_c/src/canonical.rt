@@ -20,7 +20,7 @@ use capnp_wire::canonical::{canonical_size, write_form};
 /// Counts the words of the canonical form of the message at the front of these bytes, with its root
 /// pointer. Returns 0, or the number of the error of the reader or of the walk over the tree.
 #[unsafe(no_mangle)]
-pub extern "C" fn linsjoar_canonical_size(bytes: &[u8], words: &mut usize) -> u8
+pub extern "C" fn linsjoar_canonical_size(bytes: &[u8], words: &mut usize) -> u32
     ensures { MeasuresForm DEFAULT_READER_OPTIONS bytes.now words.new result }
 {
     measure_form(bytes, DEFAULT_READER_OPTIONS, words)
@@ -32,13 +32,13 @@ pub extern "C" fn linsjoar_canonical_size_with_options(
     bytes: &[u8],
     options: &LinsjoarOptions,
     words: &mut usize,
-) -> u8
+) -> u32
     ensures { MeasuresForm (options_of options.now) bytes.now words.new result }
 {
     measure_form(bytes, options.reader_options(), words)
 }
 
-fn measure_form(bytes: &[u8], options: ReaderOptions, words: &mut usize) -> u8
+fn measure_form(bytes: &[u8], options: ReaderOptions, words: &mut usize) -> u32
     ensures { MeasuresForm options bytes.now words.new result }
 {
     *words = 0;
@@ -47,7 +47,7 @@ fn measure_form(bytes: &[u8], options: ReaderOptions, words: &mut usize) -> u8
             *words = size;
             0
         }
-        Err(error) => error.kind.number(),
+        Err(error) => error.kind.number() as u32,
     }
 }
 
@@ -55,7 +55,7 @@ fn measure_form(bytes: &[u8], options: ReaderOptions, words: &mut usize) -> u8
 /// and counts its words. Returns 2 where the block has no room for it, and else what
 /// `linsjoar_canonical_size` returns. What follows the form in the block may have changed.
 #[unsafe(no_mangle)]
-pub extern "C" fn linsjoar_canonical(bytes: &[u8], block: &mut [u8], words: &mut usize) -> u8
+pub extern "C" fn linsjoar_canonical(bytes: &[u8], block: &mut [u8], words: &mut usize) -> u32
     ensures { WritesCanonicalForm DEFAULT_READER_OPTIONS bytes.now block.new words.new result }
 {
     put_form(bytes, DEFAULT_READER_OPTIONS, block, words)
@@ -68,13 +68,13 @@ pub extern "C" fn linsjoar_canonical_with_options(
     options: &LinsjoarOptions,
     block: &mut [u8],
     words: &mut usize,
-) -> u8
+) -> u32
     ensures { WritesCanonicalForm (options_of options.now) bytes.now block.new words.new result }
 {
     put_form(bytes, options.reader_options(), block, words)
 }
 
-fn put_form(bytes: &[u8], options: ReaderOptions, block: &mut [u8], words: &mut usize) -> u8
+fn put_form(bytes: &[u8], options: ReaderOptions, block: &mut [u8], words: &mut usize) -> u32
     ensures { WritesCanonicalForm options bytes.now block.new words.new result }
 {
     *words = 0;
@@ -83,7 +83,7 @@ fn put_form(bytes: &[u8], options: ReaderOptions, block: &mut [u8], words: &mut 
             *words = size;
             0
         }
-        Err(error) => error.kind.number(),
+        Err(error) => error.kind.number() as u32,
     }
 }
 

@@ -23,7 +23,7 @@ pub struct LinsjoarMessage {
 /// Finds the framed message at the front of these bytes. Returns 0, or the number of the reader's
 /// error.
 #[unsafe(no_mangle)]
-pub extern "C" fn linsjoar_message(bytes: &[u8], message: &mut LinsjoarMessage) -> u8
+pub extern "C" fn linsjoar_message(bytes: &[u8], message: &mut LinsjoarMessage) -> u32
     ensures { FindsMessage DEFAULT_READER_OPTIONS bytes.now message.new result }
 {
     find_message(bytes, DEFAULT_READER_OPTIONS, message)
@@ -35,13 +35,13 @@ pub extern "C" fn linsjoar_message_with_options(
     bytes: &[u8],
     options: &LinsjoarOptions,
     message: &mut LinsjoarMessage,
-) -> u8
+) -> u32
     ensures { FindsMessage (options_of options.now) bytes.now message.new result }
 {
     find_message(bytes, options.reader_options(), message)
 }
 
-fn find_message(bytes: &[u8], options: ReaderOptions, message: &mut LinsjoarMessage) -> u8
+fn find_message(bytes: &[u8], options: ReaderOptions, message: &mut LinsjoarMessage) -> u32
     ensures { FindsMessage options bytes.now message.new result }
 {
     *message = LinsjoarMessage {
@@ -60,7 +60,7 @@ fn find_message(bytes: &[u8], options: ReaderOptions, message: &mut LinsjoarMess
             };
             0
         }
-        Err(error) => error.kind.number(),
+        Err(error) => error.kind.number() as u32,
     }
 }
 
@@ -69,7 +69,7 @@ fn find_message(bytes: &[u8], options: ReaderOptions, message: &mut LinsjoarMess
 /// Returns 18 where the message has no segment of this number, and else what `linsjoar_message`
 /// returns.
 #[unsafe(no_mangle)]
-pub extern "C" fn linsjoar_segment(bytes: &[u8], id: u32, words: &mut usize) -> u8
+pub extern "C" fn linsjoar_segment(bytes: &[u8], id: u32, words: &mut usize) -> u32
     ensures { CountsSegment DEFAULT_READER_OPTIONS bytes.now id words.new result }
 {
     count_segment(bytes, DEFAULT_READER_OPTIONS, id, words)
@@ -82,13 +82,13 @@ pub extern "C" fn linsjoar_segment_with_options(
     options: &LinsjoarOptions,
     id: u32,
     words: &mut usize,
-) -> u8
+) -> u32
     ensures { CountsSegment (options_of options.now) bytes.now id words.new result }
 {
     count_segment(bytes, options.reader_options(), id, words)
 }
 
-fn count_segment(bytes: &[u8], options: ReaderOptions, id: u32, words: &mut usize) -> u8
+fn count_segment(bytes: &[u8], options: ReaderOptions, id: u32, words: &mut usize) -> u32
     ensures { CountsSegment options bytes.now id words.new result }
 {
     *words = 0;
@@ -98,9 +98,9 @@ fn count_segment(bytes: &[u8], options: ReaderOptions, id: u32, words: &mut usiz
                 *words = segment.len() / 8;
                 0
             }
-            None => ErrorKind::InvalidSegmentId(id).number(),
+            None => ErrorKind::InvalidSegmentId(id).number() as u32,
         },
-        Err(error) => error.kind.number(),
+        Err(error) => error.kind.number() as u32,
     }
 }
 
@@ -108,7 +108,7 @@ fn count_segment(bytes: &[u8], options: ReaderOptions, id: u32, words: &mut usiz
 /// from one message to the next. Returns what `linsjoar_message` returns, but 0 for no bytes, which
 /// are no message.
 #[unsafe(no_mangle)]
-pub extern "C" fn linsjoar_next_message(bytes: &[u8], message_len: &mut usize) -> u8
+pub extern "C" fn linsjoar_next_message(bytes: &[u8], message_len: &mut usize) -> u32
     ensures { StepsOver DEFAULT_READER_OPTIONS bytes.now message_len.new result }
 {
     step_over(bytes, DEFAULT_READER_OPTIONS, message_len)
@@ -120,13 +120,13 @@ pub extern "C" fn linsjoar_next_message_with_options(
     bytes: &[u8],
     options: &LinsjoarOptions,
     message_len: &mut usize,
-) -> u8
+) -> u32
     ensures { StepsOver (options_of options.now) bytes.now message_len.new result }
 {
     step_over(bytes, options.reader_options(), message_len)
 }
 
-fn step_over(bytes: &[u8], options: ReaderOptions, message_len: &mut usize) -> u8
+fn step_over(bytes: &[u8], options: ReaderOptions, message_len: &mut usize) -> u32
     ensures { StepsOver options bytes.now message_len.new result }
 {
     *message_len = 0;
@@ -139,6 +139,6 @@ fn step_over(bytes: &[u8], options: ReaderOptions, message_len: &mut usize) -> u
             *message_len = bytes.len() - rest.len();
             0
         }
-        Err(error) => error.kind.number(),
+        Err(error) => error.kind.number() as u32,
     }
 }

@@ -12,6 +12,7 @@ mod framed;
 mod options;
 mod packed;
 mod packed_messages;
+mod packed_parts;
 mod provided_buffer;
 mod reading;
 mod sizes;

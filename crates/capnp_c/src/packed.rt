@@ -16,7 +16,7 @@ use capnp_pack::{PackedRead, PackedWrite, laws};
 /// encoding. Returns 14 where they aren't whole words, and 2 where there is no room. What follows
 /// in `encoding` may have changed.
 #[unsafe(no_mangle)]
-pub extern "C" fn linsjoar_pack(words: &[u8], encoding: &mut [u8], written: &mut usize) -> u8
+pub extern "C" fn linsjoar_pack(words: &[u8], encoding: &mut [u8], written: &mut usize) -> u32
     ensures packed { result ≡ 0 → Packs words.now (take written.new encoding.new) }
     ensures within { written.new ≤ length encoding.new }
     ensures part { (IsWholeWords words.now → ⊥) → result ≡ 14 }
@@ -35,7 +35,7 @@ pub extern "C" fn linsjoar_pack(words: &[u8], encoding: &mut [u8], written: &mut
             *written = sink.len();
             0
         }
-        Err(error) => error.kind.number(),
+        Err(error) => error.kind.number() as u32,
     }
 }
 
@@ -60,7 +60,7 @@ pub(crate) fn pack_into<W: Write>(sink: &mut W, words: &[u8]) -> Result<()>
 /// Fills `words` with the words that are packed at the front of these bytes, and counts the packed
 /// bytes that this takes. Returns 0, or the number of the error of the packed source.
 #[unsafe(no_mangle)]
-pub extern "C" fn linsjoar_unpack(encoding: &[u8], words: &mut [u8], read: &mut usize) -> u8
+pub extern "C" fn linsjoar_unpack(encoding: &[u8], words: &mut [u8], read: &mut usize) -> u32
     ensures filled { result ≡ 0 → (rest : List ℕ)
         × Unpacks encoding.now (length words.new) words.new rest
         × (read.new + length rest ≡ length encoding.now) }
@@ -77,7 +77,7 @@ pub extern "C" fn linsjoar_unpack(encoding: &[u8], words: &mut [u8], read: &mut 
             *read = encoding.len() - source.len();
             0
         }
-        Err(error) => error.kind.number(),
+        Err(error) => error.kind.number() as u32,
     }
 }
 

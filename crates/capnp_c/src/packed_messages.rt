@@ -32,7 +32,7 @@ pub extern "C" fn linsjoar_pack_message(
     framed: &[u8],
     packed: &mut [u8],
     packed_len: &mut usize,
-) -> u8
+) -> u32
     ensures { PacksMessage DEFAULT_READER_OPTIONS framed.now packed.new packed_len.new result }
 {
     pack_message(framed, DEFAULT_READER_OPTIONS, packed, packed_len)
@@ -45,7 +45,7 @@ pub extern "C" fn linsjoar_pack_message_with_options(
     options: &LinsjoarOptions,
     packed: &mut [u8],
     packed_len: &mut usize,
-) -> u8
+) -> u32
     ensures { PacksMessage (options_of options.now) framed.now packed.new packed_len.new result }
 {
     pack_message(framed, options.reader_options(), packed, packed_len)
@@ -56,13 +56,13 @@ fn pack_message(
     options: ReaderOptions,
     packed: &mut [u8],
     packed_len: &mut usize,
-) -> u8
+) -> u32
     ensures { PacksMessage options framed.now packed.new packed_len.new result }
 {
     *packed_len = 0;
     let segments = match whole_message(framed, options) {
         Ok(segments) => segments,
-        Err(error) => return error.kind.number(),
+        Err(error) => return error.kind.number() as u32,
     };
     let table = table_of(framed, &segments);
     let mut encoding = ProvidedBuffer::new(packed);
@@ -71,7 +71,7 @@ fn pack_message(
             *packed_len = encoding.len();
             0
         }
-        Err(error) => error.kind.number(),
+        Err(error) => error.kind.number() as u32,
     }
 }
 
@@ -88,7 +88,7 @@ pub extern "C" fn linsjoar_unpack_message(
     framed: &mut [u8],
     framed_len: &mut usize,
     packed_read: &mut usize,
-) -> u8
+) -> u32
     ensures { UnpacksMessage DEFAULT_READER_OPTIONS packed.now framed.new framed_len.new
         packed_read.new result }
 {
@@ -109,7 +109,7 @@ pub extern "C" fn linsjoar_unpack_message_with_options(
     framed: &mut [u8],
     framed_len: &mut usize,
     packed_read: &mut usize,
-) -> u8
+) -> u32
     ensures { UnpacksMessage (options_of options.now) packed.now framed.new framed_len.new
         packed_read.new result }
 {
@@ -128,7 +128,7 @@ fn unpack_message(
     framed: &mut [u8],
     framed_len: &mut usize,
     packed_read: &mut usize,
-) -> u8
+) -> u32
     ensures { UnpacksMessage options packed.now framed.new framed_len.new packed_read.new result }
 {
     *framed_len = 0;
@@ -141,8 +141,8 @@ fn unpack_message(
             *packed_read = packed.len() - source.len();
             0
         }
-        Ok(None) => ErrorKind::PrematureEndOfFile.number(),
-        Err(error) => error.kind.number(),
+        Ok(None) => ErrorKind::PrematureEndOfFile.number() as u32,
+        Err(error) => error.kind.number() as u32,
     }
 }
 

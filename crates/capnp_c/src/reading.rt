@@ -21,4 +21,4 @@ pub(crate) mod tests;
 
 /// The number of the error `InvalidArgument`, which the crates below don't have: no call wrote what
 /// was passed, or no list has such a code.
-pub(crate) const INVALID_ARGUMENT: u8 = 27;
+pub(crate) const INVALID_ARGUMENT: u32 = 27;

@@ -27,7 +27,7 @@ pub extern "C" fn linsjoar_message_size(
     bytes: &[u8],
     message_len: &mut usize,
     needed: &mut usize,
-) -> u8
+) -> u32
     ensures { TellsSize DEFAULT_READER_OPTIONS bytes.now message_len.new needed.new result }
 {
     tell_size(bytes, DEFAULT_READER_OPTIONS, message_len, needed)
@@ -40,7 +40,7 @@ pub extern "C" fn linsjoar_message_size_with_options(
     options: &LinsjoarOptions,
     message_len: &mut usize,
     needed: &mut usize,
-) -> u8
+) -> u32
     ensures { TellsSize (options_of options.now) bytes.now message_len.new needed.new result }
 {
     tell_size(bytes, options.reader_options(), message_len, needed)
@@ -51,7 +51,7 @@ fn tell_size(
     options: ReaderOptions,
     message_len: &mut usize,
     needed: &mut usize,
-) -> u8
+) -> u32
     ensures { TellsSize options bytes.now message_len.new needed.new result }
 {
     *message_len = 0;
@@ -66,7 +66,7 @@ fn tell_size(
             *message_len = size;
             0
         }
-        Err(error) => error.kind.number(),
+        Err(error) => error.kind.number() as u32,
     }
 }
 
@@ -76,7 +76,7 @@ fn tell_size(
 /// Returns 9 where there are no packed bytes, and else 0 or the number of the error with which a
 /// reader of packed messages stops at the table.
 #[unsafe(no_mangle)]
-pub extern "C" fn linsjoar_unpacked_size(packed: &[u8], framed_len: &mut usize) -> u8
+pub extern "C" fn linsjoar_unpacked_size(packed: &[u8], framed_len: &mut usize) -> u32
     ensures { TellsUnpackedSize DEFAULT_READER_OPTIONS packed.now framed_len.new result }
 {
     tell_unpacked_size(packed, DEFAULT_READER_OPTIONS, framed_len)
@@ -88,29 +88,29 @@ pub extern "C" fn linsjoar_unpacked_size_with_options(
     packed: &[u8],
     options: &LinsjoarOptions,
     framed_len: &mut usize,
-) -> u8
+) -> u32
     ensures { TellsUnpackedSize (options_of options.now) packed.now framed_len.new result }
 {
     tell_unpacked_size(packed, options.reader_options(), framed_len)
 }
 
-fn tell_unpacked_size(packed: &[u8], options: ReaderOptions, framed_len: &mut usize) -> u8
+fn tell_unpacked_size(packed: &[u8], options: ReaderOptions, framed_len: &mut usize) -> u32
     ensures { TellsUnpackedSize options packed.now framed_len.new result }
 {
     *framed_len = 0;
     if packed.is_empty() {
-        return ErrorKind::PrematureEndOfFile.number();
+        return ErrorKind::PrematureEndOfFile.number() as u32;
     }
     let table = match unpacked_table(packed) {
         Ok(table) => table,
-        Err(error) => return error.kind.number(),
+        Err(error) => return error.kind.number() as u32,
     };
     match sizes_of(&table, options) {
         Ok((_, size)) => {
             *framed_len = size;
             0
         }
-        Err(error) => error.kind.number(),
+        Err(error) => error.kind.number() as u32,
     }
 }
 

@@ -18,7 +18,7 @@ pub(crate) fn add<O: Object>(
     region: &mut [u8],
     object: &O,
     orphan: &mut u64,
-) -> u8
+) -> u32
     ensures { Adds (O.takes object.now) (O.fails object.now) (O.holds object.now) builder.old
         builder.new region.old region.new orphan.new result }
 {
@@ -28,15 +28,15 @@ pub(crate) fn add<O: Object>(
     };
     let words = match object.measure() {
         Ok(words) => words,
-        Err(error) => return error.kind.number(),
+        Err(error) => return error.kind.number() as u32,
     };
     let segment_words = used / 8 + words as usize;
     if segment_words >= MAX_SEGMENT_WORDS as usize {
-        return ErrorKind::AllocationTooLarge(words).number();
+        return ErrorKind::AllocationTooLarge(words).number() as u32;
     }
     let end = builder.used + 8 * words as usize;
     if end > region.len() {
-        return ErrorKind::BufferNotLargeEnough.number();
+        return ErrorKind::BufferNotLargeEnough.number() as u32;
     }
     *orphan = append_after_table(region, used, words, object);
     builder.used = end;

@@ -19,7 +19,7 @@ pub extern "C" fn linsjoar_add_text(
     region: &mut [u8],
     text: &[u8],
     orphan: &mut u64,
-) -> u8
+) -> u32
     ensures { Adds (HasWords (IsTextTree text.now) false)
         (WordsError (IsTextTree text.now) (LongText text.now) false)
         (λ before after word. HoldsValue (IsTextTree text.now) after word)
@@ -35,7 +35,7 @@ pub extern "C" fn linsjoar_add_data(
     region: &mut [u8],
     bytes: &[u8],
     orphan: &mut u64,
-) -> u8
+) -> u32
     ensures { Adds (HasWords (IsBytes bytes.now) false)
         (WordsError (IsBytes bytes.now) (ManyBytes bytes.now) false)
         (λ before after word. HoldsValue (IsBytes bytes.now) after word)

@@ -45,13 +45,13 @@ impl LinsjoarBuilder {
 /// Begins a message in a region, whatever its bytes are; the root is null. Returns
 /// `BufferNotLargeEnough` (2) where the region has fewer than 16 bytes. Then no byte is used.
 #[unsafe(no_mangle)]
-pub extern "C" fn linsjoar_begin(builder: &mut LinsjoarBuilder, region: &mut [u8]) -> u8
+pub extern "C" fn linsjoar_begin(builder: &mut LinsjoarBuilder, region: &mut [u8]) -> u32
     ensures { Begins builder.new region.old region.new result }
 {
     let room = region.len();
     if room < 2 * TABLE {
         builder.used = 0;
-        return ErrorKind::BufferNotLargeEnough.number();
+        return ErrorKind::BufferNotLargeEnough.number() as u32;
     }
     begin(&mut region[TABLE..]);
     builder.used = 2 * TABLE;
@@ -83,7 +83,11 @@ pub(crate) fn append_after_table<O: Object>(
 /// Makes the root point to an orphan, or null. Returns `InvalidArgument` (27) where the builder is
 /// not one of this region.
 #[unsafe(no_mangle)]
-pub extern "C" fn linsjoar_set_root(builder: &LinsjoarBuilder, region: &mut [u8], orphan: u64) -> u8
+pub extern "C" fn linsjoar_set_root(
+    builder: &LinsjoarBuilder,
+    region: &mut [u8],
+    orphan: u64,
+) -> u32
     ensures { SetsRoot builder.now region.old region.new orphan result }
 {
     let Some(used) = builder.segment_len(region) else {
@@ -110,7 +114,7 @@ pub extern "C" fn linsjoar_finish(
     builder: &LinsjoarBuilder,
     region: &mut [u8],
     message_len: &mut usize,
-) -> u8
+) -> u32
     ensures { Finishes builder.now region.old region.new message_len.new result }
 {
     *message_len = 0;

@@ -33,7 +33,7 @@ pub extern "C" fn linsjoar_add_copy(
     reader: &LinsjoarReader,
     pointer: &LinsjoarPlace,
     orphan: &mut u64,
-) -> u8
+) -> u32
     ensures { let place = pointer_read reader.now bytes.now pointer.now in
         AddsWhere (HasTableOf reader.now bytes.now
         × (pointer.now.nesting ≤ nesting_of reader.now.nesting_limit))

@@ -26,7 +26,7 @@ pub extern "C" fn linsjoar_add_numbers(
     count: usize,
     elements: &[u8],
     orphan: &mut u64,
-) -> u8
+) -> u32
     ensures { let numbers = IsNumberList code (numbers_in_bytes code count elements.now) in
         AddsWhere ((code < 6) × FillBytes code count elements.now)
         (HasWords numbers false) (ManyNumbers count)
@@ -50,7 +50,7 @@ pub extern "C" fn linsjoar_add_pointers(
     region: &mut [u8],
     orphans: &[u64],
     orphan: &mut u64,
-) -> u8
+) -> u32
     ensures { Adds (TakesPointersWords (length orphans.now)) (ManyPointers (length orphans.now))
         (λ before after word. HoldsPointers before orphans.now after word)
         builder.old builder.new region.old region.new orphan.new result }
@@ -72,7 +72,7 @@ pub extern "C" fn linsjoar_add_structs(
     data_words: u16,
     pointers: u16,
     orphan: &mut u64,
-) -> u8
+) -> u32
     ensures { AddsWhere (length elements.now ≡ count * (data_words + pointers))
         (TakesStructsWords data_words pointers count) (ManyStructs data_words pointers count)
         (λ before after word.

@@ -18,7 +18,7 @@ pub extern "C" fn linsjoar_add_struct(
     words: &[u64],
     orphans: &[u64],
     orphan: &mut u64,
-) -> u8
+) -> u32
     ensures { Adds (TakesStructWords (length words.now) (length orphans.now))
         (StructSizeError (length words.now) (length orphans.now))
         (λ before after word. HoldsStruct before words.now orphans.now after word)

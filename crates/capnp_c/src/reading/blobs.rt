@@ -38,7 +38,7 @@ pub extern "C" fn linsjoar_text(
     pointer: &LinsjoarPlace,
     start: &mut usize,
     len: &mut usize,
-) -> u8
+) -> u32
     ensures { Follows reader.old reader.new bytes.now pointer.now
         (λ place. ShowsText place bytes.now start.new len.new)
         TakesText TextFormError ((start.new ≡ 0) × (len.new ≡ 0)) result }
@@ -55,7 +55,7 @@ pub extern "C" fn linsjoar_text(
             reader.words_left = text.words_left;
             0
         }
-        Err(error) => error.kind.number(),
+        Err(error) => error.kind.number() as u32,
     }
 }
 
@@ -68,7 +68,7 @@ pub extern "C" fn linsjoar_data(
     pointer: &LinsjoarPlace,
     start: &mut usize,
     len: &mut usize,
-) -> u8
+) -> u32
     ensures { Follows reader.old reader.new bytes.now pointer.now
         (λ place. ShowsData place bytes.now start.new len.new)
         (TakesNumbers 2) (NumbersFormError 2) ((start.new ≡ 0) × (len.new ≡ 0)) result }
@@ -85,7 +85,7 @@ pub extern "C" fn linsjoar_data(
             reader.words_left = blob.words_left;
             0
         }
-        Err(error) => error.kind.number(),
+        Err(error) => error.kind.number() as u32,
     }
 }
 

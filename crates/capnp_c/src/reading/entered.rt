@@ -81,7 +81,7 @@ pub extern "C" fn linsjoar_kind(
     pointer: &LinsjoarPlace,
     kind: &mut u8,
     code: &mut u8,
-) -> u8
+) -> u32
     ensures { TellsKind reader.now bytes.now pointer.now kind.new code.new result }
 {
     *kind = 0;
@@ -95,7 +95,7 @@ pub extern "C" fn linsjoar_kind(
             *code = found_code;
             0
         }
-        Err(error) => error.kind.number(),
+        Err(error) => error.kind.number() as u32,
     }
 }
 

@@ -85,7 +85,7 @@ pub extern "C" fn linsjoar_list(
     pointer: &LinsjoarPlace,
     code: u8,
     list: &mut LinsjoarList,
-) -> u8
+) -> u32
     ensures { FollowsList reader.old reader.new bytes.now pointer.now code list.new result }
 {
     *list = LinsjoarList::empty(LinsjoarPlace::nowhere(0));
@@ -106,7 +106,7 @@ pub extern "C" fn linsjoar_list(
             reader.words_left = found.words_left;
             0
         }
-        Err(error) => error.kind.number(),
+        Err(error) => error.kind.number() as u32,
     }
 }
 

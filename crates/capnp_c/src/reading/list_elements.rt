@@ -20,7 +20,7 @@ pub extern "C" fn linsjoar_list_number(
     list: &LinsjoarList,
     index: u32,
     number: &mut u64,
-) -> u8
+) -> u32
     ensures { ReadsNumber bytes.now list.now index number.new result }
 {
     *number = 0;
@@ -75,7 +75,7 @@ pub extern "C" fn linsjoar_list_struct(
     list: &LinsjoarList,
     index: u32,
     fields: &mut LinsjoarStruct,
-) -> u8
+) -> u32
     ensures { FindsStruct list.now index fields.new result }
 {
     *fields = LinsjoarStruct::empty(LinsjoarPlace::nowhere(0));
@@ -118,7 +118,7 @@ pub extern "C" fn linsjoar_list_pointer(
     list: &LinsjoarList,
     index: u32,
     pointer: &mut LinsjoarPlace,
-) -> u8
+) -> u32
     ensures { FindsElement list.now index pointer.new result }
 {
     *pointer = LinsjoarPlace::nowhere(0);

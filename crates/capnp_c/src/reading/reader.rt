@@ -34,7 +34,7 @@ pub struct LinsjoarReader {
 /// Opens the framed message at the front of these bytes, within the default limits. Returns 0, or
 /// the number of the error that `linsjoar_message` returns; then each number of the reader is 0.
 #[unsafe(no_mangle)]
-pub extern "C" fn linsjoar_open(bytes: &[u8], reader: &mut LinsjoarReader) -> u8
+pub extern "C" fn linsjoar_open(bytes: &[u8], reader: &mut LinsjoarReader) -> u32
     ensures { OpensMessage DEFAULT_READER_OPTIONS bytes.now reader.new result }
 {
     open_message(bytes, DEFAULT_READER_OPTIONS, reader)
@@ -46,13 +46,13 @@ pub extern "C" fn linsjoar_open_with_options(
     bytes: &[u8],
     options: &LinsjoarOptions,
     reader: &mut LinsjoarReader,
-) -> u8
+) -> u32
     ensures { OpensMessage (options_of options.now) bytes.now reader.new result }
 {
     open_message(bytes, options.reader_options(), reader)
 }
 
-fn open_message(bytes: &[u8], options: ReaderOptions, reader: &mut LinsjoarReader) -> u8
+fn open_message(bytes: &[u8], options: ReaderOptions, reader: &mut LinsjoarReader) -> u32
     requires { options.traversal_limit_in_words ≢ Some (2 ^ 64 - 1) }
     ensures { OpensMessage options bytes.now reader.new result }
 {
@@ -74,7 +74,7 @@ fn open_message(bytes: &[u8], options: ReaderOptions, reader: &mut LinsjoarReade
             };
             0
         }
-        Err(error) => error.kind.number(),
+        Err(error) => error.kind.number() as u32,
     }
 }
 
@@ -85,7 +85,7 @@ pub extern "C" fn linsjoar_root(
     bytes: &[u8],
     reader: &LinsjoarReader,
     root: &mut LinsjoarPlace,
-) -> u8
+) -> u32
     ensures { FindsRoot reader.now bytes.now root.new result }
 {
     *root = LinsjoarPlace::nowhere(0);
@@ -101,7 +101,7 @@ pub extern "C" fn linsjoar_root(
             *root = LinsjoarPlace::of(place, reader.nesting());
             0
         }
-        Err(error) => error.kind.number(),
+        Err(error) => error.kind.number() as u32,
     }
 }
 

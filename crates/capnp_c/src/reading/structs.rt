@@ -64,7 +64,7 @@ pub extern "C" fn linsjoar_struct(
     reader: &mut LinsjoarReader,
     pointer: &LinsjoarPlace,
     fields: &mut LinsjoarStruct,
-) -> u8
+) -> u32
     ensures { Follows reader.old reader.new bytes.now pointer.now
         (λ place. ShowsStruct place bytes.now fields.new)
         TakesStruct StructFormError (fields.new ≡ no_struct) result }
@@ -84,7 +84,7 @@ pub extern "C" fn linsjoar_struct(
             reader.words_left = found.words_left;
             0
         }
-        Err(error) => error.kind.number(),
+        Err(error) => error.kind.number() as u32,
     }
 }
 
@@ -177,7 +177,7 @@ pub extern "C" fn linsjoar_struct_pointer(
     fields: &LinsjoarStruct,
     index: u16,
     pointer: &mut LinsjoarPlace,
-) -> u8
+) -> u32
     ensures { FindsPointer fields.now index pointer.new result }
 {
     *pointer = LinsjoarPlace::nowhere(0);

@@ -4,6 +4,7 @@ use Rattle.capnp_frame.specs.declared.serialize.segment_table.Padding.TheVariant
 use Rattle.capnp_frame.specs.Prelude.{by_fields, kind_number}
 use Rattle.capnp_frame.proofs.slices.FlatErrorLemmas.{FlatError-once}
 use Rattle.capnp_c.proofs.MessageSizeFromTableLemmas.{front_is, front_long, not_both}
+use Rattle.capnp_c.proofs.TableCutShortLemmas.{cut_short}
 use Rattle.capnp_c.proofs.sizes.tell_size.Goals as goal
 
 pub returns-then-bytes-table_len : goal.returns-then-bytes-table_len
@@ -16,6 +17,7 @@ returns-then-bytes-table_len c =
       cut = λ zero short. (refl, omega (arith, told.1));
       accepted = λ is. refl;
       errors = λ kind rejected. absurd (not_both c.args.options _ kind (front_long bytes) told.0 rejected);
+      never = λ failed. absurd (omega (arith, failed));
       stays = λ more. absurd (omega (arith, more));
     }
 
@@ -29,6 +31,7 @@ returns-else-bytes-table_len c =
       cut = λ zero short. absurd (omega (arith, told.1, short));
       accepted = λ is. refl;
       errors = λ kind rejected. absurd (not_both c.args.options _ kind (front_long bytes) told.0 rejected);
+      never = λ failed. absurd (omega (arith, failed));
       stays = λ more. absurd (omega (arith, more));
     }
 
@@ -42,5 +45,7 @@ returns-in-Err c =
       cut = search rules;
       accepted = λ is. absurd (not_both c.args.options _ _ (front_long bytes) is told);
       errors = λ kind rejected. c.number.ensures ∙ ap kind_number (FlatError-once by_fields Zero c.args.options.traversal_limit_in_words _ _ _ told.0 rejected.0);
+      never = λ failed more segments rest front.
+          not_both c.args.options _ _ (front_long bytes) (cut_short c.args.options bytes more (front_is c.args.options _ rest segments front).0) told;
       stays = search rules;
     }
