@@ -85,6 +85,7 @@ fn read_node<S: ReaderSegments>(
         member_comments: Vec::new(alloc),
         member_names: read_member_names(alloc, read)?,
         nested,
+        nested_names: read_nested_names(alloc, read)?,
         body,
     })
 }
@@ -109,6 +110,19 @@ fn read_nested<S: ReaderSegments>(alloc: Global, read: &node::Reader<'_, S>) -> 
         nested.push(node.get_id())?;
     }
     Ok(nested)
+}
+
+// The names of these nodes.
+fn read_nested_names<S: ReaderSegments>(
+    alloc: Global,
+    read: &node::Reader<'_, S>,
+) -> Result<Vec<String>> {
+    let mut names = Vec::new(alloc);
+    let list = read.get_nested_nodes()?;
+    for node in list.iter() {
+        names.push(read_text(alloc, node.get_name()?)?)?;
+    }
+    Ok(names)
 }
 
 // What a node declares.

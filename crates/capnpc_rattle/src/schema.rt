@@ -20,6 +20,8 @@ pub struct Node {
     pub member_names: Vec<String>,
     /// The nodes that are declared in it.
     pub nested: Vec<u64>,
+    /// The names of these as the schema has them, in the same order.
+    pub nested_names: Vec<String>,
     pub body: Body,
 }
 

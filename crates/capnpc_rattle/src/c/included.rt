@@ -90,10 +90,49 @@ fn add_types(
             && is_type(node)
         {
             let name = type_name(alloc, request, *id)?;
-            expect_new(request, declared.as_slice(), name.as_str(), file)?;
-            declared.push((name, file))?;
+            add_type(request, file, declared, name)?;
         }
     }
+    add_unused(alloc, request, file, declared)
+}
+
+// Adds the types of a file whose nodes the request lacks, since no file that it asks for uses them.
+fn add_unused(
+    alloc: Global,
+    request: &Request,
+    file: u64,
+    declared: &mut Vec<(String, u64)>,
+) -> Result<()> {
+    let Some(node) = request.find(file) else {
+        return Ok(());
+    };
+    for (id, name) in node.nested.iter().zip(node.nested_names.as_slice()) {
+        if request.find(*id).is_none() && name.starts_with(is_capital) {
+            let mut full = type_name(alloc, request, file)?;
+            if !full.is_empty() {
+                full.push('_')?;
+            }
+            full.push_str(name.as_str())?;
+            add_type(request, file, declared, full)?;
+        }
+    }
+    Ok(())
+}
+
+// Whether the name of a type may begin with a letter.
+fn is_capital(letter: char) -> bool {
+    letter.is_ascii_uppercase()
+}
+
+// Adds a type; fails for one that another file declares, too.
+fn add_type(
+    request: &Request,
+    file: u64,
+    declared: &mut Vec<(String, u64)>,
+    name: String,
+) -> Result<()> {
+    expect_new(request, declared.as_slice(), name.as_str(), file)?;
+    declared.push((name, file))?;
     Ok(())
 }
 
