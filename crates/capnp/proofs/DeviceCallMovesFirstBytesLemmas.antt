@@ -28,7 +28,7 @@ nothing_added (Some y) (Some z) bytes none p = p ∙ ap (λ l. y ++ l) none ∙ 
 -- What is unread, by whether the bytes are known.
 
 -- the first bytes of what is unread are a part of a plain request
-part_split : (n : ℕ) (got raw left : List ℕ) → length got ≤ n → raw ≡ got ++ left → ReturnsPart Splits RunsShort n got raw left
+pub part_split : (n : ℕ) (got raw left : List ℕ) → length got ≤ n → raw ≡ got ++ left → ReturnsPart Splits RunsShort n got raw left
 part_split n got raw left within spelled =
     let long : length raw ≡ length got + length left = ap length spelled ∙ length-append got left in
     record {

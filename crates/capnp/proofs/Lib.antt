@@ -12,6 +12,7 @@ pub mod PassedOn
 pub mod CanonicalFormErrorExcludesDeviceLemmas
 pub mod CanonicalFormWriteLemmas
 pub mod DeviceCallMovesFirstBytesLemmas
+pub mod CountedSourceReadLemmas
 pub mod SliceStreamReadToItsEndLemmas
 pub mod RecordLogReadBackLemmas
 pub mod CutLogErrorLemmas

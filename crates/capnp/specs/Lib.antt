@@ -12,6 +12,7 @@ pub mod Roots
 pub mod Devices
 pub mod Reading
 pub mod RecordLog
+pub mod CountedSource
 pub mod MessageStreams
 pub mod Printed
 pub mod PrintedFields

@@ -8,6 +8,7 @@ ghost use Rattle.capnp.specs.Streams.{rules_of};
 ghost use Rattle.capnp.specs.Runs.{Writing, WritingErrors, WritingError, FailsWithinOr, WritesEach};
 
 mod appended;
+mod counted;
 mod message_stream;
 mod reading;
 

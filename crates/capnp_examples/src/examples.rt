@@ -5,7 +5,7 @@ use capnp::message::{
 };
 use capnp::serialize::{self, OwnedSegments, Padding};
 use capnp::serialize_packed::{self, PackedRead, PackedWrite};
-use capnp::streams::{Format, MessageStream};
+use capnp::streams::{self, Format, MessageStream};
 use capnp::{Way, primitive_list, record_log, text, transcode};
 use std::test::Fail;
 
@@ -105,6 +105,25 @@ fn reads_each_message_of_a_stream(rt: HostRuntime) -> Result<(), Fail> {
     for message in MessageStream::new(alloc, source, Format::Packed, Padding::Zero, options) {
         assert!(rt; is_greeting(&message?)?);
     }
+    Ok(())
+}
+
+#[test]
+fn finds_where_a_log_is_cut(rt: HostRuntime) -> Result<(), Fail> {
+    let alloc = rt.alloc();
+    let mut bytes = Vec::new(alloc);
+    bytes.extend_from_slice(PACKED.as_slice())?;
+    bytes.extend_from_slice(&PACKED[..20])?;
+    let log = bytes.as_slice();
+    let options = DEFAULT_READER_OPTIONS;
+    let mut messages = MessageStream::new(alloc, log, Format::Packed, Padding::Zero, options);
+    for message in messages.by_ref() {
+        match message {
+            Ok(message) => assert!(rt; is_greeting(&message)?),
+            Err(error) => assert!(rt; streams::is_cut(&error)),
+        }
+    }
+    assert_eq!(rt; messages.end(), 21);
     Ok(())
 }
 

@@ -18,8 +18,8 @@ use Rattle.capnp.proofs.RunOutputMessageByMessageLemmas.{format_lawful, format_r
 use Rattle.capnp_uses.specs.Streaming.{BeginWith, NextMessageError, ReadsTwo}
 
 -- while it has not ended, an iterator reads by its settings
-reads_by : {S X : Type 0} (source : Ghosts S) (segments : X → List (List ℕ)) (options_of : X → ReaderOptions) (old new : MessageStream S) (given : Option (Result X Error))
-    (format : Format) (padding : Padding) (options : ReaderOptions) (from : S) → GivesMessage source segments options_of old given new → source_of old ≡ from
+reads_by : {S X : Type 0} {shown : S → List ℕ} (source : Ghosts S) (segments : X → List (List ℕ)) (options_of : X → ReaderOptions) (old new : MessageStream S) (given : Option (Result X Error))
+    (format : Format) (padding : Padding) (options : ReaderOptions) (from : S) → GivesMessage source shown segments options_of old given new → source_of old ≡ from
     → HasSettings old format padding options → 0 < messages_left old
     → ReadsStream source from (source_of new) (rules_of padding format) options.traversal_limit_in_words (read_in segments given)
 reads_by {S} source segments options_of old new given format padding options from gives from_is settings some =
@@ -31,8 +31,8 @@ reads_by {S} source segments options_of old new given format padding options fro
     subst (λ (s : S). ReadsStream source s (source_of new) (rules_of padding format) options.traversal_limit_in_words result) from_is limited
 
 -- which it keeps
-settings_kept : {S X : Type 0} (source : Ghosts S) (segments : X → List (List ℕ)) (options_of : X → ReaderOptions) (old new : MessageStream S) (given : Option (Result X Error))
-    (format : Format) (padding : Padding) (options : ReaderOptions) → GivesMessage source segments options_of old given new → HasSettings old format padding options
+settings_kept : {S X : Type 0} {shown : S → List ℕ} (source : Ghosts S) (segments : X → List (List ℕ)) (options_of : X → ReaderOptions) (old new : MessageStream S) (given : Option (Result X Error))
+    (format : Format) (padding : Padding) (options : ReaderOptions) → GivesMessage source shown segments options_of old given new → HasSettings old format padding options
     → HasSettings new format padding options
 settings_kept source segments options_of old new given format padding options gives settings = record {
   format_is = gives.settings.format_is ∙ settings.format_is;
@@ -41,8 +41,8 @@ settings_kept source segments options_of old new given format padding options gi
 }
 
 -- so a new one reads its first item from the source that it was made of
-pub reads_new : {S X : Type 0} (source : Ghosts S) (segments : X → List (List ℕ)) (options_of : X → ReaderOptions) (old new : MessageStream S) (given : Option (Result X Error))
-    (format : Format) (padding : Padding) (options : ReaderOptions) (from : S) → GivesMessage source segments options_of old given new → source_of old ≡ from
+pub reads_new : {S X : Type 0} {shown : S → List ℕ} (source : Ghosts S) (segments : X → List (List ℕ)) (options_of : X → ReaderOptions) (old new : MessageStream S) (given : Option (Result X Error))
+    (format : Format) (padding : Padding) (options : ReaderOptions) (from : S) → GivesMessage source shown segments options_of old given new → source_of old ≡ from
     → IsNewStream old format padding options
     → ReadsStream source from (source_of new) (rules_of padding format) options.traversal_limit_in_words (read_in segments given)
 reads_new source segments options_of old new given format padding options from gives from_is begins =
@@ -50,10 +50,10 @@ reads_new source segments options_of old new given format padding options from g
     reads_by source segments options_of old new given format padding options from gives from_is begins.settings some
 
 -- and after a message the second item from where the first message ends
-pub reads_second : {S X : Type 0} (source : Ghosts S) (segments : X → List (List ℕ)) (options_of : X → ReaderOptions) (old mid new : MessageStream S) (one : X)
+pub reads_second : {S X : Type 0} {shown : S → List ℕ} (source : Ghosts S) (segments : X → List (List ℕ)) (options_of : X → ReaderOptions) (old mid new : MessageStream S) (one : X)
     (given : Option (Result X Error)) (format : Format) (padding : Padding) (options : ReaderOptions) (from : S)
-    → GivesMessage source segments options_of old (Some (Ok one)) mid → source_of old ≡ from → IsNewStream old format padding options
-    → GivesMessage source segments options_of mid given new
+    → GivesMessage source shown segments options_of old (Some (Ok one)) mid → source_of old ≡ from → IsNewStream old format padding options
+    → GivesMessage source shown segments options_of mid given new
     → IfKnown (source.unread from) (source.unread (source_of mid)) (FoundNext padding format options.traversal_limit_in_words (segments one))
     × ReadsStream source (source_of mid) (source_of new) (rules_of padding format) options.traversal_limit_in_words (read_in segments given)
 reads_second source segments options_of old mid new one given format padding options from first from_is begins second =

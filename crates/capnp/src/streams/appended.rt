@@ -68,8 +68,8 @@ pub fn write_messages<W: Write, S: ReaderSegments>(
 
 /// Reads `count` messages, one after the other, with zero padding.
 ///
-/// Fails as `next_message` does, with `PrematureEndOfFile` where there are fewer messages, and with
-/// `OutOfMemory`.
+/// Fails with `PrematureEndOfFile` where the stream ends after fewer messages, with `OutOfMemory`,
+/// and as `next_message` does for one of them: also where the stream ends within it.
 ///
 /// ```
 /// let mut source = stream.as_slice();

@@ -69,7 +69,8 @@ pub(crate) fn required<M>(next: Result<Option<M>>) -> Result<M>
 /// rest is still to be written.
 ///
 /// It returns true for `FailedToFillTheWholeBuffer` and, for packed messages,
-/// `PrematureEndOfPackedInput`.
+/// `PrematureEndOfPackedInput`: with these the readers of streams fail. It returns false for
+/// `MessageEndsPrematurely`, with which readers of slices and calls from C fail for a cut message.
 ///
 /// ```
 /// let mut source = &HELLO[..31];
