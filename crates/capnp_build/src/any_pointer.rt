@@ -104,7 +104,8 @@ impl<'a, M: Building> View<'a, M, Owned> {
     }
 
     /// Makes the root a new object of length `n`, all zero, and returns a view that writes it.
-    /// Fails as `set_new` does.
+    ///
+    /// Fails with the kinds of `set_new`. What the root is then only the contract of `set_new` says.
     pub fn initn_as<K: OwnedBuilder>(self, n: u32) -> Result<View<'a, M, K>>
         ensures { InitsView M.Allocator.Allocator K.OwnedBuilder n M.built
             (λ view. view.message) self.entry.message result }
@@ -115,7 +116,7 @@ impl<'a, M: Building> View<'a, M, Owned> {
     }
 
     /// Makes the root a new object of length 0, and returns a view that writes it. Fails as
-    /// `set_new` does.
+    /// `initn_as` does.
     pub fn init_as<K: OwnedBuilder>(self) -> Result<View<'a, M, K>>
         ensures { InitsView M.Allocator.Allocator K.OwnedBuilder 0 M.built
             (λ view. view.message) self.entry.message result }

@@ -49,7 +49,7 @@ impl OwnedBuilder for Owned {
 }
 
 impl<'a, M: Building> View<'a, M, Owned> {
-    /// Sets a data word.
+    /// Sets the data word at this index, which must be below `data_words`.
     pub fn set_word(&mut self, index: u16, word: u64)
         requires { HasField (M.built self.old.message.now).spaces index }
         ensures { WritesView M.built (λ old new. IsFieldSet old new index word)

@@ -50,7 +50,7 @@ impl OwnedBuilder for Owned {
 }
 
 impl<'a, M: Building> View<'a, M, Owned> {
-    /// Sets a byte.
+    /// Sets the byte at this index, which must be below `len`.
     pub fn set(&mut self, index: u32, byte: u8)
         requires { HasBytes (M.built self.old.message.now).spaces index 1 }
         ensures { WritesView M.built (λ old new. IsBytesSet old new index (byte ∷ []))
@@ -59,7 +59,8 @@ impl<'a, M: Building> View<'a, M, Owned> {
         self.message.write_bytes(index, &[byte]);
     }
 
-    /// Replaces bytes, from this index on.
+    /// Replaces bytes, from this index on. All of them must lie below `len`, and the root must be a
+    /// list of bytes even where `bytes` is empty.
     pub fn write(&mut self, index: u32, bytes: &[u8])
         requires { HasBytes (M.built self.old.message.now).spaces index (length bytes.now) }
         ensures { WritesView M.built (λ old new. IsBytesSet old new index bytes.now)

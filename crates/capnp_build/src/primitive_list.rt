@@ -49,7 +49,7 @@ impl OwnedBuilder for Owned<u64> {
 }
 
 impl<'a, M: Building> View<'a, M, Owned<u64>> {
-    /// Sets an element.
+    /// Sets the element at this index, which must be below `len`.
     pub fn set(&mut self, index: u32, number: u64)
         requires { HasNumber (M.built self.old.message.now).spaces index }
         ensures { WritesView M.built (λ old new. IsNumberSet old new index number)

@@ -56,7 +56,7 @@ impl OwnedBuilder for Owned {
 }
 
 impl<'a, M: Building> View<'a, M, Owned> {
-    /// Sets a byte in front of the zero byte at the end.
+    /// Sets the byte at this index, which must be below `len`: the zero byte at the end stays.
     pub fn set(&mut self, index: u32, byte: u8)
         requires { HasBytes (M.built self.old.message.now).spaces index 2 }
         ensures { WritesView M.built (λ old new. IsBytesSet old new index (byte ∷ []))
@@ -65,7 +65,8 @@ impl<'a, M: Building> View<'a, M, Owned> {
         self.message.write_bytes(index, &[byte]);
     }
 
-    /// Replaces bytes in front of the zero byte at the end, from this index on.
+    /// Replaces bytes, from this index on. All of them must lie below `len`, since the zero byte at
+    /// the end stays, and the root must be a `Text` even where `bytes` is empty.
     pub fn write(&mut self, index: u32, bytes: &[u8])
         requires { HasBytes (M.built self.old.message.now).spaces index (length bytes.now + 1) }
         ensures { WritesView M.built (λ old new. IsBytesSet old new index bytes.now)

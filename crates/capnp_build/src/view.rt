@@ -43,19 +43,20 @@ pub trait Building: Drop {
         ensures form { ForRoot (built self.now).spaces (HoldsForm result.now) }
         ensures tree { HoldsTree (built self.now).spaces result.now };
 
-    /// Sets a data word of the struct at the root.
+    /// Sets a data word of the struct at the root, which must have one of this index.
     fn set_word(&mut self, index: u16, word: u64)
         requires { HasField (built self.old).spaces index }
         ensures { WritesRoot (λ old new. IsFieldSet old new index word)
             (built self.old) (built self.new) };
 
-    /// Sets an element of the list of words at the root.
+    /// Sets an element of the list of words at the root, which must have one of this index.
     fn set_number(&mut self, index: u32, number: u64)
         requires { HasNumber (built self.old).spaces index }
         ensures { WritesRoot (λ old new. IsNumberSet old new index number)
             (built self.old) (built self.new) };
 
-    /// Replaces bytes of the list of bytes at the root, from this index on.
+    /// Replaces bytes of the list of bytes at the root, from this index on. The list must have that
+    /// many there.
     fn write_bytes(&mut self, index: u32, bytes: &[u8])
         requires { HasBytes (built self.old).spaces index (length bytes.now) }
         ensures { WritesRoot (λ old new. IsBytesSet old new index bytes.now)

@@ -19,10 +19,11 @@ abbrev pub elements_left : {L E : Type 0} → (L → ℕ) → (L → ℕ → E) 
 elements_left size element elements =
     map (element elements.list.now) (range_with_len elements.index (size elements.list.now - elements.index))
 
--- the same of an iterator that owns its list
+-- an iterator that owns its list begins with the first element, and how many the list has fits its `len`
 abbrev pub IsIntoIter : {L : Type 0} → ℕ → L → ListIntoIter L → Type 0
 IsIntoIter size list elements = (elements.list ≡ list) × (elements.index ≡ 0) × (size < 2 ^ 32)
 
+-- the elements that it has left: from the next index on
 abbrev pub owned_left : {L E : Type 0} → (L → ℕ) → (L → ℕ → E) → ListIntoIter L → List E
 owned_left size element elements =
     map (element elements.list) (range_with_len elements.index (size elements.list - elements.index))

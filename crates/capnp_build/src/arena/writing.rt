@@ -8,7 +8,7 @@ use crate::allocator::Allocator;
 use crate::arena::builder_arena::{BuilderArena, each_is_a_byte};
 
 impl<A: Allocator> BuilderArena<A> {
-    /// Sets a data word of the struct at the root.
+    /// Sets a data word of the struct at the root, which must have one of this index.
     pub fn set_word(&mut self, index: u16, word: u64)
         requires { HasField self.old.spaces index }
         ensures { WritesRoot (λ old new. IsFieldSet old new index word) self.old self.new }
@@ -20,7 +20,7 @@ impl<A: Allocator> BuilderArena<A> {
         }
     }
 
-    /// Sets an element of the list of words at the root.
+    /// Sets an element of the list of words at the root, which must have one of this index.
     pub fn set_number(&mut self, index: u32, number: u64)
         requires { HasNumber self.old.spaces index }
         ensures { WritesRoot (λ old new. IsNumberSet old new index number) self.old self.new }
@@ -32,7 +32,8 @@ impl<A: Allocator> BuilderArena<A> {
         }
     }
 
-    /// Replaces bytes of the list of bytes at the root, from this index on.
+    /// Replaces bytes of the list of bytes at the root, from this index on. The list must have that
+    /// many there.
     pub fn write_bytes(&mut self, index: u32, bytes: &[u8])
         requires { HasBytes self.old.spaces index (length bytes.now) }
         ensures { WritesRoot (λ old new. IsBytesSet old new index bytes.now) self.old self.new }

@@ -26,7 +26,10 @@ pub struct ByteNumbers<'a> {
 }
 
 impl<'a> ByteNumbers<'a> {
-    /// The list of as many numbers; `None` where they have another number of bytes.
+    /// The list of `count` numbers of this size, whose bytes are `bytes`.
+    ///
+    /// Returns `None` where `count` numbers of this size do not take exactly as many bytes. A list of
+    /// bits may use its last byte in part.
     pub fn new(bytes: &'a [u8], count: usize, size: ElementSize) -> Option<ByteNumbers<'a>>
         ensures { MatchOption result (FillBytes (code_of size) count bytes.now → ⊥)
             (λ list. FillBytes (code_of size) count bytes.now × (list.bytes.now ≡ bytes.now)

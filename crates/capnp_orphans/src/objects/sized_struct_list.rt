@@ -31,8 +31,9 @@ pub struct SizedStructList<'a> {
 }
 
 impl<'a> SizedStructList<'a> {
-    /// The list of as many structs, whose words follow one another; `None` where they have another
-    /// number of words.
+    /// The list of `count` structs of this size, whose words follow one another in `elements`.
+    ///
+    /// Returns `None` where `count` structs of this size do not have exactly as many words.
     pub fn new(elements: &'a [u64], count: usize, size: StructSize) -> Option<SizedStructList<'a>>
         ensures { let words = size.data_words + size.pointers in MatchOption result
             (length elements.now ≡ count * words → ⊥)

@@ -14,8 +14,8 @@ use std::marker::PhantomData;
 /// An enum of a schema, whose values a message holds by their numbers: a variant for each number
 /// that the schema names, in their order, and a last one that keeps any other number.
 ///
-/// Contracts tell its values apart by what its derived `Hash` feeds, which no two of them share:
-/// the index of the variant, and the number that the last one keeps.
+/// Contracts see a value by what its derived `Hash` feeds: the index of the variant, and the number
+/// that the last one keeps. No clause says that two values never feed the same.
 ///
 /// ```
 /// assert!(rt; Color::from_number(0) == Color::Red);
