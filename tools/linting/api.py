@@ -1,7 +1,7 @@
 """The list of public items, docs/API.md: a line for each public item of the libraries and one for the arguments of each
 function, from their sources.
 
-An item stands under the path that its user writes: by its modules, or where one of these is private by
+An item has the path that its user writes: by its modules, or where one of these is private by
 the `pub use` that names it. A line has the item's kind and the first sentence of its documentation; the line below a
 function has what it takes and returns, without its contract. The page has two parts: `capnp`, the crate that programs
 name, with what it re-exports, and what else the crates below have, for authors of views and allocators. `laws`, whose
@@ -175,7 +175,7 @@ def found_items():
 
 def page():
     lines = ["# The public items of the libraries", ""]
-    lines += ["Made by `tools/api` from the documentation in the sources, which says more, as do the contracts there.", ""]
+    lines += ["Made by `tools/write api` from the documentation in the sources, which says more, as do the contracts there.", ""]
     found = found_items()
     for part, crates in PARTS:
         lines += [f"## {part}", ""]
@@ -208,6 +208,6 @@ def check(tree):
     if has != text:
         lines = zip(has.split("\n") + [""], text.split("\n") + [""])
         line = next((number for number, (old, new) in enumerate(lines, 1) if old != new), 1)
-        tree.wrong(PAGE, line, "not what the sources say: run tools/api")
+        tree.wrong(PAGE, line, "not what the sources say: run tools/write api")
     for path in without_example():
         tree.wrong(PAGE, 0, f"{path} has no example in its documentation")

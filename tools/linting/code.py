@@ -1,14 +1,12 @@
-"""Whether the code of pages stands in the files that it is taken from.
+"""Whether the code of pages is in the files that it is taken from.
 
-In a page of `PAGES`, under a line `path` that stands alone, each ```rust block has to stand in that file, line by line
-and in one piece. So has each example of a public item's documentation, but for the indentation, in the tests of a file
-examples.rt below crates/*/src, or of a file in tools/consumer/examples/.
+In a page of `PAGES`, under a line that is `path` alone, each ```rust block has to be in that file, line by line
+and without a gap. Examples of public items are taken out of the documentation by `tools/try-consumer examples`.
 """
 import re
 
 PAGES = ["docs/GUIDE.md", "README.md", "docs/COMPILER.md"]
 NAMED = re.compile(r"`([\w./-]+/src/[\w./-]+)`:?")
-SAID = re.compile(r"\s*//[/!] ?(.*)")
 
 
 def check_page(tree, page):
@@ -35,31 +33,6 @@ def check_page(tree, page):
     tree.seen(compared)
 
 
-def check_examples(tree):
-    tests = tree.sources(r"crates/\w+/src/(.*/)?examples\.rt|tools/consumer/examples/\w+")
-    tested = "\n" + "".join(line.strip() + "\n" for path in tests for line in tree.text(path).rstrip("\n").split("\n"))
-    for path in tree.sources(r"crates/\w+/src/.*\.rt"):
-        example = None
-        for number, line in enumerate(tree.text(path).split("\n"), 1):
-            said = SAID.fullmatch(line)
-            if example is not None and not said:
-                tree.wrong(path, start, "the example does not end")
-                example = None
-            if not said:
-                continue
-            if said[1].startswith("```"):
-                if example is None:
-                    example, start = "\n", number
-                else:
-                    tree.seen()
-                    if example not in tested:
-                        tree.wrong(path, start, f"the example does not stand in {', '.join(tests)}")
-                    example = None
-            elif example is not None:
-                example += said[1].strip() + "\n"
-
-
 def check(tree):
     for page in PAGES:
         check_page(tree, page)
-    check_examples(tree)

@@ -1,4 +1,4 @@
-"""What a rename by a script leaves behind in comments and pages, and lists of headings.
+"""What a rename by a script leaves in comments and pages, and lists of headings.
 
 It finds a doc comment within a doc comment; a comment that goes on as a sentence after the name of a definition; a
 page whose list of its own headings isn't its headings; a page that says of something that it is not here yet.
@@ -34,7 +34,7 @@ def headings_of(text):
 
 
 def front_of(text):
-    """What stands before the page's first heading of the second level."""
+    """What is before the page's first heading of the second level."""
     return text.split("\n## ")[0]
 
 
@@ -79,7 +79,7 @@ def check_page(tree, path):
     if heading:
         at = text.find(f"(#{heading})")
         tree.wrong(path, files.line_at(text, at) if at >= 0 else 1,
-                   f"the list of headings goes wrong at #{heading} (tools/headings prints it)")
+                   f"the list of headings goes wrong at #{heading} (`tools/write headings` writes it)")
 
 
 def check_code(tree, path, defined):

@@ -7,7 +7,7 @@ import re
 
 PAGE = "docs/API.md"
 TEST = "crates/capnp_object_tests/src/calls/counts/functions.rt"
-# arenas, messages, and the views and iterators that lead to further objects; text, data and numbers are bytes alone
+# arenas, messages, and the views and iterators that give further objects; text, data and numbers are bytes alone
 TYPES = [
     "any_pointer::Reader",
     "any_pointer_list::Reader",

@@ -1,18 +1,17 @@
 """The tables of pages, and the chart of docs/PERF.md, that are made of the figures in bench/.
 
 A table of a page follows a line `<!-- figures: NAME -->`. The files are figures.txt (times of this library and of its peers),
-steps.txt (times of the steps of a change), gate.txt (written by `tools/time gate`), sizes.txt (by tools/sizes) and counts.txt
-(by tools/compare-figures). The charts are drawn by tools/draw-chart. Nothing is built or timed here.
+steps.txt (times of the steps of a change), gate.txt (written by `tools/time gate`), sizes.txt and counts.txt (by `tools/write`).
+Nothing is built or timed here.
 """
 import re
-import subprocess
-import sys
 from pathlib import Path
 
-sys.path.insert(0, str(Path(__file__).resolve().parent.parent / "charting"))
-from chart import THEMES, draw
-from figures import BENCH, ROOT, better_over_ours, lines_of, ratio, rows
+from prelude import ROOT, crates, tracked
 
+from .bench import BENCH, better_over_ours, lines_of, ratio, rows
+from .chart import THEMES, draw
+from .clauses import PUBLIC, Counts
 from .tree import line_at
 
 PLACE = re.compile(r"(<!-- figures: ([\w-]+) -->\n)((?:\|.*\n)*)")
@@ -100,49 +99,36 @@ TABLES = {
 }
 
 
-def printed_by(tool):
-    return subprocess.run([str(ROOT / "tools" / tool)], capture_output=True, text=True, check=True).stdout
-
-
 def counted():
     """What the tree has, by name."""
-    files = [ROOT / path for path in subprocess.run(
-        ["git", "-C", str(ROOT), "ls-files", "crates", "conformance"], capture_output=True, text=True, check=True).stdout.split("\n") if path]
-    files = [path for path in files if path.is_file()]
+    files = [ROOT / path for path in tracked("crates", "conformance")]
     parts = {path: path.relative_to(ROOT).parts for path in files}
     sources = {path: ASIDE.sub(" ", path.read_text()) for path in files if path.suffix == ".rt" and parts[path][2] == "src"}
     functions = {path: len(re.findall(r"\bfn\s+\w", text)) for path, text in sources.items()}
     of_tests = {path for path in sources if parts[path][1].endswith("_tests")}
-    said = printed_by("count-clauses")
-    ensures, applied, _, further = re.findall(r"\d+", said.split("\n")[0])
-    public, long = re.search(r"^(\d+) public functions have a contract, (\d+) ", said, re.M).groups()
-    readers = re.search(r"^(\d+) public functions read a message", printed_by("count-readers"), re.M)[1]
-    names = [line.split(":")[0] for line in (ROOT / "crates.txt").read_text().split("\n") if line and not line.startswith("#")]
+    clauses = Counts()
 
-    def edits(folder):
-        return sum(parts[path][2] == folder and path.suffix == ".edit" for path in files if len(parts[path]) > 3)
+    def edits(name):
+        return sum(len(re.findall(r"^edit: ", path.read_text(), re.M)) for path in files if path.name == name)
 
-    yield "crates", len(names)
+    yield "crates", len(crates())
     yield "functions of the sources, without the crates of tests", sum(functions[path] for path in sources if path not in of_tests)
     yield "functions of the crates of tests", sum(functions[path] for path in of_tests)
     yield "tests", sum(len(re.findall(r"#\[test\]", text)) for text in sources.values())
     cases = [path.read_text() for path in files if parts[path][0] == "conformance" and path.suffix == ".txt"]
     yield "cases of `conformance/`", sum(len(re.findall(r"^case ", text, re.M)) for text in cases)
-    yield "edits in `must-fail/`, which the gate tries", edits("must-fail")
-    yield "edits in `more-edits/`", edits("more-edits")
-    yield "edits in `test-edits/`", edits("test-edits")
-    yield "`ensures` of product code", ensures
-    yield "`ensures` that only apply a record", applied
-    yield "further copies of another `ensures`", further
-    yield "public functions with a contract", public
-    yield "public functions with a contract of more than 12 lines", long
-    yield "public functions that read a message", readers
+    yield "edits in `must-fail/`, which the gate tries", sum(path.suffix == ".edit" for path in files)
+    yield "edits in `more-edits.txt`", edits("more-edits.txt")
+    yield "edits in `test-edits.txt`", edits("test-edits.txt")
+    yield "`ensures` of product code", sum(clauses.found.values())
+    yield "`ensures` that only apply a record", sum(clauses.left_out.values())
+    yield "further copies of another `ensures`", sum(clauses.further.values())
+    yield "public functions with a contract", len(clauses.lengths[PUBLIC])
+    yield "public functions with a contract of more than 12 lines", len(clauses.long(PUBLIC))
 
 
 def counts_text():
-    head = ("# What the tree has. tools/compare-figures --write writes this file; the lines from `ensures` on are of tools/count-clauses, and the\n"
-            "# last of tools/count-readers.\n#\n")
-    return head + "".join(f"{what:<58}{number}\n" for what, number in counted())
+    return "# What the tree has. `tools/write figures` writes this file.\n#\n" + "".join(f"{what:<58}{number}\n" for what, number in counted())
 
 
 def write():
@@ -154,7 +140,7 @@ def write():
 
 
 def check(tree):
-    again = ": run tools/compare-figures --write"
+    again = ": run tools/write figures"
     if tree.text(COUNTS) != counts_text():
         tree.wrong(COUNTS, 0, "not what the tree has" + again)
     for page, tables in TABLES.items():
@@ -173,4 +159,4 @@ def check(tree):
         path = f"docs/perf-{theme}.svg"
         tree.seen()
         if not tree.has(path) or tree.text(path) != draw(rows(), theme):
-            tree.wrong(path, 0, "not the chart of bench/figures.txt: run tools/draw-chart")
+            tree.wrong(path, 0, "not the chart of bench/figures.txt: run tools/write chart")

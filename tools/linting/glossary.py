@@ -1,10 +1,9 @@
 """The table of words in docs/ARCHITECTURE.md, "Glossary": one word for each idea, in names, clauses, comments and pages.
 
 Of each row the third column has what is not said: within `..` parts of a name, in snake or camel case, and within ".."
-what stands in comments and pages; `*` stands for any ending. The fourth column has what may stay: within `..` whole
+what is in comments and pages; `*` stands for any ending. The fourth column has what may stay: within `..` whole
 names, within ".." phrases, and paths, for files in which the word has another sense.
 """
-import collections
 import fnmatch
 import os
 import re
@@ -17,12 +16,17 @@ NAME = re.compile(r"[A-Za-z_][A-Za-z0-9_]*")
 PARTS = re.compile(r"[A-Z]+(?![a-z])|[A-Z][a-z]*|[a-z]+|[0-9]+")
 # in a page no option, and no name of a tool
 PAGE_NAME = re.compile(r"(?<![\w-])[A-Za-z_][A-Za-z0-9_]*(?![\w-])")
+STRING = r"b?\"(?:\\.|[^\"\\\n])*\""
 # a comment, or a string
 ASIDE = {
-    ".rt": re.compile(r"//[^\n]*|b?\"(?:\\.|[^\"\\\n])*\""),
-    ".antt": re.compile(r"(?:(?<=\s)|^)--(?=\s|$)[^\n]*|\"(?:\\.|[^\"\\\n])*\"", re.M),
+    ".rt": re.compile(r"//[^\n]*|" + STRING),
+    ".antt": re.compile(r"(?:(?<=\s)|^)--(?=\s|$)[^\n]*|" + STRING, re.M),
+    ".txt": re.compile(r"^#[^\n]*|//[^\n]*|" + STRING, re.M),
+    ".c": re.compile(r"//[^\n]*|/\*.*?\*/|" + STRING, re.S),
+    ".py": re.compile(r"(?:(?<=\s)|^)#[^\n]*|\"{3}.*?\"{3}|%s|'(?:\\.|[^'\\\n])*'" % STRING, re.M | re.S),
 }
-ASIDE[".edit"] = ASIDE[".h"] = ASIDE[".rt"]
+ASIDE.update(dict.fromkeys((".edit", ".h"), ASIDE[".rt"]) | dict.fromkeys((".cc", ".rs", ".js"), ASIDE[".c"]))
+ASIDE.update(dict.fromkeys((".sh", ".capnp"), ASIDE[".py"]))
 BLOCK = re.compile(r"^```[^\n]*\n.*?^```|`[^`\n]*`", re.M | re.S)
 QUOTED = re.compile(r"`[^`\n]*`")
 
@@ -44,7 +48,6 @@ class Row:
         self.paths = [item for item in kept if "/" in item or item.endswith(".md")]
         self.names = [item for item in kept if item not in self.paths]
         self.kept_phrases = [phrase_of(item) for item in re.findall(r'"([^"]+)"', cells[3])]
-        self.kept = collections.Counter()
 
     def has(self, parts):
         """Whether a name of these parts has one that is not said."""
@@ -85,12 +88,18 @@ def without_table(text):
     return text[:section.start()] + re.sub(r"^\|.*$", "", section[0], flags=re.M) + text[section.end():]
 
 
-def code_and_prose(path, text):
-    """What is code, with what stands in `..`, and what is plain English; both line by line as the text is."""
+def suffix_of(path, text):
+    """The ending that says what a file is written in; of a file of tools/ without one its first line does."""
     suffix = os.path.splitext(path)[1]
+    return suffix if suffix or not path.startswith("tools/") else ".rt" if text.startswith("//") else ".py"
+
+
+def code_and_prose(path, text):
+    """What is code, with what is in `..`, and what is plain English; both line by line as the text is."""
+    suffix = suffix_of(path, text)
     lines_of = lambda part: "\n" * part.count("\n")
     if suffix == ".md":
-        # a block that is code, or what stands in `..`
+        # a block that is code, or what is in `..`
         code, prose, at = [], [], 0
         for found in BLOCK.finditer(text):
             before, inner = text[at:found.start()], found.group(0)
@@ -108,10 +117,13 @@ def code_and_prose(path, text):
         prose.append(lines_of(text[at:found.start()]))
         at = found.end()
         inner = found.group(0)
-        if inner.startswith(('"', 'b"')):
-            return '""'
-        prose.append(QUOTED.sub("`", inner.lstrip("/-!")))
-        return " ".join(QUOTED.findall(inner))
+        # what stands for itself between three quotes is a comment
+        is_comment = inner.startswith('"""') and not text[text.rfind("\n", 0, found.start()) + 1:found.start()].strip()
+        if inner.startswith(('"', 'b"', "'")) and not is_comment:
+            prose.append(lines_of(inner))
+            return lines_of(inner) + '""'
+        prose.append(QUOTED.sub("`", inner.lstrip("/-!#")))
+        return lines_of(inner) + " ".join(QUOTED.findall(inner))
 
     code = aside.sub(kept, text)
     return code, "".join(prose)
@@ -129,9 +141,7 @@ def look_for_rows(tree, path, rows, hits):
             parts = parts_of(name)
             hits[name] = [row for row in rows if row.has(parts)]
         for row in hits[name]:
-            if row.keeps(name) or row.leaves(path):
-                row.kept[name] += 1
-            else:
+            if not row.keeps(name) and not row.leaves(path):
                 found.setdefault(name, row)
     for name, row in sorted(found.items()):
         at = re.search(r"(?<![A-Za-z0-9_])%s(?![A-Za-z0-9_])" % name, code)

@@ -1,6 +1,6 @@
 """Files and names that pages give and that are not there, and paths below `tools/` and the like that any file gives.
 
-Of links it looks for the file and the heading. Of what stands in `..` it looks for paths, and for identifiers: with `::`, in
+Of links it looks for the file and the heading. Of what is in `..` it looks for paths, and for identifiers: with `::`, in
 CamelCase or in snake_case. A path is from the top, from the page's folder, or the end of a path. An identifier has to be in
 the code of a tracked file, or in a block of code of its page, and the parts of one `A::b` in one file. Names of std, of the
 kit, of other libraries and of a user's files are in names_of_others.txt, and may be anywhere.
@@ -22,9 +22,9 @@ QUOTED = re.compile(r"(?<!`)`([^`]+)`(?!`)")
 PATH = re.compile(r"\.{0,2}[\w*-][\w.*-]*(?:/[\w.*-]+)+/?|\.{1,2}(?:/[\w.*-]+)+/?")
 FILE = re.compile(r"[\w*-]+\.(?:rt|antt|md|py|edit|capnp|txt|h|cc|rs|js)")
 # words that stand for a name, what is built, and devices
-STANDS_FOR = re.compile(
+PLACEHOLDER = re.compile(
     r"(?:^|/)(?:[A-Z][A-Z_]+|N|Y|M)(?=[./_]|$)|\.\.\.|(?:^|/)(?:out|target|must-fail)(?:/|$)|^/?(?:dev|usr|proc|etc|tmp|home)/")
-STANDS_FOR_PART = re.compile(r"(?<![A-Z])[A-Z]+(?=_[a-z])|(?<=[a-z]_)[A-Z]+(?![A-Z])")
+PLACEHOLDER_PART = re.compile(r"(?<![A-Z])[A-Z]+(?=_[a-z])|(?<=[a-z]_)[A-Z]+(?![A-Z])")
 TOPS = ("tools/", "crates/", "docs/", "bench/", "conformance/", ".ci/")
 MENTIONED = re.compile(r"(?<![\w./-])(?:tools|bench|docs|conformance)/[\w.*/-]*[\w*]")
 IDENTIFIER = re.compile(r"[A-Za-z_]\w*(?:::[A-Za-z_]\w*)*")
@@ -62,7 +62,7 @@ class Known:
     def missing(self, identifier, of_page):
         """The part of an identifier that is nowhere, or all of it where no file has its parts, if it is one to look for."""
         parts = identifier.split("::")
-        if len(parts) == 1 and not CAMEL_OR_SNAKE.fullmatch(identifier) or STANDS_FOR_PART.search(identifier):
+        if len(parts) == 1 and not CAMEL_OR_SNAKE.fullmatch(identifier) or PLACEHOLDER_PART.search(identifier):
             return None
         ours = [part for part in parts if part not in self.others and part not in of_page]
         for part in ours:
@@ -84,12 +84,12 @@ class Known:
 
 
 def paths_of(quoted):
-    """The paths in what stands in `..`: all of it, or words that begin with a folder of the top."""
+    """The paths in what is in `..`: all of it, or words that begin with a folder of the top."""
     words = quoted.split()
     for word in words:
         word = word.strip("'\",;:()").partition("#")[0]
         is_path = PATH.fullmatch(word) and (len(words) == 1 and "." in word.rpartition("/")[2] or word.startswith(TOPS))
-        if (is_path or len(words) == 1 and FILE.fullmatch(word)) and not STANDS_FOR.search(word):
+        if (is_path or len(words) == 1 and FILE.fullmatch(word)) and not PLACEHOLDER.search(word):
             yield word.rstrip(".")
 
 
@@ -124,7 +124,7 @@ def check_quoted(tree, page, known, text, of_page):
 def check_mentioned(tree, path, known):
     text = tree.text(path)
     for found in MENTIONED.finditer(text):
-        if not STANDS_FOR.search(found[0]) and not known.has_path(path, found[0]):
+        if not PLACEHOLDER.search(found[0]) and not known.has_path(path, found[0]):
             tree.wrong(path, line_at(text, found.start()), f"the file {found[0]} is not there")
 
 

@@ -6,9 +6,8 @@ import os
 import re
 
 from .glossary import GLOSSARY, NAME, look_for_rows, parts_of, rows_of
-from .tree import line_at
 
-# what went before there was a table, as it stands anywhere, in prose or as a part of a name, and what is said in its place
+# what went before there was a table, wherever it is, in prose or as a part of a name, and what is said in its place
 WENT = [
     (r"answer(s|ed|ing)?", "returns, or a result"),
     (r"(is|are|was|were|be) refused by (?=`|[0-9]|this kind|a kind)", "fails with"),
@@ -45,24 +44,26 @@ NAMES = """
     frame_text group_text packed_text_is_one packed_encoding_is_one stopped_walk_has_no_trees refused_has_no_object
     RowPair land_local land_far land_wide is_wide visit_list kept_elements own_bits fill_indices read_tag body_tag
 """.split()
-# types that have another name, in the crate that had them
-TYPES = [("Part", "BuilderSegment"), ("Shown", "RootKind"), ("Fresh", "NewObject")]
-
-# where a word of WENT may stand: a file, and what its line holds
+# where a word of WENT may be: a file, and what its line holds
 ALLOWED = [
-    ("", r"Answers\.antt"),  # the toolchain's name of a file
+    ("", r"Answers(?:\.antt|$)"),  # the toolchain's name of a file
+    ("", r"\bno-answer\b"),  # rt says it
+    ("tools/linting/comments.py", r"[lL]evel"),  # of headings
     ("", r"\btold_text\b"),  # std has it
     ("", r"\b[cf]\.pad\b"),  # std's Formatter::pad
     ("", r"\bLent\b"),  # ScratchSegment::Lent, as upstream has it
     ("LICENSE", r""),
+    ("tools/linting/words.py", r""),  # these lists
+    ("tools/consumer/clickhouse.py", r"\blevel>"),  # of what a server logs
+    ("tools/conformance/differences.txt", r""),  # made of the names of cases
     (GLOSSARY, r"^\| "),
     ("crates/capnpc_rattle/src/schema_capnp.rt", r"^ *///"),  # what schema.capnp says itself
 ]
 # names and prose that are not the tree's own: what is made of a schema, and what a name was
-NOT_OURS = re.compile(r"^(CHANGELOG\.md|docs/API\.md|crates/(capnpc_rattle|capnp_schema)/src/schema_capnp\.rt|crates/capnpc_sample/|crates/.*_capnp\.rt$)")
-READ = re.compile(r"^(crates/.*\.(rt|antt|edit|md|h)|docs/.*\.md|README\.md|CONTRIBUTING\.md|CHANGELOG\.md|crates\.txt)$")
+NOT_OURS = re.compile(r"^(CHANGELOG\.md|tools/linting/words\.py$|docs/API\.md|crates/(capnpc_rattle|capnp_schema)/src/schema_capnp\.rt|crates/capnpc_sample/|crates/.*_capnp\.rt$)")
+READ = re.compile(r"^(crates/.*(\.(rt|antt|edit|md|h)|-edits\.txt)|docs/.*\.md|README\.md|CONTRIBUTING\.md|CHANGELOG\.md|crates\.txt|tools/.*|conformance/.*\.(py|md))$")
 
-# a part of a name stands between its ends, underscores, and changes of case
+# a part of a name is between its ends, underscores, and changes of case
 PART = r"(?:(?<![A-Za-z])|(?<=_))(?:%s)(?:(?![A-Za-z])|(?=_))"
 CAMEL = r"(?<![A-Z])(?:%s)(?![a-z])"
 
@@ -116,14 +117,6 @@ def look_for_went(tree, path, names, patterns):
                 tree.wrong(path, number, f"'{match[0]}' ({instead})")
 
 
-def look_for_types(tree, path, names):
-    """Types that have another name, in the crate that had them."""
-    text = tree.text(path)
-    for was, now in TYPES:
-        for match in re.finditer(rf"\b{was}\b", text) if was in names else ():
-            tree.wrong(path, line_at(text, match.start()), f"'{was}' ({now})")
-
-
 def check(tree):
     rows, patterns, hits = list(rows_of(tree)), list(went()), {}
     if not any(row.parts or row.phrases for row in rows):
@@ -134,12 +127,3 @@ def check(tree):
         look_for_went(tree, path, names, patterns)
         if not NOT_OURS.match(path) and not path.endswith(".h"):
             look_for_rows(tree, path, rows, hits)
-        if path.startswith("crates/capnp_build/"):
-            look_for_types(tree, path, names)
-    return rows
-
-
-def print_counts(tree):
-    """Prints, of each row of the glossary, how many places its exceptions keep."""
-    for row in check(tree):
-        print(f"{row.word}: {sum(row.kept.values())} places keep {len(row.kept)} names: {' '.join(sorted(row.kept))[:300]}")

@@ -3,10 +3,20 @@
 #define CARSALES_H
 
 #include "carsales_capnp.h"
-#include "message.h"
 #include "random.h"
 
+#include <stdio.h>
+#include <stdlib.h>
+
 enum { MOST_CARS = 200 };
+
+/* Ends the program where a call failed. */
+static inline void expect(int error) {
+    if (error == LINSJOAR_OK)
+        return;
+    fprintf(stderr, "carsales: %d %s\n", error, linsjoar_error_name(error));
+    exit(error);
+}
 
 struct name {
     const char *letters;

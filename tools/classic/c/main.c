@@ -4,6 +4,8 @@
 
 #include <inttypes.h>
 
+enum { ROOM = 1 << 19 };
+
 /* A message that is passed: where it is built, the bytes that it is read of, and its reader. */
 struct passed {
     struct linsjoar_message message;

@@ -45,8 +45,12 @@ impl Tally {
         Ok(())
     }
 
-    fn count<A: Allocator>(&mut self, message: &Builder<A>) {
-        self.bytes += message.get_segments_for_output().iter().map(|segment| segment.len() as u64).sum::<u64>();
+    fn add<A: Allocator>(&mut self, request: &Builder<A>, response: &Builder<A>, said: u64, expected: u64) {
+        for message in [request, response] {
+            self.bytes += message.get_segments_for_output().iter().map(|segment| segment.len() as u64).sum::<u64>();
+        }
+        self.values = self.values.wrapping_add(said);
+        self.wrong += (said != expected) as u64;
     }
 }
 
@@ -109,10 +113,7 @@ impl<B: Benchmark, M: Memory> Exchange<B, M> {
             self.tally.write(&again(&response)?)?;
         }
         let said = self.benchmark.said(response.get_root_as_reader::<RootReader>()?.0)?;
-        self.tally.count(&request);
-        self.tally.count(&response);
-        self.tally.values = self.tally.values.wrapping_add(said);
-        self.tally.wrong += (said != expected) as u64;
+        self.tally.add(&request, &response, said, expected);
         Ok(())
     }
 
@@ -130,10 +131,7 @@ impl<B: Benchmark, M: Memory> Exchange<B, M> {
         let read = serialize::read_message_from_flat_slice_no_alloc(&mut stream.as_slice(), OPTIONS)?;
         self.tally.write(&read)?;
         let said = self.benchmark.said(read.get_root::<RootReader>()?.0)?;
-        self.tally.count(&request);
-        self.tally.count(&response);
-        self.tally.values = self.tally.values.wrapping_add(said);
-        self.tally.wrong += (said != expected) as u64;
+        self.tally.add(&request, &response, said, expected);
         Ok(())
     }
 
@@ -153,10 +151,7 @@ impl<B: Benchmark, M: Memory> Exchange<B, M> {
         let read = serialize_packed::read_message(&mut self.response_stream.as_slice(), OPTIONS)?;
         self.tally.write(&read)?;
         let said = self.benchmark.said(read.get_root::<RootReader>()?.0)?;
-        self.tally.count(&request);
-        self.tally.count(&response);
-        self.tally.values = self.tally.values.wrapping_add(said);
-        self.tally.wrong += (said != expected) as u64;
+        self.tally.add(&request, &response, said, expected);
         Ok(())
     }
 }

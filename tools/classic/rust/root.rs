@@ -24,7 +24,7 @@ impl<'a> FromPointerReader<'a> for RootReader<'a> {
     }
 }
 
-/// The list of structs that a pointer of a struct leads to.
+/// The list of structs that a pointer of a struct points to.
 #[inline]
 pub fn structs<'a>(reader: &StructReader<'a>, index: usize) -> Result<ListReader<'a>> {
     reader.get_pointer_field(index).get_list(ElementSize::InlineComposite, None)
