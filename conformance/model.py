@@ -15,21 +15,45 @@ from decimal import Decimal
 
 WORDS_LIMIT, NESTING_LIMIT, SEGMENTS_COUNT_LIMIT = 8388608, 64, 512
 
-# The kinds of errors, by their numbers.
-KINDS = ["", "FailedToFillTheWholeBuffer", "BufferNotLargeEnough", "EmptyBuffer", "EmptySlice", "InvalidNumberOfSegments",
-         "MessageEndsPrematurely", "MessageSizeOverflow", "MessageTooLarge", "PrematureEndOfFile", "PrematureEndOfPackedInput",
-         "PackedInputDidNotEndCleanlyOnASegmentBoundary", "OutOfMemory", "DeviceFailed", "NotWholeWords", "AllocationTooLarge",
-         "SegmentTaken", "PointerOutOfBounds", "InvalidSegmentId", "NestingLimitExceeded", "ReadLimitExceeded",
-         "CapabilityRefused", "WrongPointerKind", "TextNotTerminated", "CanonicalTooLarge", "NotOneSegment", "NonZeroPadding"]
+# The kinds of errors, in the order of their numbers, and what is said of each.
+SENTENCES = {
+    "FailedToFillTheWholeBuffer": "the input ends within a message",
+    "BufferNotLargeEnough": "a buffer is too short for what was to be put there",
+    "EmptyBuffer": "a buffer that was to hold a message is empty",
+    "EmptySlice": "the bytes that were to begin with a message are none",
+    "InvalidNumberOfSegments": "the segment table has a number of segments that is not from 1 to 511",
+    "MessageEndsPrematurely": "the input ends before the message does",
+    "MessageSizeOverflow": "the size of the message does not fit 64 bits",
+    "MessageTooLarge": "the message has more words than --words allows",
+    "PrematureEndOfFile": "the input ends where a message was to begin",
+    "PrematureEndOfPackedInput": "the packed input ends within a message",
+    "PackedInputDidNotEndCleanlyOnASegmentBoundary": "a run of packed words goes past the end of the segments",
+    "OutOfMemory": "there is not enough memory",
+    "DeviceFailed": "the input can't be read",
+    "NotWholeWords": "what was to be packed or unpacked is no whole number of words",
+    "AllocationTooLarge": "an object is larger than a segment may be",
+    "SegmentTaken": "the only segment is in use",
+    "PointerOutOfBounds": "a pointer leads outside of its segment",
+    "InvalidSegmentId": "a pointer leads to a segment that is not there",
+    "NestingLimitExceeded": "objects are nested deeper than --nesting allows",
+    "ReadLimitExceeded": "the objects have more words than --words allows",
+    "CapabilityRefused": "a pointer leads to a capability",
+    "WrongPointerKind": "a pointer leads to another kind of object",
+    "TextNotTerminated": "a text has no zero byte at its end",
+    "CanonicalTooLarge": "the canonical form is larger than a segment may be",
+    "NotOneSegment": "the message has more than one segment",
+    "NonZeroPadding": "the padding of the segment table is not zero",
+}
+KINDS = ["", *SENTENCES]
 
 
 class Invalid(Exception):
     """A call fails: with a kind of error, and its numbers."""
-
     def __init__(self, kind, *numbers):
         super().__init__(kind, *numbers)
         self.kind, self.number = kind, KINDS.index(kind)
         self.text = kind + ("(%s)" % ", ".join(map(str, numbers)) if numbers else "")
+        self.sentence = f"{SENTENCES[kind]} ({self.text})"
 
 
 class NoMessage(Exception):
@@ -127,6 +151,12 @@ def take_segments(unread, lengths):
     return split(take(unread, 8 * sum(lengths)), lengths)
 
 
+def line_of(index, segments):
+    """The line of `list`: the index, how many segments there are, their words in all, and the words of each."""
+    lengths = [len(segment) // 8 for segment in segments]
+    return " ".join(map(str, [index, len(lengths), sum(lengths), *lengths])) + "\n"
+
+
 # Packing
 
 def pack(chunk):
@@ -176,6 +206,7 @@ class Object:
     code: int = 0
     count: int = 0
     room: int = 0  # the words of a list of structs by its pointer
+    landing: tuple = ()  # the places of the landing pad's words
     counted: int = 0  # what it counts against the traversal limit
     nesting: int = 0  # the nesting depth that is left at its pointers
 
@@ -206,13 +237,20 @@ def offset_of(word):
 
 class Message:
     """Segments that are read, under the traversal limit and the nesting limit."""
+    LANDING_PAD_BITS, TAG_COUNT = 7, 2**30 - 1
 
     def __init__(self, segments, limit=WORDS_LIMIT, nesting=NESTING_LIMIT):
-        self.segments = [segment[:len(segment) // 8 * 8] for segment in segments]
+        self.segments = segments
         self.limit, self.nesting, self.left = limit, max(0, nesting), limit
 
+    def has(self, segment):
+        return segment < len(self.segments)
+
+    def holds(self, found, words):
+        return 0 <= found.begin <= found.begin + words <= len(self.segments[found.segment]) // 8
+
     def word(self, segment, index):
-        require(segment < len(self.segments), "InvalidSegmentId", segment)
+        require(self.has(segment), "InvalidSegmentId", segment)
         require(index < len(self.segments[segment]) // 8, "PointerOutOfBounds")
         return number_of(self.segments[segment][8 * index:8 * index + 8])
 
@@ -224,38 +262,38 @@ class Message:
         word = self.word(segment, index)
         if word == 0:
             return None
-        require(word & 3 != CAPABILITY, "CapabilityRefused")
-        pads = 0
+        landing = ()
         if word & 3 == FAR:
-            pads, segment, index = 1 + (word >> 2 & 1), word >> 32, word >> 3 & 2**29 - 1
-            word, tag = self.word(segment, index), self.word(segment, index + pads - 1)
+            segment, index = word >> 32, word >> 3 & 2**29 - 1
+            landing = tuple((segment, index + more) for more in range(1 + (word >> 2 & 1)))
+            word, tag = self.word(segment, index), self.word(*landing[-1])
         begin = index + 1 + offset_of(word)
-        if pads == 2:
-            require(word & 7 == FAR, "PointerOutOfBounds")
+        if len(landing) == 2:
+            require(word & self.LANDING_PAD_BITS == FAR, "PointerOutOfBounds")
             segment, begin, word = word >> 32, word >> 3 & 2**29 - 1, tag
-            require(segment < len(self.segments), "InvalidSegmentId", segment)
+            require(self.has(segment), "InvalidSegmentId", segment)
         require(word & 3 != FAR, "PointerOutOfBounds")
         require(word & 3 != CAPABILITY, "CapabilityRefused")
         require(nesting > 0, "NestingLimitExceeded")
-        return self.body(word, Object(word & 3, segment, begin, nesting=nesting - 1), pads)
+        return self.body(word, Object(word & 3, segment, begin, landing=landing, nesting=nesting - 1))
 
-    def body(self, word, found, pads):
-        """The object that a pointer word says, at the place where it begins, behind landing pads of so many words."""
+    def body(self, word, found):
+        """The object that a pointer word says, at the place where it begins."""
         if found.kind == STRUCT:
             found.data, found.pointers, found.count = word >> 32 & 0xffff, word >> 48, 1
         else:
             found.code, found.count = word >> 32 & 7, word >> 35
         is_structs = found.kind == LIST and found.code == STRUCTS
         words = 1 + found.count if is_structs else found.size()
-        require(0 <= found.begin <= found.begin + words <= len(self.segments[found.segment]) // 8, "PointerOutOfBounds")
+        require(self.holds(found, words), "PointerOutOfBounds")
         if is_structs:
             tag = self.word(found.segment, found.begin)
             require(tag & 3 == STRUCT, "WrongPointerKind")
             found.room, found.begin = found.count, found.begin + 1
-            found.count, found.data, found.pointers = tag >> 2 & 2**30 - 1, tag >> 32 & 0xffff, tag >> 48
+            found.count, found.data, found.pointers = tag >> 2 & self.TAG_COUNT, tag >> 32 & 0xffff, tag >> 48
             require(found.count * found.step() <= found.room, "PointerOutOfBounds")
         no_words = found.kind == LIST and (found.step() == 0 if is_structs else found.code == 0)
-        found.counted = pads + words + (found.count if no_words else 0)
+        found.counted = len(found.landing) + words + (found.count if no_words else 0)
         return found
 
     def count(self, found):
@@ -294,7 +332,7 @@ def struct_of(found):
 
 
 def field_of(message, found, bits, index, default):
-    """The number of so many bits at an index in units of its width; past the data it is the default."""
+    """The number of a given number of bits at an index in units of its width; past the data it is the default."""
     data = number_of(message.bytes_at(found.segment, found.begin, found.data))
     return data >> bits * index & 2**bits - 1 ^ default
 
@@ -416,7 +454,7 @@ def canonical_form(message):
 
 
 def is_canonical(message):
-    """Whether a message is its canonical form; what is met first decides, an error or an object that isn't as there."""
+    """Whether a message is its canonical form; what comes first decides, an error or an object that isn't as there."""
     if len(message.segments) > 1:
         return False
     free = follow(message, 1, *message.root())
@@ -469,12 +507,7 @@ def show(segments):
 
 
 def show_struct(sections):
-    data, pointers = sections
-    return "[%s]" % " ".join([*("%x" % word for word in data), "|", *(show_pointer(word) for word in pointers)])
-
-
-def show_pointer(word):
-    return "set" if word else "null"
+    return "[%s]" % " ".join([*("%x" % word for word in sections[0]), "|", *("set" if word else "null" for word in sections[1])])
 
 
 def show_number(kind, bits):
@@ -494,7 +527,7 @@ def show_number(kind, bits):
 
 def show_elements(kind, count, element_at):
     """The first 64 elements, equal ones in a row as one."""
-    shown = {"structs": show_struct, "pointers": show_pointer}.get(kind, lambda bits: show_number(kind, bits))
+    shown = {"structs": show_struct, "pointers": lambda word: "set" if word else "null"}.get(kind, lambda bits: show_number(kind, bits))
     texts = itertools.groupby(shown(element_at(index)) for index in range(min(count, 64)))
     runs = [(text, len(list(run))) for text, run in texts]
     words = [f"list of {count}" + ":" * (count > 0), *(text if times == 1 else f"{text}*{times}" for text, times in runs)]
@@ -554,7 +587,8 @@ def of_objects(call, who, text, options):
 
 def about_object(call, who, words, message, path):
     place = message.root()
-    message.word(*place[:2])
+    if who != "test":
+        message.word(*place[:2])
     for index in path:
         found = struct_of(message.read(*place))
         if index >= found.pointers:
@@ -587,21 +621,29 @@ def results(call, who, text, options):
     return (of_objects if call in ("pointer", "list", "field", "canonical") else of_bytes)(call, who, text, options)
 
 
-def main():
+def results_of(lines):
+    """The results of each that is asked by the last of some lines of a case, with the options before it."""
     options = dict(DEFAULTS)
+    for line in lines:
+        word, _, text = line.partition(" ")
+        if word in DEFAULTS:
+            options[word] = [int(index) for index in text.split()] if word == "at" else math.inf if text == "none" else int(text)
+    return {who: tuple(results(word, who, text, options)) for who in ASKED.get(word, [])}
+
+
+def lines_of(found):
+    """The results as a case has them: equal ones once, after the names of all that give them."""
+    for some in dict.fromkeys(found.values()):
+        names = [who for who in found if found[who] == some]
+        yield from (f"> {result}" if len(names) == len(found) else f"> {', '.join(names)}: {result}" for result in some)
+
+
+def main():
+    lines = []
     for line in fileinput.input():
-        word, _, text = line.rstrip("\n").partition(" ")
-        print("" if word == ">" else line, end="")
-        options = dict(DEFAULTS) if word == "case" else options
-        if word == "at":
-            options["at"] = [int(index) for index in text.split()]
-        elif word in DEFAULTS:
-            options[word] = math.inf if text == "none" else int(text)
-        given = {who: tuple(results(word, who, text, options)) for who in ASKED.get(word, [])}
-        for some in dict.fromkeys(given.values()):
-            names = [who for who in given if given[who] == some]
-            for result in some:
-                print(f"> {result}" if len(names) == len(given) else f"> {', '.join(names)}: {result}")
+        if not line.startswith(">"):
+            lines = [*([] if line.startswith("case ") else lines), line.rstrip("\n")]
+            print(line + "".join(f"{result}\n" for result in lines_of(results_of(lines))), end="")
 
 
 if __name__ == "__main__":

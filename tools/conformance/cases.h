@@ -48,13 +48,13 @@ inline std::vector<Bytes> segments_of(const std::string &written) {
     bool text = false;
     for (size_t at = 0; at <= written.size(); text = !text) {
         size_t end = std::min(written.find('"', at), written.size());
-        std::string piece = written.substr(at, end - at), token;
+        std::string part = written.substr(at, end - at), token;
         at = end + 1;
         if (text) {
-            segment += piece;
+            segment += part;
             continue;
         }
-        std::stringstream tokens(piece);
+        std::stringstream tokens(part);
         while (tokens >> token) {
             if (token == "|") segments.push_back(segment), segment.clear();
             else if (token.substr(0, 2) == "-*") for (int i = std::stoi(token.substr(2)); i > 1; i--) segments.push_back("");
@@ -109,14 +109,26 @@ inline std::string hex(uint64_t number) {
     return line.str();
 }
 
-// A number of a type as results show it: a signed one and a float in decimal digits, the fewest that tell the float.
-template <typename T> std::string shown_number(T number) {
-    if (!std::is_signed<T>::value) return hex(number);
+// The fewest digits that tell a float, without an exponent: zeros stand for the others.
+template <typename T> std::string shown_float(T number) {
     if (number != number) return "NaN";
-    char digits[1100];
-    if constexpr (std::is_floating_point<T>::value)
-        return std::string(digits, std::to_chars(digits, std::end(digits), number, std::chars_format::fixed).ptr);
-    return std::string(digits, std::to_chars(digits, std::end(digits), int64_t(number)).ptr);
+    char shortest[64];
+    std::string text(shortest, std::to_chars(shortest, std::end(shortest), number, std::chars_format::scientific).ptr);
+    std::string sign = text[0] == '-' ? "-" : "";
+    size_t exponent = text.find('e');
+    if (exponent == text.npos) return text;
+    std::string digits = text.substr(sign.size(), exponent - sign.size());
+    if (digits.size() > 1) digits.erase(1, 1);
+    int point = 1 + std::stoi(text.substr(exponent + 1)), count = int(digits.size());
+    if (point <= 0) return sign + "0." + std::string(-point, '0') + digits;
+    if (count <= point) return sign + digits + std::string(point - count, '0');
+    return sign + digits.substr(0, point) + "." + digits.substr(point);
+}
+
+// A number of a type as results show it: a signed one and a float in decimal digits.
+template <typename T> std::string shown_number(T number) {
+    if constexpr (std::is_floating_point<T>::value) return shown_float(number);
+    return std::is_signed<T>::value ? std::to_string(int64_t(number)) : hex(uint64_t(number));
 }
 
 // What a call makes of a number of the type that a word names.

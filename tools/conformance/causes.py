@@ -18,8 +18,8 @@ def stanzas():
                 yield stanza
             stanza = {"cases": []}
         if word.startswith("differs, "):
-            file, _, name = rest.partition(": ")
-            stanza["cases"] += [(library, file, name) for library in word[9:].split(", ")]
+            file, _, names = rest.partition(": ")
+            stanza["cases"] += [(library, file, name) for library in word[9:].split(", ") for name in names.split(" | ")]
         elif stanza is not None and rest:
             stanza[word] = rest
     yield stanza

@@ -21,11 +21,11 @@ class Case:
     name: str
     by: list = field(default_factory=list)
     call: str = ""
-    answers: dict = field(default_factory=dict)
+    results: dict = field(default_factory=dict)
 
     def of(self, who):
         """The results that somebody is to give."""
-        return self.answers.get(who, self.answers.get("", []))
+        return self.results.get(who, self.results.get("", []))
 
 
 def files():
@@ -43,10 +43,10 @@ def names_of_files():
     return [path.stem for path in files() for line in path.read_text().splitlines() if line.startswith("case ")]
 
 
-def cases_of(written):
-    """The cases of what a driver wrote of all files."""
+def cases_of(written, stems=None):
+    """The cases of what a driver wrote of all files, or of files of these names."""
     cases = []
-    stems = iter(names_of_files())
+    stems = stems or iter(names_of_files())
     for line in written.splitlines():
         word, _, rest = line.partition(" ")
         if word == "case":
@@ -57,7 +57,7 @@ def cases_of(written):
             names, mark, result = rest.partition(": ")
             named = names.split(", ") if mark and WHO.issuperset(names.split(", ")) else [""]
             for who in named:
-                cases[-1].answers.setdefault(who, []).append(result if named != [""] else rest)
+                cases[-1].results.setdefault(who, []).append(result if named != [""] else rest)
         elif cases and word and word != "#" and word not in OPTIONS:
             cases[-1].call = line
     return cases
@@ -69,7 +69,7 @@ def copy_of_crates(folder):
     source = folder / "crates/conformance/src"
     source.mkdir(parents=True)
     for path in (ROOT / "tools/conformance").iterdir():
-        if path.suffix == "" and path.read_text(errors="replace").startswith("//!"):
+        if path.is_file() and path.suffix == "" and path.read_text(errors="replace").startswith("//!"):
             (source / (path.name + ".rt")).write_bytes(path.read_bytes())
     with open(folder / "crates.txt", "a") as crates:
         crates.write("conformance: %s\n" % CRATES)
@@ -78,8 +78,12 @@ def copy_of_crates(folder):
 def run_ours(folder, given, seconds=600):
     """What the library's own driver writes, as it is built in a copy before any proof, and what `rt try` says."""
     # The interpreter, which `rt try` asks first, would be slow.
-    ran = subprocess.run(["rt", "try", "--steps", "1", "--seconds", str(seconds)], cwd=folder / "crates/conformance",
-                         input=given.encode(), stdout=subprocess.PIPE, stderr=subprocess.PIPE)
+    return run(["rt", "try", "--steps", "1", "--seconds", str(seconds)], folder / "crates/conformance", given)
+
+
+def run(command, folder, given):
+    """What a driver writes of cases, and what it says."""
+    ran = subprocess.run(command, cwd=folder, input=given.encode(), stdout=subprocess.PIPE, stderr=subprocess.PIPE)
     return ran.stdout.decode(errors="replace"), ran.stderr.decode(errors="replace")
 
 
@@ -92,14 +96,19 @@ def unread(result):
     return result.partition("; ")[2]
 
 
-def differences(want, found):
-    """Who gives other results than a case has, with the first of them; errors are compared by whether both reject."""
-    for who, results in found.answers.items():
+def number_of(result, by_number):
+    return result.split()[1] if by_number else ""
+
+
+def differences(want, found, by_number=False):
+    """Who gives other results than a case has, with the first of them; errors are compared by their numbers, or by whether both
+    reject."""
+    for who, results in found.results.items():
         wanted = want.of(who)
         for index in range(max(len(wanted), len(results))):
             here = wanted[index] if index < len(wanted) else "nothing"
             there = results[index] if index < len(results) else "nothing"
-            if is_rejected(here) and is_rejected(there):
+            if is_rejected(here) and is_rejected(there) and number_of(here, by_number) == number_of(there, by_number):
                 if unread(here) != unread(there) or index + 1 == len(results):
                     break  # What is unread after an error differs or isn't known, and so may what comes next.
             elif here != there:

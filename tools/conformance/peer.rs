@@ -44,12 +44,12 @@ fn segments_of(written: &str) -> Vec<Vec<u8>> {
         return vec![];
     }
     let (mut segments, mut segment) = (vec![], vec![]);
-    for (i, piece) in written.split('"').enumerate() {
+    for (i, part) in written.split('"').enumerate() {
         if i % 2 == 1 {
-            segment.extend_from_slice(piece.as_bytes());
+            segment.extend_from_slice(part.as_bytes());
             continue;
         }
-        for token in piece.split_ascii_whitespace() {
+        for token in part.split_ascii_whitespace() {
             if token == "|" {
                 segments.push(std::mem::take(&mut segment));
             } else if let Some(times) = token.strip_prefix("-*") {

@@ -2,10 +2,10 @@
 import os
 import re
 
-from faults import FULL
-from messages import STREAM
+from failures import FULL
 from rendered import wrongs_of
 from runs import USAGE, stopped, usage, whole
+from streams import STREAM
 
 VERSION = os.path.join(os.path.dirname(os.path.abspath(__file__)), "../../VERSION")
 
@@ -34,10 +34,10 @@ def try_flags(program):
     with open(VERSION, "rb") as file:
         version = b"capnp_ls " + file.read()
     for words in "--version", "-V":
-        program.expect(whole(version, len(STREAM)), words, STREAM)
+        program.expect(words, STREAM, whole(version, len(STREAM)))
     text = program.run(["--help"], STREAM).printed
     for words in "--help", "-h", "help":
-        program.expect(whole(text, len(STREAM)), words, STREAM)
+        program.expect(words, STREAM, whole(text, len(STREAM)))
     # A line has each command with its options, as the usage line has it, and a line has each option.
     wanted = [form.strip() for form in USAGE.decode().split("capnp_ls")[1].split("|")]
     wanted += sorted(set(re.findall(r"--\w+", USAGE.decode()))) + ["help", "-h, --help", "-V, --version"]
@@ -48,8 +48,8 @@ def try_flags(program):
     # Beside other words they are none of the program's.
     for words in ("--help list", "list --help", "-h -h", "help list", "list help", "help help", "--version --version",
                   "-V -V", "-V list", "list -V", "-v", "version", "Help", "--help="):
-        program.expect(usage(STREAM), words, STREAM)
-    wanted = stopped(0, "13 DeviceFailed", left=None, faults=FULL)
+        program.expect(words, STREAM, usage(STREAM))
+    wanted = stopped(0, "13 DeviceFailed", left=None, failures=FULL)
     for words in "--help", "help", "--version", "-V":
         program.compare(wanted, program.run([words], STREAM, "/dev/full"), words + " > /dev/full")
     try_page(program)

@@ -1,11 +1,22 @@
-"""Runs of the built program: what each is given, and how it has to end."""
+"""Runs of the built program: what each is given, and how it has to end by the model of conformance/."""
 import os
 import subprocess
 from collections import namedtuple
 
+import model
+from model import Invalid, Message, NoMessage
+
 USAGE = b"usage: capnp_ls list [--packed] [--lenient] | pack [--lenient] | unpack [--lenient] | canon [--packed]\n"
-SHIM = os.path.join(os.path.dirname(os.path.abspath(__file__)), "devices.c")
-FAILING = os.path.join(os.path.dirname(os.path.abspath(__file__)), "../failing/fail.c")
+HERE = os.path.dirname(os.path.abspath(__file__))
+LIBRARIES = {"devices": os.path.join(HERE, "devices.c"), "failing": os.path.join(HERE, "../failing/fail.c"), "count": os.path.join(HERE, "count.c")}
+COMMANDS = ["list", "list --lenient", "list --packed", "list --packed --lenient", "pack", "pack --lenient", "unpack", "unpack --lenient",
+            "canon", "canon --packed"]
+PRINTED = {
+    "list": lambda index, segments: model.line_of(index, segments).encode(),
+    "pack": lambda _, segments: model.packed_message(segments),
+    "unpack": lambda _, segments: model.frame(segments),
+    "canon": lambda _, segments: model.frame([model.canonical_form(Message(segments))]),
+}
 
 # The status, standard output, standard error, and how many bytes of standard input stay unread, or None
 # where that is not known.
@@ -17,10 +28,10 @@ def whole(printed=b"", left=0):
     return Ended(0, printed, b"", left)
 
 
-def stopped(message, error, printed=b"", left=0, faults=()):
-    """A run that stops after so many messages by an error, which is its number and its text; the faults are the
+def stopped(message, error, printed=b"", left=0, failures=()):
+    """A run that stops after a given number of messages by an error, which is its number and its text; the failures are the
     streams that failed, each with its reason."""
-    lines = ["message %d: error %s" % (message, error), *faults]
+    lines = ["message %d: error %s" % (message, error), *failures]
     return Ended(1, printed, b"".join(b"capnp_ls: %s\n" % line.encode() for line in lines), left)
 
 
@@ -29,17 +40,36 @@ def usage(given):
     return Ended(2, b"", USAGE, len(given))
 
 
+def ended_of(words, given):
+    """How a run of a command has to end over these bytes."""
+    name, source, printed = words.split()[0], bytearray(given), []
+    is_packed = name == "unpack" or "--packed" in words
+    while True:
+        try:
+            segments = model.read_message(source, model.unpack if is_packed else model.take, "--lenient" in words)
+            printed.append(PRINTED[name](len(printed), segments))
+        except NoMessage:
+            return whole(b"".join(printed))
+        except Invalid as error:
+            # After packed bytes that end, or go on where they may not, it isn't said what is unread.
+            left = None if is_packed and error.number in (1, 10, 11) else len(source)
+            return stopped(len(printed), "%d %s" % (error.number, error.text), b"".join(printed), left)
+
+
 class Program:
     """The built program, and how many of its runs there were, and did something else."""
 
     def __init__(self, path, folder):
         self.path, self.folder, self.tried, self.wrong = path, folder, 0, 0
-        self.devices, self.failing = os.path.join(folder, "devices.so"), os.path.join(folder, "fail.so")
-        for source, library in (SHIM, self.devices), (FAILING, self.failing):
-            subprocess.run(["cc", "-shared", "-fPIC", "-O2", "-o", library, source], check=True)
+        for name, source in LIBRARIES.items():
+            subprocess.run(["cc", "-shared", "-fPIC", "-O2", "-fno-builtin", "-o", self.library(name), source], check=True)
 
     def file(self, name):
         return os.path.join(self.folder, name)
+
+    def library(self, name):
+        """What is preloaded into a run."""
+        return self.file(name + ".so")
 
     def run(self, words, given, output=None, **environment):
         """Runs it over a file of these bytes, with standard output in a file, or on the device `output`."""
@@ -63,15 +93,14 @@ class Program:
             self.wrong += 1
             print("try-program: capnp_ls %s\n  ended as %s\n  wanted   %s" % (name, shown(ended), shown(wanted)))
 
-    def expect(self, wanted, words, given=b""):
-        """Runs it as it is, and once more with a byte a read, which shows what it leaves unread."""
+    def expect(self, words, given=b"", wanted=None):
+        """Runs it with a byte a read, which shows what it leaves unread; by the model where nothing else is wanted."""
         words = words.split() if isinstance(words, str) else words
-        self.compare(wanted._replace(left=None), self.run(words, given), name_of(words, given))
-        slow = self.slow(words, given)
-        self.compare(wanted, slow, name_of(words, given) + ", a byte a read")
+        wanted = wanted or ended_of(" ".join(words), given)
+        self.compare(wanted, self.slow(words, given), name_of(words, given))
 
-    def slow(self, words, given, **faults):
-        return self.run(words, given, **{"LD_PRELOAD": self.devices, "READ_MOST": "1", **faults})
+    def slow(self, words, given, **failures):
+        return self.run(words, given, **{"LD_PRELOAD": self.library("devices"), "READ_MOST": "1", **failures})
 
 
 def name_of(words, given):

@@ -1,7 +1,8 @@
-"""The page that capnp_show is to write of messages, drawn from the oracle's walk of the same bytes."""
+"""The page that capnp_show is to write of messages, drawn from a walk of the model over the same bytes."""
 import re
 
-from oracle import Tree, line_of, lines_of
+from model import POINTERS, STRUCT, STRUCTS
+from nodes import Tree, front_of, line_of, quoted, start_of
 from page import Element
 
 MOST_WORDS = 4096
@@ -13,8 +14,8 @@ TOO_MANY = "Only the first 65536 nodes are drawn."
 
 
 class Word:
-    """How a word is drawn: its classes, and what the pointer there leads to: None, or "null", or the number of
-    an object and its place; and why it is refused, where a walk comes to it deeper than it may, say."""
+    """How a word is drawn: its classes, and what the pointer there points to: None, or "null", or the number of
+    an object and its place; and why it is invalid, where a walk comes to it deeper than it may, say."""
 
     def __init__(self):
         self.classes, self.lead, self.why = ["free"], None, None
@@ -28,7 +29,7 @@ class Drawing:
 
     def __init__(self, name, segments, **limits):
         self.name, self.segments = name, segments
-        self.words = {(segment, word): Word() for segment, held in enumerate(segments) for word in range(len(held) // 8)}
+        self.words = {(segment, word): Word() for segment, kept in enumerate(segments) for word in range(len(kept) // 8)}
         self.tree = Tree(segments, most=MOST_NODES, **limits)
         self.claim((0, 0), "pointer", "root")
         number = 0
@@ -44,19 +45,17 @@ class Drawing:
             word.classes = list(classes)
 
     def follow(self, place, node, found, number):
-        """Notes where the pointer at a place leads, and why it is refused, each for the first time."""
+        """Notes what the pointer at a place points to, and why it is invalid, each for the first time."""
         word = self.words.get(place) or Word()
         if node["kind"] == "refused":
             word.why = word.why or node["why"]
         else:
-            word.lead = word.lead or ((number, found["start"]) if found else "null")
+            word.lead = word.lead or ((number, start_of(found)) if found else "null")
 
     def claim_object(self, found, *of):
-        if found["pad"]:
-            (segment, word), words = found["pad"]
-            for index in range(words):
-                self.claim((segment, word + index), "landing", *of)
-        segment, word = found["start"]
+        for place in found.landing:
+            self.claim(place, "landing", *of)
+        segment, word = start_of(found)
         for index, kind in enumerate(kinds_of(found)):
             self.claim((segment, word + index), kind, *of)
 
@@ -80,8 +79,8 @@ class Drawing:
 
     def tables(self):
         """The heading and the table of each segment."""
-        for segment, held in enumerate(self.segments):
-            count = len(held) // 8
+        for segment, kept in enumerate(self.segments):
+            count = len(kept) // 8
             yield Element("h3", {}, [f"segment {segment}, words {count}"])
             rows = []
             for first in range(0, count, WORDS_IN_A_ROW):
@@ -103,19 +102,16 @@ class Drawing:
 
 def kinds_of(found):
     """What each word of an object holds, in order."""
-    if found["kind"] == "struct":
-        return found["data"] * ["data"] + found["pointers"] * ["pointer"]
-    if found["element"] == "pointer":
-        return found["count"] * ["pointer"]
-    if found["element"] != "struct":
-        return found["words"] * ["data"]
-    element = found["data"] * ["data"] + found["pointers"] * ["pointer"]
-    kinds = ["tag"] + found["count"] * element if element else ["tag"]
-    return kinds + (found["words"] - len(kinds)) * ["data"]
+    element = found.data * ["data"] + found.pointers * ["pointer"]
+    if found.kind == STRUCT:
+        return element
+    if found.code == STRUCTS:
+        return ["tag"] + (found.count * element if element else []) + (found.room - found.count * found.step()) * ["data"]
+    return found.size() * ["pointer" if found.code == POINTERS else "data"]
 
 
 def arrow(number):
-    """The arrow of a link, in the colour of the object that it leads to; where it runs is not compared."""
+    """The arrow of a link, in the colour of the object that it points to; where it runs is not compared."""
     path = Element("path", {"class": f"c{number % COLOURS}", "d": is_path})
     return Element("svg", {}, [path])
 
@@ -130,7 +126,7 @@ def classes(wanted):
 
 
 def title(word, place):
-    """Whether a cell says where it is and to which object it belongs, or why its pointer is refused."""
+    """Whether a cell says where it is and to which object it belongs, or why its pointer is invalid."""
     if word.why:
         return lambda said: said == f"refused, since {word.why}"
     owned = [f"object {name[1:]}" for name in word.classes if re.fullmatch("o[0-9]+", name)]
@@ -140,7 +136,7 @@ def title(word, place):
 
 def message_of_page(name, row, segments, sha256, limits):
     """The section of a message."""
-    inside = [Element("h2", {}, [lines_of(row, [], sha256).strip()])]
+    inside = [Element("h2", {}, [front_of(row, sha256)])]
     if row["words"] > MOST_WORDS:
         inside.append(Element("p", {"class": "large"}, [TOO_LARGE]))
     else:
@@ -155,7 +151,7 @@ def page_of(inputs, limits):
     inside += [Element("title", {}, ["capnp_show"]), Element("style", {}, [any])]
     inside.append(Element("p", {"class": "legend"}, [any]))
     for number, (name, messages) in enumerate(inputs):
-        inside.append(Element("h1", {}, [name]))
+        inside.append(Element("h1", {}, ["".join(c if c.isprintable() else quoted(c, "") for c in name)]))
         for row, segments, sha256 in messages:
             inside.append(message_of_page(f"m{number}-{row['index']}", row, segments, sha256, limits))
     return Element("page", {}, [Element("html", {"lang": "en"}, inside)])

@@ -2,15 +2,15 @@
 import re
 from html.parser import HTMLParser
 
-# what only stands between an element and those that are compared: a parser may add it
+# what is only between an element and those that are compared: a parser may add it
 BETWEEN = {"head", "body", "tbody", "div"}
 # what holds elements alone, so that blanks in it mean nothing
 HOLDERS = {"page", "html", "section", "table", "tr", "ol", "svg"}
 EMPTY = {"meta", "br"}
-# what a page that stands alone may not have
+# what a page that is alone may not have
 FETCHING = {"src", "srcset", "data", "action", "background", "poster", "http-equiv"}
 ELEMENTS = "html head meta title style body h1 h2 h3 section div p br span table tbody tr th td a svg path ol li".split()
-# a start tag whose values stand in quotation marks and are escaped
+# a start tag whose values are in quotation marks and are escaped
 TAG = re.compile(r'<[a-z][a-z0-9]*(\s+[a-z-]+="([^"<&]|&(amp|lt|gt|quot|#39|#[0-9]+);)*")*\s*/?>')
 # what no page may have anywhere
 NOWHERE = {

@@ -1,34 +1,63 @@
-"""Messages that capnp_show is run over, as segments of bytes."""
+"""Messages that capnp_show is run over, as segments of bytes, and framed."""
 import random
 
-from oracle import message_of
+from nodes import messages_of
+from model import frame
 
 
 def words(*numbers):
     return b"".join(number.to_bytes(8, "little") for number in numbers)
 
 
-HELLO = [words(0x7200000001) + b"Hello, World!\0\0\0"]
-ESCAPES = [words(0x5A_00000001) + 'a"\\\n\x1b\x7f\u0085\u00e9\0'.encode() + bytes(5)]
+def struct_pointer(at, start, data, pointers):
+    """A pointer at one word of a segment to a struct that begins at another."""
+    return pointers << 48 | data << 32 | (start - at - 1) % (1 << 30) << 2
+
+
+def list_pointer(at, start, code, elements):
+    """A pointer at one word of a segment to a list that begins at another; of structs their words are counted."""
+    return elements << 35 | code << 32 | (start - at - 1) % (1 << 30) << 2 | 1
+
+
+def text_of(text):
+    """A message that is a text."""
+    kept = text.encode() + b"\0"
+    return [words(list_pointer(0, 1, 2, len(kept))) + kept + bytes(-len(kept) % 8)]
+
+
+def nested(depth, last, *rest):
+    """The first segment of a message whose pointer at word and depth `depth` is the last one before `rest`."""
+    return words(*(struct_pointer(at, at + 1, 0, 1) for at in range(depth)), last, *rest)
+
+
+def zeros(count):
+    """A framed message of one segment, of a given number of words that are zero."""
+    return frame([bytes(8 * count)])
+
+
+HELLO = text_of("Hello, World!")
+ESCAPES = text_of('a"\\\n\x1b\x7f\u0085\u00e9')
 FAR = [words(1 << 48, 0x1_00000002), words(0x1A_00000001) + b"hi\0\0\0\0\0\0"]
 WIDE = [words(1 << 48, 0x2_00000006), words(0) + b"hi\0\0\0\0\0\0", words(0x1_0000000A, 0x1A_00000001)]
 STRUCTS = [words(0x27_00000001, 0x10001_00000008, 7, 0, 8, 0x12_00000001) + b"a\0\0\0\0\0\0\0"]
+# a list of one struct, whose pointer is a capability
+ONE_STRUCT = [words(0x17_00000001, 0x1_0001_00000004, 7, 3)]
+# a struct whose pointer points to the struct that it is in
 CYCLE = [words(1 << 48, 1 << 48 | 0xFFFFFFFC)]
-ASTRAY = [words(6 << 48, 0x80001, 3, 0x9_00000002, 0x40_00000FA1, 0x15_FFFFFF01, 0x1_00000000)]
+INVALID = [words(6 << 48, 0x80001, 3, 0x9_00000002, 0x40_00000FA1, 0x15_FFFFFF01, 0x1_00000000)]
+# structs of two pointers to the next one: 2^40 - 1 of them as a tree
 DOUBLINGS = [words(2 << 48, *(39 * [2 << 48 | 4, 2 << 48]), 0, 0)]
-MESSAGES = [HELLO, FAR, WIDE, STRUCTS, CYCLE, ASTRAY, [bytes(8)], [b""], [words(0x0C_00000001, 5), b"", bytes(16)]]
-# the messages in canonical form, or with one that is written out here
-CANONICAL = {0: HELLO[0], 3: STRUCTS[0], 6: bytes(8)}
+# a struct of two pointers to one text
+SHARED = [words(2 << 48, 0x1A_00000005, 0x1A_00000001) + b"hi\0\0\0\0\0\0"]
+# lists of no words at the end of their segment, of 5 elements and of 2^29 - 1
+VOIDS, MOST_VOIDS = [words(0x28_00000001)], [words(0xFFFFFFF8_00000001)]
+MESSAGES = [HELLO, FAR, WIDE, STRUCTS, ONE_STRUCT, CYCLE, INVALID, [bytes(8)], [b""], [words(0x0C_00000001, 5), b"", bytes(16)], SHARED, VOIDS, MOST_VOIDS]
 
 
-def listed(messages, text_of):
-    """The texts of messages in a row, and what is listed of each."""
-    text, rows = b"", []
-    for index, segments in enumerate(messages):
-        one = text_of(segments)
-        rows.append(message_of(index, len(text), len(one), segments))
-        text += one
-    return text, rows
+def listed(messages):
+    """The framed bytes of messages in a row, and what is listed of each."""
+    content = b"".join(map(frame, messages))
+    return content, [row for row, _ in messages_of(content)[0]]
 
 
 def random_messages(count):

@@ -9,10 +9,10 @@ from drawing import page_of
 from page import wrongs_of
 from runs import count, leave_out
 
-# tells of each link whether its arrow runs from the right of its cell to the left of the cell that it leads to
+# tells of each link whether its arrow runs from the right of its cell to the left of the cell that it points to
 LOOK = """<script>
-let arrows = 0, astray = 0;
-const is_near = (one, other) => Math.abs(one - other) <= 3;
+let arrows = 0, elsewhere = 0;
+const isClose = (one, other) => Math.abs(one - other) <= 3;
 for (const section of document.querySelectorAll("section")) {
   for (const link of section.querySelectorAll("td a")) {
     const drawing = section.querySelector(".drawing").getBoundingClientRect();
@@ -23,9 +23,9 @@ for (const section of document.querySelectorAll("section")) {
     const end = Number(path.match(/H([0-9]+)m/)[1]);
     const bottom = Number([...path.matchAll(/V([0-9]+)/g)].pop()?.[1] ?? top);
     arrows += 1;
-    if (!is_near(from.right - drawing.left, left) || !is_near((from.top + from.bottom) / 2 - drawing.top, top)
-        || !is_near(to.left - drawing.left, end) || !is_near((to.top + to.bottom) / 2 - drawing.top, bottom)) {
-      astray += 1;
+    if (!isClose(from.right - drawing.left, left) || !isClose((from.top + from.bottom) / 2 - drawing.top, top)
+        || !isClose(to.left - drawing.left, end) || !isClose((to.top + to.bottom) / 2 - drawing.top, bottom)) {
+      elsewhere += 1;
     }
   }
 }
@@ -36,8 +36,8 @@ for (const objects of document.querySelectorAll(".objects:has(li)")) {
   beside += list.left >= drawing.right && list.right > 0.9 * innerWidth ? 1 : 0;
   below += list.top >= drawing.bottom && drawing.right <= innerWidth ? 1 : 0;
 }
-const is_wide = document.documentElement.scrollWidth > innerWidth;
-document.body.innerHTML = `${arrows} arrows, ${astray} of them astray; lists: ${beside} beside, ${below} below; ${is_wide}`;
+const overflows = document.documentElement.scrollWidth > innerWidth;
+document.body.innerHTML = `${arrows} arrows, ${elsewhere} of them elsewhere; lists: ${beside} beside, ${below} below; ${overflows}`;
 </script>
 """
 
@@ -72,7 +72,7 @@ def try_browser(text, inputs):
     # the lists of objects stand beside the drawings in a wide window, and below them in a narrow one
     for size, where in (("1280,800", f"{lists} beside, 0 below"), ("500,800", f"0 beside, {lists} below")):
         looked = browser.open("looked.html", text.replace("</body>", f"{LOOK}</body>"), "--dump-dom", size=size)
-        wanted = f"{arrows} arrows, 0 of them astray; lists: {where}; false"
+        wanted = f"{arrows} arrows, 0 of them elsewhere; lists: {where}; false"
         if wanted not in looked:
             wrongs.append(f"in a window of {size}: {looked[-300:]}\nwanted:\n{wanted}")
     picture = os.path.abspath("page.png")

@@ -1,11 +1,11 @@
-"""Tries what compares pages: pages that are written out here pass, and the same pages with a fault are refused."""
+"""Tries what compares pages: pages that are written out here pass, and the same pages with a mistake are found wrong."""
 import sys
 from html import escape
 
 from drawing import page_of
-from oracle import frame, sentence
+from nodes import sentence
 from page import wrongs_of
-from samples import ESCAPES, FAR, WIDE, listed, words
+from samples import ESCAPES, FAR, ONE_STRUCT, WIDE, listed, words
 
 FRONT = """<!DOCTYPE html>
 <html lang="en">
@@ -20,7 +20,6 @@ FRONT = """<!DOCTYPE html>
 """
 END = "</body>\n</html>\n"
 NULLS = [words(3 << 48, 0, 7, 0x12_00000001) + b"a\0\0\0\0\0\0\0"]
-STRUCTS = [words(0x17_00000001, 0x1_0001_00000004, 7, 3)]
 
 
 def cell(place, classes, shown, link=None, title=None):
@@ -32,7 +31,7 @@ def cell(place, classes, shown, link=None, title=None):
 
 
 def arrow(number):
-    """The arrow of a link: the root pointer leads to object 0, and the other links of these pages to object 1."""
+    """The arrow of a link: the root pointer points to object 0, and the other links of these pages to object 1."""
     return f'<svg><path class="c{number}" d="M216 61H254m-5 -3l5 3l-5 3"/></svg>'
 
 
@@ -44,7 +43,7 @@ def table(segment, count, *rows):
 
 
 def section(name, line, tables, objects):
-    """A section; `objects` are the lines of its objects, each of which one pointer leads to."""
+    """A section; `objects` are the lines of its objects, to each of which one pointer points."""
     listed_objects = "".join(
         f'<li class="o{number} c{number}">{escape(line, quote=False)}</li>\n' for number, line in enumerate(objects)
     )
@@ -58,7 +57,7 @@ def section(name, line, tables, objects):
 """
 
 
-REFUSED = "refused, since " + sentence("CapabilityRefused")
+INVALID = "refused, since " + sentence("CapabilityRefused")
 PAGES = {
     "far": (FAR, section("m0-0", "message 0: offset 0, bytes 48, segments 2, words 4", table(
         0, 2, (0, cell("m0-0-0-0", "pointer root", "0000000000000100", "m0-0-0-1"),
@@ -78,14 +77,14 @@ PAGES = {
         'pointer 0: list, element byte, count 3, at 1:1, landing pad 2:0, words 2, text "hi"'])),
     "nulls": (NULLS, section("m0-0", "message 0: offset 0, bytes 48, segments 1, words 5", table(
         0, 5, (0, cell("m0-0-0-0", "pointer root", "0000000000000300", "m0-0-0-1"), cell("m0-0-0-1", "pointer o0 c0 null", "0000000000000000"),
-               cell("m0-0-0-2", "pointer o0 c0 refused", "0700000000000000", title=REFUSED),
+               cell("m0-0-0-2", "pointer o0 c0 refused", "0700000000000000", title=INVALID),
                cell("m0-0-0-3", "pointer o0 c0", "0100000012000000", "m0-0-0-4")),
         (4, cell("m0-0-0-4", "data o1 c1", "6100000000000000")),
     ), ["root: struct, data 0, pointers 3, at 0:1", 'pointer 2: list, element byte, count 2, at 0:4, text "a"'])),
-    "structs": (STRUCTS, section("m0-0", "message 0: offset 0, bytes 40, segments 1, words 4", table(
+    "structs": (ONE_STRUCT, section("m0-0", "message 0: offset 0, bytes 40, segments 1, words 4", table(
         0, 4, (0, cell("m0-0-0-0", "pointer root", "0100000017000000", "m0-0-0-1"), cell("m0-0-0-1", "tag o0 c0", "0400000001000100"),
                cell("m0-0-0-2", "data o0 c0", "0700000000000000"),
-               cell("m0-0-0-3", "pointer o0 c0 refused", "0300000000000000", title=REFUSED)),
+               cell("m0-0-0-3", "pointer o0 c0 refused", "0300000000000000", title=INVALID)),
     ), ["root: list, element struct, count 1, data 1, pointers 1, at 0:1"])),
     "escapes": (ESCAPES, section("m0-0", "message 0: offset 0, bytes 32, segments 1, words 3", table(
         0, 3, (0, cell("m0-0-0-0", "pointer root", "010000005a000000", "m0-0-0-1"), cell("m0-0-0-1", "data o0 c0", "61225c0a1b7fc285"),
@@ -94,8 +93,8 @@ PAGES = {
 }
 
 WORD = 'title="word 0:4, of object 1"'
-# faults of the page of nulls: what stands there, and what is written for it
-FAULTS = [
+# mistakes of the page of nulls: what is there, and what is written for it
+MISTAKES = [
     ("<!DOCTYPE html>", ""),
     ('lang="en"', 'lang="de"'),
     ('<meta charset="utf-8">', ""),
@@ -125,8 +124,8 @@ FAULTS = [
     ('class="data o1 c1"', 'class="data o1 c1 new"'),
     ('class="data o1 c1"', 'class="free"'),
     ("0300", "0003"),
-    (REFUSED, "refused"),
-    (REFUSED, REFUSED.replace("Capability", "Kind")),
+    (INVALID, "refused"),
+    (INVALID, INVALID.replace("Capability", "Kind")),
     (f'<a href="#m0-0-0-4">0100000012000000{arrow(1)}</a>', "0100000012000000"),
     (arrow(1), ""),
     ('href="#m0-0-0-4"', 'href="#m0-0-0-3"'),
@@ -174,25 +173,25 @@ def written(name, inside):
 
 
 def wanted(name, segments):
-    ((row,),) = listed([segments], frame)[1:]
+    row, = listed([segments])[1]
     return page_of([(name, [(row, segments, None)])], {})
 
 
 def try_checker():
-    """How many written pages are taken for wrong, or spoilt ones for right."""
+    """How many written pages are taken for wrong, or faulty ones for right."""
     wrong = 0
     for what, (segments, inside) in PAGES.items():
         for said in wrongs_of(written("a<b", inside), wanted("a<b", segments)):
             print(f"try-show: the page {what} that is written out: {said}", file=sys.stderr)
             wrong += 1
     segments, inside = PAGES["nulls"]
-    for right, fault in FAULTS:
+    for right, mistake in MISTAKES:
         text = written("a<b", inside)
-        spoilt = text.replace(right, fault, 1)
-        if spoilt == text or not wrongs_of(spoilt, wanted("a<b", segments)):
-            print(f"try-show: the fault {fault!r} for {right!r} is not found", file=sys.stderr)
+        faulty = text.replace(right, mistake, 1)
+        if faulty == text or not wrongs_of(faulty, wanted("a<b", segments)):
+            print(f"try-show: the fault {mistake!r} for {right!r} is not found", file=sys.stderr)
             wrong += 1
-    print(f"try-show: {len(PAGES)} pages that are written out and {len(FAULTS)} faults of one are tried, {wrong} wrongly taken")
+    print(f"try-show: {len(PAGES)} pages that are written out and {len(MISTAKES)} faults of one are tried, {wrong} wrongly taken")
     return wrong
 
 

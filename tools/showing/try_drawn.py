@@ -1,11 +1,7 @@
-"""Pages of messages that are written out, in part or whole: cells, refusals, texts, arrows and links."""
-from oracle import frame
-from runs import count, run
-from samples import words
-from written import (
-    CYCLE, EMPTY, FAR, HELLO, MARKUP, MOST_VOIDS, SHARED, STRUCTS, VOIDS,
-    expect_parts, list_pointer, struct_pointer, text_message, zeros,
-)
+"""Pages of messages that are written out, in part or whole: a section, headings, arrows and links."""
+from model import frame
+from runs import count, expect_parts, run
+from samples import FAR, HELLO, list_pointer, struct_pointer, words, zeros
 
 # The drawing of FAR, and the list of its objects.
 FAR_SECTION = """<section class="message" id="m0-0">
@@ -51,44 +47,6 @@ FRONT = """<!DOCTYPE html>
 <style>
 """
 END = "</body>\n</html>\n"
-# What the pages of messages have, in parts.
-PARTS = [
-    ("a list of structs", STRUCTS, [
-        '<td id="m0-0-0-1" class="tag o0 c0"',
-        '<td id="m0-0-0-2" class="data o0 c0"',
-        '<td id="m0-0-0-3" class="pointer o0 c0 null"',
-        '<tr><th>4</th><td id="m0-0-0-4" class="data o0 c0"',
-    ]),
-    # what two pointers lead to is of the object that comes first
-    ("two pointers to a text", SHARED, [
-        'to object 1"><a href="#m0-0-0-3">050000001a000000<svg><path class="c1"',
-        'to object 2"><a href="#m0-0-0-3">010000001a000000<svg><path class="c2"',
-        '<td id="m0-0-0-3" class="data o1 c1"',
-        '<li class="o2 c2">pointer 1: list, element byte, count 3, at 0:3, text &quot;hi&quot;</li>',
-    ]),
-    # a list without words at the end of its segment has no word to lead to
-    ("voids at the end", VOIDS, [
-        'class="pointer root" title="word 0:0, the root pointer, to object 0">0100000028000000</td>',
-        '<li class="o0 c0">root: list, element void, count 5, at 0:1</li>',
-    ]),
-    ("a cycle", CYCLE, [
-        '<td id="m0-0-0-1" class="pointer o0 c0 refused" title="refused, since objects are '
-        'nested deeper than --nesting allows (NestingLimitExceeded)"><a href="#m0-0-0-1">fcffffff00000100<svg',
-    ]),
-    ("too many voids", MOST_VOIDS, [
-        'class="pointer root refused" title="refused, since the objects have more words than '
-        '--words allows (ReadLimitExceeded)">01000000f8ffffff</td>',
-    ]),
-    ("no words", EMPTY, ['<p class="refused">root: refused, since a pointer leads outside of its segment (PointerOutOfBounds)</p>']),
-    ("4096 words", zeros(4096), ['<td id="m0-0-0-4095" class="free"']),
-    ("markup", MARKUP, ["text &quot;&lt;\\&quot;&amp;&gt;a\\n&quot;</li>"]),
-    ("words in hexadecimal", frame([words(3 << 32, 0) + bytes.fromhex("0123456789abcdef090a0f109fa0f0ff")]), [
-        'title="word 0:1, data of object 0">0000000000000000</td>',
-        'title="word 0:2, data of object 0">0123456789abcdef</td>',
-        'title="word 0:3, data of object 0">090a0f109fa0f0ff</td>',
-    ]),
-    ("a zero in a text", text_message("\0a\x1f "), [", text &quot;\\u0000a\\u001f &quot;</li>"]),
-]
 # The heading of a file of this name: only the characters of markup have names.
 MARKED = [
     ("", ""),
@@ -104,9 +62,9 @@ MARKED = [
     ("<<a<bc<", "&lt;&lt;a&lt;bc&lt;"),
     ('a<b>&"\n\x7f\\\u00e9', "a&lt;b&gt;&amp;&quot;\\n\\u007f\\\u00e9"),
 ]
-# Where the pointers stand that lead from one object to the next, of which the first is at the root; the last
+# Where the pointers are that go from one object to the next, of which the first is at the root; the last
 # object is the root's own word. A row has four words. So the arrows, each in the colour of the object that it
-# leads to, run two cells ahead, to the next cell of the row, to the rows above and below, to a cell of a row
+# points to, run two cells ahead, to the next cell of the row, to the rows above and below, to a cell of a row
 # before their own, and across the whole row. A cell is 132 wide and 26 high, 40 and 14 apart, and the first one
 # begins at 84 and 48.
 STEPS = [0, 2, 3, 4, 9, 6, 5, 8, 1, 10, 0]
@@ -137,13 +95,13 @@ LINKS = [
 
 
 def chain(steps, last, size):
-    """A segment of so many words in which each of these pointers leads to the next, which is a struct of one; the last pointer
+    """A segment of a given number of words in which each of these pointers points to the next, which is a struct of one; the last pointer
     is given."""
-    held = size * [0]
+    kept = size * [0]
     for at, start in zip(steps, steps[1:]):
-        held[at] = struct_pointer(at, start, 0, 1)
-    held[steps[-1]] = last
-    return words(*held)
+        kept[at] = struct_pointer(at, start, 0, 1)
+    kept[steps[-1]] = last
+    return words(*kept)
 
 
 def expect_section(what, text, section):
@@ -165,14 +123,12 @@ def expect_heading(name, heading):
 
 
 def try_drawn():
-    expect_section("far pointers", FAR, FAR_SECTION)
+    expect_section("far pointers", frame(FAR), FAR_SECTION)
     expect_section("4097 words", zeros(4097), LARGE_SECTION)
-    for what, text, parts in PARTS:
-        expect_parts(what, ["--html"], text, parts)
     for name, heading in MARKED:
         expect_heading(name, heading)
     arrows = chain(STEPS[:-1], struct_pointer(STEPS[-2], STEPS[-1], 1, 0), 11)
     expect_parts("arrows", ["--html"], frame([arrows]), ARROWS)
     for start, row in LINKS:
         links = chain([0, 5, 6, 7, 8, 9, 10, 11, 4], list_pointer(4, start, 0, 5), 16)
-        expect_parts(f"a link to the word {start}", ["--html"], HELLO + frame([links]), [row])
+        expect_parts(f"a link to the word {start}", ["--html"], frame(HELLO) + frame([links]), [row])

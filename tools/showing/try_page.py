@@ -1,113 +1,132 @@
-"""Runs of capnp_show --html, each page compared with the one that drawing.py draws, and one opened in a browser."""
-import subprocess
+"""Runs of capnp_show --html, each page compared with the one that drawing.py draws; which arrows of dense pages lie over one
+another; and a page in a browser."""
+import random
+import re
+from collections import defaultdict
 
 from drawing import page_of
-from oracle import frame, pack, sentence, sha256_of
+from model import frame, packed_message
+from nodes import hash_of, messages_of, shown_of
 from page import wrongs_of
-from runs import PROGRAM, count, refused, run
-from samples import ASTRAY, CANONICAL, CYCLE, DOUBLINGS, ESCAPES, FAR, HELLO, MESSAGES, STRUCTS, WIDE, listed, random_messages, words
+from runs import count, expect_unwritten, run, write
+from samples import (
+    INVALID, CYCLE, DOUBLINGS, ESCAPES, FAR, HELLO, MESSAGES, STRUCTS, WIDE, list_pointer, random_messages, struct_pointer, text_of, words,
+)
 from try_browser import try_browser
 
-MARKS = [words(0x7A_00000001) + "<b a=\"'\">&amp;\0".encode().ljust(16, b"\0")]
-# a root whose two pointers lead to one object, and to a part of it
+MARKUP = text_of("<b a=\"'\">&amp;")
+# a root whose two pointers point to one object, and to a part of it
 OVERLAPS = [words(2 << 48, 1 << 32 | 2 << 48 | 4, 1 << 32 | 4, 5, 0, 0)]
-# a landing pad that two pointers share, within the object that it leads to
-PADS = [words(2 << 48, 0x1_00000002, 0x1_00000002), words(3 << 32 | 0xFFFFFFFC, 7, 8)]
+# a landing pad that two pointers share, within the object that it points to
+LANDING = [words(2 << 48, 0x1_00000002, 0x1_00000002), words(3 << 32 | 0xFFFFFFFC, 7, 8)]
 # lists of structs of no words, with words after the last element, and whose elements have no pointers
 LISTS = [words(3 << 48, 0x07_00000009, 0x1F_00000009, 0x17_00000015, 5 << 2, 1 << 2 | 1 << 32, 1, 2, 3, 2 << 2 | 1 << 32, 4, 5)]
 # every kind of list, from a struct with eight pointers
 KINDS = [words(8 << 48, *((3 << 35 | code << 32 | (7 + 2 * code) << 2 | 1) for code in range(7)), 0, *range(24))]
-DRAWN = {
-    "a small message": [HELLO],
-    "far pointers": [FAR, WIDE, PADS],
-    "lists": [STRUCTS, LISTS, KINDS],
-    "texts": [MARKS, ESCAPES],
-    "refusals": [ASTRAY, [words(3)], [b""], [words(0x0C_00000001, 5), b"", bytes(16)]],
-    "overlaps": [CYCLE, OVERLAPS],
-    "many messages": MESSAGES,
-}
+DRAWN = [*MESSAGES, WIDE, LANDING, STRUCTS, LISTS, KINDS, MARKUP, ESCAPES, [words(3)], OVERLAPS]
+LINK = re.compile(r'<a href="(#[^"]*)">[0-9a-f]*<svg><path class="(c[0-9])" d="M([0-9]+) ([0-9]+)([^m"]*)')
 
 
 def large(count_of_words):
-    """A message of so many words, whose root has data alone."""
+    """A message of a given number of words, whose root has data alone."""
     return [words((count_of_words - 1) << 32) + bytes(8 * (count_of_words - 1))]
 
 
-def expect_page(what, result, inputs, limits=None, status=0, err=""):
-    """Compares a run and its page; an input is a name and its messages: what is listed, the segments, the hash."""
+def expect_page(what, args, contents, limits=None, stdin=b""):
+    """Compares a run over files of these bytes, or over standard input where no file is named, and its page."""
+    result = run(["--html", *args, *(name for name in contents if name != "standard input")], stdin)
+    inputs, said = [], ""
+    for name, content in contents.items():
+        first = int(args[args.index("--first") + 1]) if "--first" in args else float("inf")
+        messages, error = messages_of(content, "--packed" in args, (limits or {}).get("words", 8388608), first)
+        inputs.append((name, [(row, segments, hash_of(segments) if "--hash" in args else None) for row, segments in messages]))
+        said += (f"capnp_show: {name}: framed\n" if "--detect" in args else "") + shown_of(args, name, content)[1]
     wrongs = wrongs_of(result.stdout.decode(), page_of(inputs, limits or {}))
-    if (result.returncode, result.stderr.decode()) != (status, err):
-        wrongs.append(f"status {result.returncode}, diagnostics:\n{result.stderr.decode()}\nwanted: {status}\n{err}")
+    wanted = 1 if "message" in said else 0, said
+    if (result.returncode, result.stderr.decode()) != wanted:
+        wrongs.append(f"status {result.returncode}, diagnostics:\n{result.stderr.decode()}\nwanted: {wanted}")
     count(f"page: {what}", wrongs)
+    return result.stdout.decode(), inputs
 
 
-def drawn(messages, text_of=frame, hashes=None):
-    """The text of messages, and each as an input of a page has it."""
-    text, rows = listed(messages, text_of)
-    return text, list(zip(rows, messages, hashes or [None] * len(messages)))
+def expect_drawn(what, messages, args=(), limits=None, bytes_of=frame):
+    content = b"".join(map(bytes_of, messages))
+    return expect_page(what, list(args), {"standard input": content}, limits, content)
 
 
 def try_drawings():
-    for format_args, text_of in (([], frame), (["--packed"], pack)):
-        for what, messages in DRAWN.items():
-            text, inside = drawn(messages, text_of)
-            result = run(["--html", *format_args], text)
-            expect_page(" ".join([what, *format_args]), result, [("standard input", inside)])
-    text, inside = drawn(list(random_messages(300)))
-    expect_page("random messages", run(["--html"], text), [("standard input", inside)])
-    for what, messages, args, limits in (
-        ("nesting", [CYCLE, STRUCTS, ASTRAY], ["--nesting", "1"], {"nesting": 1}),
-        ("words", [CYCLE, FAR], ["--words", "9"], {"words": 9}),
-        ("doublings", [DOUBLINGS], ["--words", "99"], {"words": 99}),
-        ("more nodes than are drawn", [DOUBLINGS, HELLO], [], {}),
-    ):
-        text, inside = drawn(messages)
-        expect_page(what, run(["--html", *args], text), [("standard input", inside)], limits)
-    text, inside = drawn([large(4096), large(4097), HELLO, [bytes(8 * 2048), bytes(8 * 2049)]])
-    expect_page("4,096 and 4,097 words", run(["--html"], text), [("standard input", inside)])
-    messages = [MESSAGES[index] for index in CANONICAL] + [[words(3)]]
-    hashes = [*map(sha256_of, CANONICAL.values()), sentence("CapabilityRefused")]
-    text, inside = drawn(messages, hashes=hashes)
-    expect_page("hashes", run(["--html", "--hash"], text), [("standard input", inside)])
-    expect_page("the first two", run(["--html", "--first", "2"], text), [("standard input", drawn(messages[:2])[1])])
+    for args, bytes_of in (([], frame), (["--packed"], packed_message)):
+        expect_drawn(f"messages {args}", DRAWN, args, bytes_of=bytes_of)
+    expect_drawn("random messages", random_messages(300))
+    expect_drawn("nesting", [CYCLE, STRUCTS, INVALID], ["--nesting", "1"], {"nesting": 1})
+    expect_drawn("words", [CYCLE, FAR], ["--words", "9"], {"words": 9})
+    expect_drawn("doublings", [DOUBLINGS], ["--words", "99"], {"words": 99})
+    expect_drawn("more nodes than are drawn", [DOUBLINGS, HELLO])
+    expect_drawn("4,096 and 4,097 words", [large(4096), large(4097), HELLO, [bytes(8 * 2048), bytes(8 * 2049)]])
+    messages = [HELLO, STRUCTS, [bytes(8)], [words(3)]]
+    expect_drawn("hashes", messages, ["--hash"])
+    expect_drawn("the first two", messages, ["--first", "2"])
 
 
 def try_inputs():
     """Pages of several inputs, some of which can't be read to their ends."""
-    both, inside = drawn([HELLO, FAR])
-    name, shown_name = "<i>&amp;\"'\1.bin", "<i>&amp;\"'\\u0001.bin"
-    cut = refused("cut.bin", 2, len(both), "FailedToFillTheWholeBuffer")
-    texts = {"both.bin": both, "none.bin": b"", "cut.bin": both + frame(HELLO)[:9], name: both}
-    for file_name, text in texts.items():
-        with open(file_name, "wb") as file:
-            file.write(text)
-    expect_page("an empty input", run(["--html"], b""), [("standard input", [])])
-    expect_page("an empty file", run(["--html", "none.bin"]), [("none.bin", [])])
-    expect_page("a cut file", run(["--html", "cut.bin"]), [("cut.bin", inside)], {}, 1, cut)
-    several = ["both.bin", "cut.bin", "none.bin", name]
-    pages = [("both.bin", inside), ("cut.bin", inside), ("none.bin", []), (shown_name, inside)]
-    expect_page("several files", run(["--html", *several]), pages, {}, 1, cut)
-    expect_page("a name with marks", run(["--html", name]), [(shown_name, inside)])
-    missing = run(["--html", "missing.bin", "both.bin"])
+    both, name = frame(HELLO) + frame(FAR), "<i>&amp;\"'\1.bin"
+    contents = {"both.bin": both, "cut.bin": both + frame(HELLO)[:9], "none.bin": b"", name: both}
+    for file_name, content in contents.items():
+        write(file_name, content)
+    expect_page("an empty input", [], {"standard input": b""})
+    for file_name in "none.bin", "cut.bin", name:
+        expect_page(file_name, [], {file_name: contents[file_name]})
+    expect_page("several files", [], contents)
+    expect_page("detected", ["--detect"], {"both.bin": both})
+    missing = run(["--html", "missing.bin"])
     begins = missing.stderr.startswith(b"capnp_show: missing.bin: the file can't be opened: ")
-    missing.stderr = b"" if begins and missing.stderr.count(b"\n") == 1 else missing.stderr
-    expect_page("a missing file", missing, [("missing.bin", []), ("both.bin", inside)], {}, 1, "")
-    seen = "capnp_show: both.bin: framed\n"
-    expect_page("detected", run(["--html", "--detect", "both.bin"]), [("both.bin", inside)], {}, 0, seen)
+    wrongs = wrongs_of(missing.stdout.decode(), page_of([("missing.bin", [])], {}))
+    count("page: a missing file", wrongs + ([] if begins and missing.returncode == 1 else [str(missing)]))
     with open("/dev/full", "wb") as full:
-        result = run_into(["--html", "both.bin"], full)
-    unwritten = (1, "capnp_show: standard output can't be written\n")
-    count("page: a full device", [] if result == unwritten else [str(result)])
+        expect_unwritten("page: a full device", ["--html", "both.bin"], full)
 
 
-def run_into(args, output):
-    """The status of a run whose output goes to a file, and its diagnostics."""
-    result = subprocess.run([PROGRAM, *args], stdout=output, stderr=subprocess.PIPE, timeout=60)
-    return result.returncode, result.stderr.decode()
+def arrows_of(text):
+    """The straight lines of each arrow of a page, by the line on which they lie: from where to where, and whose."""
+    lines = defaultdict(list)
+    for target, colour, left, top, turns in LINK.findall(text):
+        at = {"H": int(left), "V": int(top)}
+        for way, to in re.findall("([HV])([0-9]+)", turns):
+            other = "V" if way == "H" else "H"
+            lines[way, at[other]].append((*sorted((at[way], int(to))), target, colour))
+            at[way] = int(to)
+    return lines
+
+
+def overlaps(text):
+    """The pairs of arrows to different words that lie over one another, each by the two words and the two colours."""
+    for kept in arrows_of(text).values():
+        for index, (low, high, target, colour) in enumerate(kept):
+            for other_low, other_high, other, other_colour in kept[:index]:
+                if target != other and max(low, other_low) < min(high, other_high):
+                    yield target, other, colour, other_colour
+
+
+def try_lanes():
+    """Within eight rows no arrow lies over one to another word; where many do, they differ in their colours."""
+    def page_of_pointers(starts, size):
+        kept = [list_pointer(0, 1, 6, len(starts)), *(struct_pointer(1 + at, start, 1, 0) for at, start in enumerate(starts))]
+        return run(["--html"], frame([words(*kept, *((size - len(kept)) * [0]))])).stdout.decode()
+
+    source = random.Random(11)
+    for trial in range(20):
+        page = page_of_pointers([source.randrange(1, 32) for _ in range(31)], 32)
+        wrongs = [f"arrows to {pair[0]} and {pair[1]}" for pair in overlaps(page)]
+        count(f"lanes: {trial}", wrongs if len(LINK.findall(page)) == 32 else [f"its links: {page}"])
+    page = page_of_pointers(range(288, 575), 575)
+    pairs = list(overlaps(page))
+    wrongs = [f"arrows in one colour to {pair[0]} and {pair[1]}" for pair in pairs if pair[2] == pair[3]]
+    count("lanes: 287 pointers", wrongs if pairs and len(LINK.findall(page)) == 288 else [f"its {len(pairs)} pairs"])
 
 
 def try_pages():
     try_drawings()
     try_inputs()
-    text, inside = drawn(MESSAGES + [MARKS, LISTS, KINDS, PADS])
-    try_browser(run(["--html"], text).stdout.decode(), [("standard input", inside)])
+    try_lanes()
+    try_browser(*expect_drawn("messages", DRAWN))

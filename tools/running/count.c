@@ -1,5 +1,5 @@
-// Preloaded into a program, it counts the bytes that are held: what malloc, calloc and realloc gave and free has
-// not taken back, by what the blocks have room for. At the end it writes the most that were held at once to the file
+// Preloaded into a program, it counts the bytes that are kept: what malloc, calloc and realloc gave and free has
+// not taken back, by what the blocks have room for. At the end it writes the most that were kept at once to the file
 // that COUNTED names.
 #define _GNU_SOURCE
 #include <malloc.h>
@@ -11,12 +11,12 @@ void *__libc_calloc(size_t, size_t);
 void *__libc_realloc(void *, size_t);
 void __libc_free(void *);
 
-static size_t held, most;
+static size_t kept, most;
 
 static void *given(void *block, size_t before) {
     if (block) {
-        held += malloc_usable_size(block) - before;
-        most = held > most ? held : most;
+        kept += malloc_usable_size(block) - before;
+        most = kept > most ? kept : most;
     }
     return block;
 }
@@ -35,7 +35,7 @@ void *realloc(void *block, size_t size) {
 }
 
 void free(void *block) {
-    held -= block ? malloc_usable_size(block) : 0;
+    kept -= block ? malloc_usable_size(block) : 0;
     __libc_free(block);
 }
 

@@ -2,13 +2,12 @@
 import os
 import subprocess
 
-from messages import EMPTY, HELLO, LINES, STREAM
-from runs import Ended, name_of, stopped, usage, whole
+from runs import Ended, ended_of, name_of, stopped, usage, whole
+from streams import EMPTY, HELLO, LINES, STREAM
 
 FAILED = "13 DeviceFailed"
 UNREAD = ["standard input: Input/output error (os error 5)"]
 FULL = ["standard output: No space left on device (os error 28)"]
-CUT = "1 FailedToFillTheWholeBuffer"
 
 # The device fails at its nth read of at most 8 bytes, one of the 8 that the stream and its end take: the
 # message there.
@@ -44,19 +43,20 @@ def try_devices(program):
     ran = subprocess.run([program.path, "list"], stdin=folder, capture_output=True)
     os.close(folder)
     ended = Ended(ran.returncode, ran.stdout, ran.stderr, None)
-    wanted = stopped(0, FAILED, left=None, faults=["standard input: Is a directory (os error 21)"])
+    wanted = stopped(0, FAILED, left=None, failures=["standard input: Is a directory (os error 21)"])
     program.compare(wanted, ended, "list of a folder")
     for words, given in ("list", EMPTY), ("pack", EMPTY), ("canon", HELLO):
-        wanted = stopped(0, FAILED, left=None, faults=FULL)
+        wanted = stopped(0, FAILED, left=None, failures=FULL)
         program.compare(wanted, program.run([words], given, "/dev/full"), words + " > /dev/full")
-    # A stop is reported before a failed flush, whose reason stands after it.
-    ended = program.run(["list"], bytes(12), "/dev/full")
-    program.compare(stopped(1, CUT, left=None, faults=FULL), ended, "list of 12 bytes > /dev/full")
+    # A stop is reported before a failed flush, whose reason comes after it.
+    stop = ended_of("list", bytes(12))
+    wanted = stop._replace(printed=b"", said=stop.said + b"capnp_ls: %s\n" % FULL[0].encode(), left=None)
+    program.compare(wanted, program.run(["list"], bytes(12), "/dev/full"), "list of 12 bytes > /dev/full")
 
 
 def try_diagnostics(program):
-    """The line of a stop is added to what stands there, and where it can't be written the status is the same."""
-    for given, words, wanted in ((bytes(12), ["list"], stopped(1, CUT, b"0 1 0 0\n")), (EMPTY, ["lst"], usage(EMPTY))):
+    """The line of a stop is added to what is there, and where it can't be written the status is the same."""
+    for given, words, wanted in ((bytes(12), ["list"], ended_of("list", bytes(12))), (EMPTY, ["lst"], usage(EMPTY))):
         with open(program.file("before"), "w+b") as diagnostics:
             diagnostics.write(b"before\n")
             diagnostics.flush()
@@ -74,7 +74,7 @@ def try_allocations(program):
     counted, number, allocations, stops = program.file("counted"), 0, 1, 0
     while number < allocations:
         number += 1
-        ended = program.run(["list"], STREAM, LD_PRELOAD=program.failing, FAILED=str(number), COUNTED=counted)
+        ended = program.run(["list"], STREAM, LD_PRELOAD=program.library("failing"), FAILED=str(number), COUNTED=counted)
         allocations = max(allocations, int(program.read("counted")))
         message = next((count for count in range(4) if ended.printed == b"".join(LINES[:count])), 0)
         wanted = whole(b"".join(LINES), None)
@@ -87,6 +87,6 @@ def try_allocations(program):
         print("try-program: of %d failed allocations none stops the program" % allocations)
 
 
-def try_faults(program):
+def try_failures(program):
     for part in try_reads, try_writes, try_devices, try_diagnostics, try_allocations:
         part(program)
