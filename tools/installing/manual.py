@@ -30,7 +30,7 @@ def items_of(lines):
         begun = re.fullmatch(r" {2,6}(\S.*?)(?: {2,}(\S.*))?", line)
         if begun and (not items or begun.start(1) < column):
             items.append([begun[1], begun[2] or ""])
-            # Where the text begins only on the next line, it stands further in than any term.
+            # Where the text begins only on the next line, it is further in than any term.
             column = begun.start(2) if begun[2] else 7
         else:
             items[-1][1] = (items[-1][1] + " " + line.strip()).strip()

@@ -26,7 +26,7 @@ def sections_of(crate, program):
 
 
 def items_of(page):
-    """The same of a page as it is shown: titles stand at the left, and a line seven columns in begins an item."""
+    """The same of a page as it is shown: titles are at the left, and a line seven columns in begins an item."""
     sections, items = {}, []
     for line in page.splitlines():
         if re.match(r" {7}\S", line):

@@ -1,6 +1,6 @@
 """Runs a command that takes long, and says on standard error how far it is: watch.py WHAT FILE COMMAND..
 
-WHAT stands in front of what it says, as `install: capnp_c`. What the command prints, on both streams, goes to FILE. The lines
+WHAT is in front of what it says, as `install: capnp_c`. What the command prints, on both streams, goes to FILE. The lines
 by which `rt` says how far a proof is are passed on. Where nothing was said for ten seconds at a terminal, or for a minute elsewhere,
 a line has the seconds so far. The status is the command's.
 """

@@ -29,7 +29,7 @@ class Calls(Values):
 
 class Course:
     """The calls on one builder, and what they have selected. A setter of a field in a group that is a member of a
-    union selects that, and clears nothing; the C++ library does so where it is told to select and to clear the group.
+    union selects that, and clears nothing; the C++ library does so by a call that selects and clears the group.
     So such a group is selected by a call, or, where nothing in its union was set before, by the setter."""
 
     def __init__(self, values, made):

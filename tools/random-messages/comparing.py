@@ -1,85 +1,101 @@
-"""Makes random schemas and messages, has two programs build these and say what they show, one by the types that
-the schema compiler makes and one by those of the C++ tool, and compares what they say.
-
-    comparing.py FOLDER MESSAGES SEED SCHEMAS [long]    FOLDER is a copy of the repository, which this may change;
-                                                        with `long` names have up to 60 letters"""
+"""What the words of tools/try-random share: the C++ tool, the schema compiler, programs of crates before any proof, and the comparison
+of what two programs say."""
 import os
-import random
+import re
 import subprocess
 import sys
-from concurrent.futures import ThreadPoolExecutor
+from pathlib import Path
 
-from calls import Calls
 from makers import Maker
-from peers import main_text, peer_text
-from programs import taken_names
-from running import fail, rt, run, write, write_types
-from schemas import PEER, fields
-from telling import Teller, roots
-from values import bytes_of
-
-HERE = os.path.dirname(os.path.abspath(__file__))
-LIBRARIES = ["-lcapnp-rpc", "-lcapnp", "-lkj-async", "-lkj"]
+from paths import taken_names
+from rattle import Rattle, roots
+from schemas import fields
 
 
-def take_schema(chance, folder, index, has_long_names, many=255):
-    """A schema that the C++ tool takes, which refuses some orders of groups and unions. The types in C++ are made. An enum
-    of the first has so many enumerants: Rattle takes no more than 255."""
+def fail(what):
+    sys.exit("try-random: %s" % what)
+
+
+def run(words, folder, stream=b""):
+    """What a program prints, which has to end well."""
+    done = subprocess.run(words, cwd=folder, input=stream, capture_output=True)
+    if done.returncode:
+        fail("%s ended: %s" % (" ".join(map(str, words[:4])), (done.stdout + done.stderr).decode(errors="replace")[-4000:]))
+    return done.stdout
+
+
+def tool(*words, stream=b"", folder=None):
+    """What the C++ tool prints, or None where it ends with another status than 0, or complains."""
+    environment = {**os.environ, "PWD": str(folder)} if folder else None
+    done = subprocess.run(["capnp", *map(str, words)], input=stream, capture_output=True, cwd=folder, env=environment)
+    return None if done.returncode or done.stderr else done.stdout
+
+
+def write(path, content):
+    path.parent.mkdir(parents=True, exist_ok=True)
+    if isinstance(content, str):
+        path.write_text(content)
+    else:
+        path.write_bytes(content)
+    return path
+
+
+def said(path):
+    return path.read_text(encoding="utf-8", errors="surrogateescape")
+
+
+def take_schema(chance, is_taken, *options):
+    """A random schema that the C++ tool takes, which rejects some orders of groups and unions."""
     while True:
-        schema = Maker(chance, True, has_long_names, many * (index == 0)).schema()
-        write("%s/schema%d.capnp" % (folder, index), schema.text(True))
-        write("%s/peer/schema%d.capnp" % (folder, index), schema.text(PEER, index))
-        done = subprocess.run(["capnp", "compile", "-oc++", "schema%d.capnp" % index], cwd=folder + "/peer",
-                              env={**os.environ, "PWD": folder + "/peer"}, capture_output=True)
-        if done.returncode == 0 and not done.stderr:
+        schema = Maker(chance, *options).schema()
+        if is_taken(schema):
             return schema
 
 
-def messages(chance, schemas, count):
-    """Descriptions of messages, each with its schema, its struct, and whether its text is compared."""
-    for index in range(count):
-        schema = index % len(schemas)
-        made = chance.choice(schemas[schema].structs)
-        values = Calls(chance)
-        root = values.root(made)
-        head = bytes([chance.randrange(2), schema, made.number])
-        yield head + bytes_of(("struct", made), root), schema, made, values.is_text_same
+class Copy:
+    """A copy of the repository, in which the words work: a schema's file is schemaN.capnp."""
+
+    def __init__(self, folder):
+        self.folder, self.made = folder, folder / "crates/made/src"
+
+    def rt(self, crate, stream, *words):
+        # The interpreter, which `rt try` asks first, reads no arguments.
+        run(["rt", "try", "--steps", "1", "--seconds", "3600", "--", *map(str, words)], self.folder / "crates" / crate, stream)
+
+    def write_types(self, count, to, *words):
+        """Has the schema compiler write what the words ask for of this many schemas: the program of COMPILER, where that is
+        set, or the one of the copy."""
+        request = run(["capnp", "compile", "-o-", *("schema%d.capnp" % index for index in range(count))], self.folder)
+        to.mkdir(parents=True)
+        if "COMPILER" in os.environ:
+            run([os.environ["COMPILER"], to, *words], self.folder, request)
+        else:
+            self.rt("capnpc_rattle", request, to, *words)
+
+    def said_by_types(self, schemas, description, words, *parts, options=()):
+        """What the program says that uses the types of the schema compiler; the parts are those of `Rattle.text`."""
+        here = Path(__file__).resolve().parent
+        for name, file in ("main", "program"), ("shown", "shown"), ("source", "source"):
+            write(self.made / (name + ".rt"), (here / file).read_text())
+        with open(self.folder / "crates.txt", "a") as file:
+            file.write("made: anyhow capnp capnp_frame capnp_orphans capnp_wire\n")
+        self.write_types(len(schemas), self.made / "schemas", *words)
+        taken = taken_names(self.folder / "crates/capnpc_rattle/src/reserved.rt")
+        write(self.made / "schemas.rt", roots(len(schemas)))
+        for index, schema in enumerate(schemas):
+            types = (self.made / "schemas" / ("schema%d_capnp.rt" % index)).read_text()
+            write(self.made / "schemas" / ("made_%d.rt" % index), Rattle(schema, taken, types).text(index, *parts))
+        self.rt("made", description, self.folder / "said", *options)
+        return said(self.folder / "said")
 
 
-def by_peer(folder, schemas, description):
-    """What the C++ program says, which leaves the messages, each after the numbers of its schema and its struct, and its
-    length, in `peer/messages`."""
-    peer = folder + "/peer"
-    write(peer + "/main.c++", main_text(len(schemas)))
-    write(peer + "/description", description)
-    for index, schema in enumerate(schemas):
-        write("%s/peer%d.c++" % (peer, index), peer_text(index, schema))
-    names = ["main", *(name % index for index in range(len(schemas)) for name in ("peer%d", "schema%d.capnp"))]
-    compiler = [os.environ.get("CXX", "g++"), "-std=c++17", "-O0", "-DNDEBUG", "-w", "-I" + HERE, "-I."]
-    with ThreadPoolExecutor(2) as threads:
-        list(threads.map(lambda name: run([*compiler, "-c", name + ".c++", "-o", name + ".o"], peer), names))
-    run([*compiler, "-o", "peer", *(name + ".o" for name in names), *LIBRARIES], peer)
-    run(["./peer", "description", "said", "messages"], peer)
-    return open(peer + "/said", encoding="utf-8", errors="surrogateescape").read()
-
-
-def by_types(folder, schemas, description):
-    """What the program says that uses the types of the schema compiler."""
-    sources = folder + "/crates/made/src"
-    write_types(folder, len(schemas), sources + "/schemas", "builders", "print")
-    taken = taken_names(folder + "/crates/capnpc_rattle/src/reserved.rt")
-    write(sources + "/schemas.rt", roots(len(schemas)))
-    for index, schema in enumerate(schemas):
-        module = "schema%d_capnp" % index
-        with open("%s/schemas/%s.rt" % (sources, module)) as file:
-            teller = Teller(schema, module, taken, file.read())
-        write("%s/schemas/making_%d.rt" % (sources, index), teller.text())
-    rt(folder, "made", description, folder + "/said")
-    return open(folder + "/said", encoding="utf-8", errors="surrogateescape").read()
+def parts_of(text):
+    """What is said of each schema's constants, and of each message."""
+    return [part.strip("\n") for part in re.split(r"^(?:schema|message)$", text, flags=re.M)[1:]]
 
 
 def difference(wanted, found, has_text):
-    """The first line that differs, with the one before it, or None."""
+    """The first line in which two parts differ, with the one before it."""
     lines = [part.split("\n") for part in (wanted, found)]
     for index in range(max(map(len, lines))):
         pair = [part[index] if index < len(part) else "nothing" for part in lines]
@@ -88,40 +104,22 @@ def difference(wanted, found, has_text):
     return None
 
 
-def compare(schemas, described, wanted, found):
-    """How many parts of what the programs say differ; the first ones are printed."""
-    names = ["the constants of schema%d.capnp" % index for index in range(len(schemas))]
-    names += ["message %d, a %s of schema%d.capnp" % (index, made.name, schema)
-              for index, (_, schema, made, _) in enumerate(described)]
-    has_text = [True] * len(schemas) + [is_text_same for _, _, _, is_text_same in described]
-    wanted, found = [text.replace("\nschema\n", "\nmessage\n").split("\nmessage\n")[1:] for text in (wanted, found)]
+def compare(names, wanted, found, has_text):
+    """How many parts of what two programs say differ; the first ones are printed."""
     if len(wanted) != len(names) or len(found) != len(names):
         fail("%d parts are wanted, C++ says %d, and the types %d" % (len(names), len(wanted), len(found)))
     different = 0
-    for name, *pair, told in zip(names, wanted, found, has_text):
-        line = difference(*pair, told)
+    for name, *pair, is_compared in zip(names, wanted, found, has_text):
+        line = difference(*pair, is_compared)
         different += line is not None
         if line and different < 10:
             print("%s, after %s\nwanted %s\nfound  %s" % (name, *(part[:300] for part in line)))
     return different
 
 
-def main():
-    folder, count, seed, schema_count = sys.argv[1], *map(int, sys.argv[2:5])
-    chance = random.Random(seed)
-    schemas = [take_schema(chance, folder, index, "long" in sys.argv[5:]) for index in range(schema_count)]
-    described = list(messages(chance, schemas, count))
-    description = b"".join(part for part, _, _, _ in described)
-    found = by_types(folder, schemas, description)
-    wanted = by_peer(folder, schemas, description)
-    different = compare(schemas, described, wanted, found)
+def end(word, count, schemas, more, different):
     structs = [made for schema in schemas for made in schema.structs]
-    print("compile-with-capnp: %d messages of %d schemas with %d structs, %d fields and %d constants, %d lines: %s" % (
-        count, schema_count, len(structs), sum(len(list(fields(made.members))) for made in structs),
-        sum(len(schema.constants) for schema in schemas), wanted.count("\n"),
-        "the same" if not different else "%d differ" % different))
+    print("try-random: %s: %d messages of %d schemas with %d structs and %d fields, %s: %s" % (
+        word, count, len(schemas), len(structs), sum(len(list(fields(made.members))) for made in structs), more,
+        "%d differ" % different if different else "the same"))
     sys.exit(1 if different else 0)
-
-
-if __name__ == "__main__":
-    main()

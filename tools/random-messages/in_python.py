@@ -17,10 +17,10 @@ from pathlib import Path
 from unittest.mock import ANY
 
 import linsjoar
+from comparing import tool
 from literals import Literals
 from makers import Maker
 from schemas import OPAQUE, Field
-from running import tool
 from values import steps_text
 
 NAMES = {math.inf: "Infinity", -math.inf: "-Infinity"}

@@ -11,8 +11,8 @@ class Literals(Values):
         self.left = 30
 
     def can_set(self, member):
-        held = [([], member)] if isinstance(member, Field) else fields(member.members)
-        return any(field.kind[0] not in ("interface", "any", "parameter") for _, field in held)
+        inner = [([], member)] if isinstance(member, Field) else fields(member.members)
+        return any(field.kind[0] not in ("interface", "any", "parameter") for _, field in inner)
 
     def struct(self, made, depth):
         self.left -= 1

@@ -84,7 +84,7 @@ def number_members(made, shuffle):
 
 
 class Maker:
-    """Makes one schema; with `many` it has what random ones seldom have, and an enum of so many enumerants. Of the struct
+    """Makes one schema; with `many` it has what random ones seldom have, and an enum of that many enumerants. Of the struct
     that is made it has the names of fields and groups, of modules, and of setters, and how many fields are left to be
     made."""
 
@@ -233,7 +233,7 @@ class Maker:
         field.default_text = text_of(kind, field.default)
 
     def literal(self, kind):
-        """A value that stands in the schema."""
+        """A value as schemas have it."""
         return Literals(self.chance).value(kind, 2)
 
     def add_constants(self):
@@ -250,7 +250,7 @@ class Maker:
             self.add_constant([*made.scope, made] if made else [], kind, text_of(kind, self.literal(kind)))
 
     def add_constant(self, scope, kind, text):
-        held = scope[-1].constants if scope else []
+        constants = scope[-1].constants if scope else []
         made = Constant("constant%d" % len(self.constants), scope, kind, text, len(self.constants))
-        held.append(made)
+        constants.append(made)
         self.constants.append(made)

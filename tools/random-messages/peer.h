@@ -1,6 +1,5 @@
-// What the C++ programs of tools/compile-with-capnp and tools/c-with-capnp share: descriptions of messages that are read
-// from the front, as tools/random-messages/source reads them, and what is said of messages, as text
-// (tools/random-messages/shown).
+// What the C++ programs share: descriptions of messages that are read from the front, as `source` reads them, and what is
+// said of messages, as text, as by `shown`.
 #pragma once
 #include <capnp/any.h>
 #include <capnp/message.h>
@@ -96,7 +95,7 @@ auto show(Shown& shown, uint32_t depth, List list) -> decltype(list.begin(), lis
     shown.word("]");
 }
 
-// Of an any pointer that leads to a `T`, if it is not null.
+// Of an any pointer to a `T`, if it is not null.
 template <typename T>
 void showAny(Shown& shown, uint32_t depth, capnp::AnyPointer::Reader pointer) {
     if (pointer.isNull()) return shown.word("null");
@@ -144,7 +143,7 @@ capnp::Orphan<capnp::List<T>> pointersOf(Source& source, capnp::Orphanage object
 
 // Says what the root of a message shows, its text and its canonical form.
 template <typename Reader>
-void tellRoot(Shown& shown, uint32_t depth, uint32_t most, Reader root) {
+void sayRoot(Shown& shown, uint32_t depth, uint32_t most, Reader root) {
     shown.field("canonical");
     auto words = capnp::canonicalize(root);
     shown.bytes(words.asBytes().begin(), words.asBytes().size());
@@ -156,24 +155,24 @@ void tellRoot(Shown& shown, uint32_t depth, uint32_t most, Reader root) {
 }
 
 // Builds a message, and says what its builder and its reader show.
-template <typename T, typename Make, typename Hold>
-void tell(Source& source, Shown& shown, uint32_t depth, uint32_t most, Make make, Hold hold) {
+template <typename T, typename Make, typename Keep>
+void say(Source& source, Shown& shown, uint32_t depth, uint32_t most, Make make, Keep keep) {
     capnp::MallocMessageBuilder message(256, capnp::AllocationStrategy::FIXED_SIZE);
     {
         auto root = make(source, message.getOrphanage());
-        hold(shown, root.get());
+        keep(shown, root.get());
         message.adoptRoot(kj::mv(root));
     }
     shown.message(message);
-    tellRoot(shown, depth, most, message.getRoot<T>().asReader());
+    sayRoot(shown, depth, most, message.getRoot<T>().asReader());
 }
 
 // Says what the reader of a message shows that another program built.
 template <typename T>
-void tellBuilt(Source& source, Shown& shown, uint32_t depth, uint32_t most) {
+void sayBuilt(Source& source, Shown& shown, uint32_t depth, uint32_t most) {
     auto count = source.number<uint64_t>();
     auto words = kj::heapArray<capnp::word>(count / sizeof(capnp::word));
     std::memcpy(words.begin(), source.take(count), count);
     capnp::FlatArrayMessageReader message(words, {1ull << 40, 64});
-    tellRoot(shown, depth, most, message.getRoot<T>());
+    sayRoot(shown, depth, most, message.getRoot<T>());
 }

@@ -7,7 +7,7 @@ A type is a pair of what it is and of what it is of:
     ("text", None), ("data", None)
     ("list", type)
     ("struct", Struct)
-    ("any", type)           any pointer, which leads to an object of that type
+    ("any", type)           any pointer, which points to an object of that type
     ("parameter", type)     the parameter of its struct, which stands for that type wherever the struct is used
     ("interface", None)     no such field is ever set
 
@@ -42,7 +42,7 @@ class Field:
 
 
 class Group:
-    """A group, or a union: one without a name stands right in its struct or group."""
+    """A group, or a union: one without a name is right in its struct or group."""
 
     def __init__(self, name, is_union, members):
         self.name, self.is_union, self.members, self.number = name, is_union, members, None
@@ -84,7 +84,7 @@ class Constant:
     def peer(self):
         return "constant%d" % self.number
 
-    def is_held(self):
+    def is_wrapped(self):
         """Whether it is a float for which the C++ tool 0.9.2 writes no code that can be compiled, or a `-0`, which is
         the integer 0 in C++."""
         return self.kind[1] in FLOATS and self.text in ("nan", "inf", "-inf", "-0.0")
@@ -92,6 +92,10 @@ class Constant:
 
 def snake(name):
     return re.sub(r"(?<!^)([A-Z])", r"_\1", name).lower()
+
+
+def capital(name):
+    return name[0].upper() + name[1:]
 
 
 def fields(members):
@@ -142,12 +146,12 @@ class Schema:
         self.constants = constants
 
     def text(self, mode, index=0):
-        """The schema, with any pointers (if OPAQUE or PEER, in the place of parameters, too), or with what they lead
+        """The schema, with any pointers (if OPAQUE or PEER, in the place of parameters, too), or with what they point
         to in their place; if PEER, of this index, in a namespace with it."""
         lines = ["@0x%016x;" % self.identity, "interface Called {}"]
         if mode == PEER:
             lines += ['using Cxx = import "/capnp/c++.capnp";', '$Cxx.namespace("schema%d");' % index]
-            lines += ["struct Held%s { value @0 : %s; }" % (name, name) for name in FLOATS]
+            lines += ["struct Wrapped%s { value @0 : %s; }" % (name, name) for name in FLOATS]
         lines += [enum_text(made, mode) for made in self.enums if not made.scope]
         for made in self.outer:
             lines += struct_lines(made, mode)
@@ -171,16 +175,16 @@ def enum_text(made, mode):
 
 
 def constant_text(made, mode):
-    if mode == PEER and made.is_held():
-        return "const %s : .Held%s = (value = %s);" % (made.peer(), made.kind[1], made.text)
+    if mode == PEER and made.is_wrapped():
+        return "const %s : .Wrapped%s = (value = %s);" % (made.peer(), made.kind[1], made.text)
     return "const %s : %s = %s;" % (name_in(made, mode), kind_text(made.kind, mode), made.text)
 
 
 def struct_lines(made, mode):
     inner = [enum_text(enum, mode) for enum in made.enums]
     inner += [constant_text(constant, mode) for constant in made.constants if mode != PEER]
-    for held in made.structs:
-        inner += struct_lines(held, mode)
+    for nested in made.structs:
+        inner += struct_lines(nested, mode)
     inner += member_lines(made.members, mode)
     parameter = "(Parameter)" if made.parameter and mode is True else ""
     return ["struct %s%s {%s" % (name_in(made, mode), parameter, COMMENT), *("  " + line for line in inner), "}"]

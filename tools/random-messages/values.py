@@ -46,17 +46,17 @@ def groups(members, around=(), in_union=False):
 
 def can_set(member):
     """Whether a member of a union can be made its member by a field's setter."""
-    held = [([], member)] if isinstance(member, Field) else fields(member.members)
-    return any(field.kind[0] != "interface" for _, field in held)
+    inner = [([], member)] if isinstance(member, Field) else fields(member.members)
+    return any(field.kind[0] != "interface" for _, field in inner)
 
 
 def has_union(group):
-    return group.is_union or any(isinstance(held, Group) and has_union(held) for held in group.members)
+    return group.is_union or any(isinstance(inner, Group) and has_union(inner) for inner in group.members)
 
 
 class Made(list):
     """The steps of a struct. It is built in one go, or (`way`) some calls are made on a builder that is written, read
-    as it stands (1) or as its canonical form (2), and made a builder again, on which the others are made. The first
+    as it is (1) or as its canonical form (2), and made a builder again, on which the others are made. The first
     builder may have other values in fields that are set later (`replaced`)."""
     way, first, replaced = 0, 0, ()
 
@@ -67,7 +67,7 @@ class Selected(list):
 
 
 class Implied(Selected):
-    """A group that a setter of one of its fields selects, where the C++ library has to be told to select it."""
+    """A group that a setter of one of its fields selects, where the C++ library selects it only by a call."""
     mark = 128
 
 
@@ -120,7 +120,7 @@ class Values:
             others = [member for member in members[1:] if isinstance(member, Field) or not has_union(member)]
             for member in others[:1]:
                 is_field = isinstance(member, Field)
-                value = self.value(member.kind, depth) if is_field else Selected(self.held(member, depth, odds))
+                value = self.value(member.kind, depth) if is_field else Selected(self.members_of(member, depth, odds))
                 chosen.append((member, value))
         return chosen
 
@@ -128,9 +128,9 @@ class Values:
         """What a member of a union is set to, a group by a field of it or by being selected."""
         if self.can_set(member) and (isinstance(member, Field) or self.chance.random() < 0.5):
             return self.chosen(member, depth, odds)
-        return Selected(self.held(member, depth, odds))
+        return Selected(self.members_of(member, depth, odds))
 
-    def held(self, group, depth, odds):
+    def members_of(self, group, depth, odds):
         """What a group that is selected is set to, if to anything."""
         if group.is_union:
             return self.union(group, depth, odds) if self.chance.random() < odds else []
@@ -143,9 +143,9 @@ class Values:
             return self.value(member.kind, depth)
         if member.is_union:
             return self.union(member, depth, odds)
-        members = [held for held in member.members if self.can_set(held)]
+        members = [inner for inner in member.members if self.can_set(inner)]
         first = self.chance.choice(members)
-        others = self.steps([held for held in member.members if held is not first], depth, odds)
+        others = self.steps([inner for inner in member.members if inner is not first], depth, odds)
         return [(first, self.chosen(first, depth, odds)), *others]
 
     def null_or(self, kind, depth):
