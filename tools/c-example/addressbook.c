@@ -28,7 +28,7 @@ static void copy_phones(const struct Person_reader *person, struct Person_draft 
     Person_set_phones(draft, list);
 }
 
-static struct Person_draft copy_person(struct Person_reader person) {
+static void copy_person(struct Person_reader person, struct Person_drafts *pushed) {
     struct Person_draft draft = Person_new();
     Person_set_id(&draft, Person_get_id(&person));
     expect(Person_copy_name(&person, &message, &draft));
@@ -41,7 +41,7 @@ static struct Person_draft copy_person(struct Person_reader person) {
         expect(Person_employment_copy_school(&person, &message, &draft));
     else if (Person_employment_which(&person) == Person_employment_which_selfEmployed)
         Person_employment_set_selfEmployed(&draft);
-    return draft;
+    expect(Person_push(&message, pushed, &draft));
 }
 
 int main(void) {
@@ -55,10 +55,8 @@ int main(void) {
     expect(AddressBook_root(bytes, len, &reader, &book));
     expect(AddressBook_get_people(&book, &people));
     expect(linsjoar_message_begin(&message, NULL, 0, linsjoar_heap));
-    for (uint32_t i = 0; i < Person_list_len(&people); i++) {
-        struct Person_draft draft = copy_person(Person_list_get(&people, i));
-        expect(Person_push(&message, &pushed, &draft));
-    }
+    for (uint32_t i = 0; i < Person_list_len(&people); i++)
+        copy_person(Person_list_get(&people, i), &pushed);
     if (AddressBook_has_people(&book)) {
         expect(Person_add_drafts(&message, &pushed, &list));
         AddressBook_set_people(&copy, list);

@@ -4,48 +4,78 @@
 //   node --experimental-wasm-memory64 addressbook.js LINSJOAR.WASM < FRAMED > BUILT
 "use strict";
 const fs = require("fs");
-const { NULL, STRUCTS, callsOf, numberIn, countOf, bytesOf } = require("./linsjoar.js");
+const { accept, load, numberOf, bytesOf } = require("./linsjoar.js");
 
-const message = fs.readFileSync(0);
-const { call, read, build, built } = callsOf(process.argv[2], message);
+const BUFFER_NOT_LARGE_ENOUGH = 2;
+const STRUCTS = 7;
+const { attempt, call } = load(process.argv[2]);
+const message = new Uint8Array(fs.readFileSync(0));
+const [reader, builder] = [new Uint8Array(1024), new Uint8Array(8)];
+let region = new Uint8Array(16);
+
+// What a call writes, of these sizes in bytes: 8 is a number, else it is a struct.
+function read(name, given, ...sizes) {
+  const written = sizes.map((size) => new Uint8Array(size));
+  call(name, ...given, ...written);
+  return written.map((bytes) => (bytes.length === 8 ? numberOf(bytes) : bytes));
+}
+
+const follow = (name, given, ...sizes) => read(name, [message, BigInt(message.length), reader, ...given], ...sizes);
+
+// What a call that builds writes, a number. Where the region is full, a larger one begins with the same bytes.
+function build(name, ...given) {
+  const written = new Uint8Array(8);
+  const error = attempt(name, builder, region, BigInt(region.length), ...given, written);
+  if (error !== BUFFER_NOT_LARGE_ENOUGH) {
+    accept(error);
+    return numberOf(written);
+  }
+  const larger = new Uint8Array(2 * region.length);
+  larger.set(region);
+  region = larger;
+  return build(name, ...given);
+}
+
+// A number of a struct, of this size; 0n past the struct's data.
+function numberIn(fields, index, size) {
+  const start = Number(numberOf(fields.subarray(0, 8)));
+  const end = start + Number(numberOf(fields.subarray(8, 16)));
+  return numberOf(message.subarray(start + index * size, Math.min(start + (index + 1) * size, end)));
+}
 
 // A pointer of a struct; undefined for null.
 function pointerOf(fields, index) {
-  const [pointer] = call("struct_pointer", fields, index);
-  const [kind] = read("kind", pointer);
-  return kind === NULL ? undefined : pointer;
+  const [pointer] = read("struct_pointer", [fields, index], 24);
+  const [kind] = follow("kind", [pointer], 8, 8);
+  return kind === 0n ? undefined : pointer;
 }
 
 // What a struct points to is added before it. These return the orphan of what they add, a number; 0n is null.
 function addText(fields, index) {
   const pointer = pointerOf(fields, index);
   if (pointer === undefined) return 0n;
-  const [start, length] = read("text", pointer);
-  const [orphan] = build("add_text", message.subarray(Number(start), Number(start + length)), length);
-  return orphan;
+  const [start, length] = follow("text", [pointer], 8, 8);
+  return build("add_text", message.slice(Number(start), Number(start + length)), length);
 }
 
 function addStructs(fields, index, wordsOf, dataWords, pointers) {
   const pointer = pointerOf(fields, index);
   if (pointer === undefined) return 0n;
-  const [list] = read("list", pointer, STRUCTS);
-  const count = countOf(list);
+  const [list] = follow("list", [pointer, STRUCTS], 48);
+  const count = Number(numberOf(list.subarray(32, 36)));
   const words = [];
-  for (let i = 0; i < count; i++) words.push(...wordsOf(...call("list_struct", list, i)));
-  const [orphan] = build("add_structs", bytesOf(words), BigInt(words.length), BigInt(count), dataWords, pointers);
-  return orphan;
+  for (let i = 0; i < count; i++) words.push(...wordsOf(...read("list_struct", [list, i], 48)));
+  return build("add_structs", bytesOf(words), BigInt(words.length), BigInt(count), dataWords, pointers);
 }
 
 // A struct's words are its data, and then its orphans.
-function wordsOfPhone(phone) {
-  return [numberIn(message, phone, 0, 2), addText(phone, 0)];
-}
+const wordsOfPhone = (phone) => [numberIn(phone, 0, 2), addText(phone, 0)];
 
 function wordsOfPerson(person) {
-  const employment = numberIn(message, person, 2, 2);
+  const employment = numberIn(person, 2, 2);
   const hasPlace = employment === 1n || employment === 2n;
   return [
-    numberIn(message, person, 0, 4) | (employment << 32n),
+    numberIn(person, 0, 4) | (employment << 32n),
     addText(person, 0),
     addText(person, 1),
     addStructs(person, 2, wordsOfPhone, 1, 1),
@@ -53,10 +83,11 @@ function wordsOfPerson(person) {
   ];
 }
 
-const [root] = read("root");
-const [book] = read("struct", root);
+call("open", message, BigInt(message.length), reader);
+call("begin", builder, region, BigInt(region.length));
+const [root] = follow("root", [], 24);
+const [book] = follow("struct", [root], 48);
 const people = addStructs(book, 0, wordsOfPerson, 1, 4);
-const [orphan] = build("add_struct", bytesOf([]), 0n, bytesOf([people]), 1n);
-build("set_root", orphan);
-const [length] = build("finish");
-process.stdout.write(built(length));
+const orphan = build("add_struct", bytesOf([]), 0n, bytesOf([people]), 1n);
+call("set_root", builder, region, BigInt(region.length), orphan);
+process.stdout.write(region.subarray(0, Number(build("finish"))));

@@ -5,13 +5,8 @@
 
 #include <stdio.h>
 
-#define EXPECT(is_so)                                                        \
-    do                                                                       \
-        if (!(is_so)) {                                                      \
-            fprintf(stderr, "made: line %d is not so: %s\n", __LINE__, #is_so); \
-            exit(1);                                                         \
-        }                                                                    \
-    while (0)
+#define EXPECT(is_so) ((is_so) ? (void)0 : exit(fprintf(stderr, "made: line %d is not so: %s\n", __LINE__, #is_so)))
+#define OK(call) EXPECT((call) == LINSJOAR_OK)
 
 static struct linsjoar_message message;
 
@@ -21,7 +16,7 @@ static void *grow(void *region, size_t room) { return room > most ? NULL : linsj
 
 static struct linsjoar_text_orphan add(const char *text) {
     struct linsjoar_text_orphan orphan;
-    EXPECT(linsjoar_add_string(&message, text, &orphan) == LINSJOAR_OK);
+    OK(linsjoar_add_string(&message, text, &orphan));
     return orphan;
 }
 
@@ -44,16 +39,14 @@ static struct Point_list_orphan push_points(int32_t count) {
         Point_set_x(&point, i);
         Point_set_y(&point, -i);
         (void)add("a text between the points");
-        EXPECT(Point_push(&message, &points, &point) == LINSJOAR_OK);
+        OK(Point_push(&message, &points, &point));
     }
-    if (count > 0) {
-        struct Point_draft point = Point_new();
-        EXPECT(Point_push(&message, &others, &point) == LINSJOAR_OK);
-        EXPECT(Point_push(&message, &points, &point) == LINSJOAR_INVALID_ARGUMENT);
-        EXPECT(Point_add_drafts(&message, &points, &list) == LINSJOAR_INVALID_ARGUMENT);
-        EXPECT(Point_add_drafts(&message, &others, &list) == LINSJOAR_OK);
-    }
-    EXPECT(Point_add_drafts(&message, &points, &list) == LINSJOAR_OK);
+    struct Point_draft point = Point_new();
+    OK(Point_push(&message, &others, &point));
+    EXPECT(Point_push(&message, &points, &point) == LINSJOAR_INVALID_ARGUMENT);
+    EXPECT(Point_add_drafts(&message, &points, &list) == LINSJOAR_INVALID_ARGUMENT);
+    OK(Point_add_drafts(&message, &others, &list));
+    OK(Point_add_drafts(&message, &points, &list));
     return list;
 }
 
@@ -62,13 +55,13 @@ static size_t build_sample(void) {
     struct Sample_draft sample = Sample_new();
     struct linsjoar_u32_list_orphan list;
     size_t len;
-    EXPECT(linsjoar_u32_add_list(&message, numbers, 3, &list) == LINSJOAR_OK);
+    OK(linsjoar_u32_add_list(&message, numbers, 3, &list));
     Sample_set_numbers(&sample, list);
     Sample_set_points(&sample, push_points(1000));
     Sample_set_title(&sample, add("a title"));
     Sample_set_color_number(&sample, 700);
     EXPECT(Sample_draft_get_balance(&sample) == -5 && Sample_draft_get_color(&sample) == Color_notInSchema);
-    EXPECT(Sample_finish(&message, &sample, &len) == LINSJOAR_OK);
+    OK(Sample_finish(&message, &sample, &len));
     return len;
 }
 
@@ -78,19 +71,22 @@ static void expect_sample(const struct Sample_reader *sample) {
     struct linsjoar_text_reader text;
     struct linsjoar_struct_reader fields;
     uint64_t number;
-    EXPECT(Sample_get_points(sample, &points) == LINSJOAR_OK && Point_list_len(&points) == 1000);
+    OK(Sample_get_points(sample, &points));
+    EXPECT(Point_list_len(&points) == 1000);
     for (uint32_t i = 0; i < 1000; i++) {
         struct Point_reader point = Point_list_get(&points, i);
         EXPECT(Point_get_x(&point) == (int32_t)i && Point_get_y(&point) == -(int32_t)i);
     }
     struct Point_reader past = Point_list_get(&points, 1000);
     EXPECT(Point_get_x(&past) == 0);
-    EXPECT(Sample_get_numbers(sample, &numbers) == LINSJOAR_OK && linsjoar_u32_list_get(&numbers, 2) == 3);
+    OK(Sample_get_numbers(sample, &numbers));
+    EXPECT(linsjoar_u32_list_get(&numbers, 2) == 3);
     EXPECT(linsjoar_list_get_text(&numbers.elements, 0, &text) == LINSJOAR_INVALID_ARGUMENT);
     EXPECT(linsjoar_list_get_struct(&numbers.elements, 0, &fields) == LINSJOAR_INVALID_ARGUMENT);
     EXPECT(linsjoar_list_get_number(&points.elements, 0, &number) == LINSJOAR_INVALID_ARGUMENT);
     EXPECT(Sample_get_color(sample) == Color_notInSchema && Sample_get_color_number(sample) == 700);
-    EXPECT(Sample_get_title(sample, &text) == LINSJOAR_OK && strcmp(text.bytes, "a title") == 0);
+    OK(Sample_get_title(sample, &text));
+    EXPECT(strcmp(text.bytes, "a title") == 0);
 }
 
 static void try_copies(size_t len) {
@@ -98,15 +94,15 @@ static void try_copies(size_t len) {
     struct linsjoar_reader reader, other;
     struct Sample_reader sample;
     struct Sample_draft draft;
-    EXPECT(Sample_root(copied.region, len, &reader, &sample) == LINSJOAR_OK);
+    OK(Sample_root(copied.region, len, &reader, &sample));
     other = reader;
     sample = Sample_bind(sample, &other);
     expect_sample(&sample);
     EXPECT(other.words_left < reader.words_left);
-    EXPECT(linsjoar_message_begin(&message, NULL, 0, grow) == LINSJOAR_OK);
-    EXPECT(Sample_draft_of(&sample, &message, &draft) == LINSJOAR_OK);
-    EXPECT(Sample_finish(&message, &draft, &len) == LINSJOAR_OK);
-    EXPECT(Sample_root(message.region, len, &reader, &sample) == LINSJOAR_OK);
+    OK(linsjoar_message_begin(&message, NULL, 0, grow));
+    OK(Sample_draft_of(&sample, &message, &draft));
+    OK(Sample_finish(&message, &draft, &len));
+    OK(Sample_root(message.region, len, &reader, &sample));
     expect_sample(&sample);
     linsjoar_message_free(&copied);
 }
@@ -122,14 +118,14 @@ static void try_ends(void) {
         used = message.builder.used;
     EXPECT(linsjoar_add_string(&message, "a text", &text) == LINSJOAR_OUT_OF_MEMORY && text.word == 0);
     EXPECT(message.builder.used == used);
-    EXPECT(linsjoar_message_begin(&fixed, region, sizeof region, NULL) == LINSJOAR_OK);
-    EXPECT(linsjoar_add_string_with_len(&fixed, "a text of 23 bytes and more", 23, &text) == LINSJOAR_OK);
+    OK(linsjoar_message_begin(&fixed, region, sizeof region, NULL));
+    OK(linsjoar_add_string_with_len(&fixed, "a text of 23 bytes and more", 23, &text));
     EXPECT(linsjoar_add_string(&fixed, "", &text) == LINSJOAR_BUFFER_NOT_LARGE_ENOUGH);
 }
 
 int main(void) {
     try_unions();
-    EXPECT(linsjoar_message_begin(&message, NULL, 0, grow) == LINSJOAR_OK);
+    OK(linsjoar_message_begin(&message, NULL, 0, grow));
     try_copies(build_sample());
     try_ends();
     linsjoar_message_free(&message);

@@ -46,7 +46,15 @@ NEW = OLD.replace("green @1;", "green @1; blue @2;").replace(
     "b @1 :UInt8;", "b @1 :UInt8; c @2 :Text;").replace("other @1 :Void;", "other @1 :Void; third @2 :Void;").replace("tags @1", "z @2 :UInt64; note @3 :Text; tags @1")
 
 
-class Programs(unittest.TestCase):
+class Tests(unittest.TestCase):
+    @classmethod
+    def setUpClass(cls):
+        with tempfile.TemporaryDirectory() as folder:
+            for name, text in (("thing", OLD), ("new", NEW), ("user", USER)):
+                path = pathlib.Path(folder, name + ".capnp")
+                path.write_text(text)
+                setattr(cls, name, linsjoar.load(str(path)))
+
     def test_programs_of_the_page(self):
         page, schema = sys.argv[1:3]
         section = re.search(r"^## Python\n(.*?)^## ", pathlib.Path(page).read_text(), re.M | re.S)[1]
@@ -59,58 +67,45 @@ class Programs(unittest.TestCase):
                 done = subprocess.run([sys.executable, "-c", program], cwd=folder, input=given, capture_output=True, text=True, timeout=60)
                 self.assertEqual((done.stdout, done.stderr), (printed, ""))
 
-
-class Values(unittest.TestCase):
-    @classmethod
-    def setUpClass(cls):
-        with tempfile.TemporaryDirectory() as folder:
-            path = pathlib.Path(folder) / "thing.capnp"
-            path.write_text(NEW)
-            cls.new = linsjoar.load(str(path))
-            path.write_text(OLD)
-            cls.old = linsjoar.load(str(path))
-            path.with_name("user.capnp").write_text(USER)
-            cls.user = linsjoar.load(str(path.with_name("user.capnp")))
-
     def read_old(self, **values):
-        return self.old.Thing.read(self.new.Thing.new(**values).to_bytes())
+        return self.thing.Thing.read(self.new.Thing.new(**values).to_bytes())
 
     def test_unknown_numbers(self):
         thing = self.read_old(color="blue", weight=0.5)
         self.assertEqual((thing.color, thing.which, thing.to_dict()["which"]), (2, 2, 0))
         self.assertTrue(str(thing).startswith("(color = (2), "))
-        built = self.old.Thing.new(color=2)
+        built = self.thing.Thing.new(color=2)
         built.which = 2
         self.assertEqual((built.which, self.new.Thing.read(built.to_bytes()).which), (2, "weight"))
-        pick = self.old.Pick.read(self.new.Pick.new(c="x").to_bytes())
+        pick = self.thing.Pick.read(self.new.Pick.new(c="x").to_bytes())
         self.assertEqual((pick.which, pick.to_dict(), str(pick)), (2, {"which": 2}, "()"))
-        odd = self.old.Odd.read(self.new.Odd.new(third=None).to_bytes())
-        self.assertEqual((odd.which, odd.to_dict(), self.old.Odd.new(which="a").which_), (2, {}, "a"))
-        self.assertEqual(self.new.Pick.read(self.old.Pick.new(**pick.to_dict()).to_bytes()).to_dict(), {"c": None})
-        place = self.old.Box.new(value=self.old.Thing.new(color=77))
-        self.assertEqual(self.old.Box.read(place.to_bytes()).value.as_struct(self.old.Thing).color, 77)
+        odd = self.thing.Odd.read(self.new.Odd.new(third=None).to_bytes())
+        self.assertEqual((odd.which, odd.to_dict(), self.thing.Odd.new(which="a").which_), (2, {}, "a"))
+        self.assertEqual(self.new.Pick.read(self.thing.Pick.new(**pick.to_dict()).to_bytes()).to_dict(), {"c": None})
+        place = self.thing.Box.new(value=self.thing.Thing.new(color=77))
+        self.assertEqual(self.thing.Box.read(place.to_bytes()).value.as_struct(self.thing.Thing).color, 77)
 
     def test_newer_fields(self):
         thing = self.read_old(place={"x": 1, "z": 2**64 - 1, "note": "new"}, items=[{"label": "x"}, {"size": 2}])
         self.assertEqual(thing.place.to_dict(), {"x": 1})
-        again = self.new.Thing.read(self.old.Thing.new(place=thing.place, items=thing.items).to_bytes())
+        again = self.new.Thing.read(self.thing.Thing.new(place=thing.place, items=thing.items).to_bytes())
         self.assertEqual(again.place.to_dict(), {"x": 1, "z": 2**64 - 1, "note": "new"})
         self.assertEqual([item.which for item in again.items], ["label", "size"])
-        newer = self.new.Thing.read(self.old.Thing.new(place={"x": 1}).to_bytes())
+        newer = self.new.Thing.read(self.thing.Thing.new(place={"x": 1}).to_bytes())
         self.assertEqual(newer.place.to_dict(), {"x": 1, "z": 0})
 
     def test_text_that_is_not_utf_8(self):
-        data = self.old.Thing.new(items=[{}, {"name": "grün"}]).to_bytes().replace("ü".encode(), b"\xff\xff")
-        thing = self.old.Thing.read(data)
+        data = self.thing.Thing.new(items=[{}, {"name": "grün"}]).to_bytes().replace("ü".encode(), b"\xff\xff")
+        thing = self.thing.Thing.read(data)
         for call in (lambda: thing.items[1].name, thing.to_dict, lambda: str(thing)):
             with self.assertRaisesRegex(UnicodeDecodeError, r"items\[1\]\.name"):
                 call()
         self.assertEqual(thing.items[0].name, "thing")
 
     def test_errors_and_their_paths(self):
-        data = self.old.Thing.new(items=[{}, {"name": "abcdefg"}]).to_bytes().replace(b"abcdefg\0", b"abcdefgh")
+        data = self.thing.Thing.new(items=[{}, {"name": "abcdefg"}]).to_bytes().replace(b"abcdefg\0", b"abcdefgh")
         with self.assertRaises(linsjoar.Error) as caught:
-            self.old.Thing.read(data).to_dict()
+            self.thing.Thing.read(data).to_dict()
         self.assertEqual(str(caught.exception), "items[1].name: TextNotTerminated")
         self.assertEqual((caught.exception.number, caught.exception.name), (23, "TextNotTerminated"))
         for values, error, path in [({"x": 1}, KeyError, "x"), ({"items": [{"x": 1}]}, KeyError, r"items\[0\]\.x"), ({"name": 5}, TypeError, "name"),
@@ -118,29 +113,29 @@ class Values(unittest.TestCase):
                                     ({"size": 1, "none": None}, ValueError, "union"), ({"items": "ab"}, TypeError, "items"),
                                     ({"ratio": 1e300}, ValueError, "ratio"), ({"matrix": [[1], [256]]}, ValueError, r"matrix\[1\]\[0\]")]:
             with self.subTest(values), self.assertRaisesRegex(error, path):
-                self.old.Thing.new(**values)
+                self.thing.Thing.new(**values)
         thing = self.read_old(items=[{}], size=3)
         for error, call in [(IndexError, lambda: thing.items[1]), (AttributeError, lambda: thing.none), (AttributeError, lambda: thing.nothing),
-                            (AttributeError, lambda: setattr(thing, "size", 3)), (AttributeError, lambda: setattr(self.old.Thing.new(), "nothing", 3))]:
+                            (AttributeError, lambda: setattr(thing, "size", 3)), (AttributeError, lambda: setattr(self.thing.Thing.new(), "nothing", 3))]:
             with self.subTest(error), self.assertRaises(error):
                 call()
 
     def test_defaults_names_and_constants(self):
-        thing = self.old.Thing.read(self.old.Thing.new().to_bytes())
+        thing = self.thing.Thing.read(self.thing.Thing.new().to_bytes())
         self.assertEqual((thing.color, thing.name, thing.from_, thing.which_, thing.ratio, thing.place.x), ("green", "thing", -5, 0, 0.5, 3))
         self.assertEqual((thing.place.tags, thing.which, list(thing.items), bool(thing.any)), (["a"], "none", [], False))
-        self.assertEqual((self.old.Thing.limit, self.old.Thing.start.x, self.old.Color.names), (500, 9, ("red", "green")))
-        self.assertLessEqual({"color", "from_", "which_", "which", "size"}, {*dir(thing)} & {*dir(self.old.Thing.new())})
-        thing = self.old.Thing.read(self.old.Thing.new(**{"from": 1, "which": 2, "color": "red", "ratio": 0.0, "place": {}}).to_bytes())
+        self.assertEqual((self.thing.Thing.limit, self.thing.Thing.start.x, self.thing.Color.names), (500, 9, ("red", "green")))
+        self.assertLessEqual({"color", "from_", "which_", "which", "size"}, {*dir(thing)} & {*dir(self.thing.Thing.new())})
+        thing = self.thing.Thing.read(self.thing.Thing.new(**{"from": 1, "which": 2, "color": "red", "ratio": 0.0, "place": {}}).to_bytes())
         self.assertEqual((thing.from_, thing.which_, thing.color, thing.ratio, thing.place.x), (1, 2, "red", 0.0, 0))
 
     def test_assigned(self):
-        thing = self.old.Thing.new()
+        thing = self.thing.Thing.new()
         thing.place.x = 4
         thing.items.append({"size": 4})
         thing.size = 1
         thing.matrix = [[1, 2], b"\3"]
-        read = self.old.Thing.read(thing.to_bytes())
+        read = self.thing.Thing.read(thing.to_bytes())
         self.assertEqual((read.place.to_dict(), read.items[0].size, read.size), ({"x": 4, "tags": ["a"]}, 4, 1))
         self.assertEqual((read.matrix, read.matrix[1:], read.matrix[-1][0]), ([[1, 2], [3]], [[3]], 3))
         with self.assertRaises(ValueError):
@@ -148,13 +143,13 @@ class Values(unittest.TestCase):
         with self.assertRaises(KeyError):
             thing.which = "items"
         thing.which = "none"
-        self.assertEqual((thing.which, self.old.Thing.read(thing.to_bytes()).which), ("none", "none"))
+        self.assertEqual((thing.which, self.thing.Thing.read(thing.to_bytes()).which), ("none", "none"))
 
     def test_generics(self):
         thing = self.read_old(texts={"value": "a", "boxes": [{"value": "b"}], "inner": {"of": "c"}}, open={"value": b"data", "inner": {"of": "d"}}, any="e")
         self.assertEqual((thing.texts.value, thing.texts.boxes[0].value, thing.texts.inner.of), ("a", "b", "c"))
         self.assertEqual((thing.open.value.as_data(), thing.open.inner.of.as_text(), thing.any.as_text()), (b"data", "d", "e"))
-        again = self.old.Thing.read(self.old.Thing.new(any=thing.matrix, **{"open": {"value": thing.any}}).to_bytes())
+        again = self.thing.Thing.read(self.thing.Thing.new(any=thing.matrix, **{"open": {"value": thing.any}}).to_bytes())
         self.assertEqual((again.open.value.as_text(), again.any.as_list("Text")), ("e", []))
 
     def test_imports(self):
@@ -162,21 +157,21 @@ class Values(unittest.TestCase):
         self.assertEqual((user.place.x, user.color, user.box.value.tags, hasattr(self.user, "Place")), (1, "green", ["a"], False))
 
     def test_limits(self):
-        data = self.old.Thing.new(name="x" * 800).to_bytes()
-        thing = self.old.Thing.read(data, traversal_limit_in_words=250)
+        data = self.thing.Thing.new(name="x" * 800).to_bytes()
+        thing = self.thing.Thing.read(data, traversal_limit_in_words=250)
         self.assertEqual(len(thing.name) + len(thing.name), 1600)
         with self.assertRaisesRegex(linsjoar.Error, "name: ReadLimitExceeded"):
             thing.name
         thing.renew()
         self.assertEqual(len(thing.name), 800)
         with self.assertRaisesRegex(linsjoar.Error, "MessageTooLarge"):
-            self.old.Thing.read(data, traversal_limit_in_words=20)
+            self.thing.Thing.read(data, traversal_limit_in_words=20)
         with self.assertRaisesRegex(linsjoar.Error, "NestingLimitExceeded"):
-            self.old.Thing.read(data, nesting_limit=1).name
+            self.thing.Thing.read(data, nesting_limit=1).name
 
     def test_streams(self):
-        things = [self.old.Thing.new(name="x" * size) for size in (0, 1, 100000, 7)]
-        for write, read in (("to_bytes", self.old.Thing.read_all), ("to_packed", self.old.Thing.read_all_packed)):
+        things = [self.thing.Thing.new(name="x" * size) for size in (0, 1, 100000, 7)]
+        for write, read in (("to_bytes", self.thing.Thing.read_all), ("to_packed", self.thing.Thing.read_all_packed)):
             data = b"".join(getattr(thing, write)() for thing in things)
             source, sink = os.pipe()
             with open(source, "rb") as file, open(sink, "wb") as end:

@@ -1,43 +1,28 @@
-// Packs a framed message, unpacks it again and steps over it, by crates/capnp_c as WebAssembly.
+// Packs a framed message, unpacks it again and steps over it, by crates/capnp_c as WebAssembly, and prints one line.
 //
 //   node --experimental-wasm-memory64 wasm.js LINSJOAR.WASM FRAMED [PACKED]
 //
-// It reads the message from the file FRAMED, writes the packed text to the file PACKED where one is
-// named, and prints one line. The status is 1 where what is unpacked differs, else the number of an
-// error, 0 without one. The flag lets node 20 have a memory of 64 bits.
+// The packed bytes are written to the file PACKED where one is named. The status is 1 where what is unpacked differs, else the
+// number of an error, 0 without one.
 "use strict";
 const fs = require("fs");
-const { load, accept } = require("./module.js");
-
-// Of n words a packed text has at most 10 n bytes.
-const MOST_PACKED = 10 / 8;
+const { load, numberOf } = require("./linsjoar.js");
 
 const [modulePath, framedPath, packedPath] = process.argv.slice(2);
-const { library, newBlock, bytesAt, sizeAt } = load(modulePath);
+const { call } = load(modulePath);
+const framed = new Uint8Array(fs.readFileSync(framedPath));
+const length = BigInt(framed.length);
+// Of n words the packed bytes are at most 10 n.
+const packed = new Uint8Array(Math.ceil((framed.length * 10) / 8));
+const unpacked = new Uint8Array(framed.length);
+const [packedLength, unpackedLength, read, step] = [8, 8, 8, 8].map((size) => new Uint8Array(size));
 
-const message = fs.readFileSync(framedPath);
-const packedRoom = Math.ceil(message.length * MOST_PACKED);
-const framed = newBlock(message.length);
-const packed = newBlock(packedRoom);
-const unpacked = newBlock(message.length);
-const sizes = newBlock(16);
-bytesAt(framed, message.length).set(message);
+call("pack_message", framed, length, packed, BigInt(packed.length), packedLength);
+if (packedPath !== undefined) fs.writeFileSync(packedPath, packed.subarray(0, Number(numberOf(packedLength))));
+call("unpack_message", packed, numberOf(packedLength), unpacked, length, unpackedLength, read);
+call("next_message", framed, length, step);
 
-accept(library.linsjoar_pack_message(framed, BigInt(message.length), packed, BigInt(packedRoom), sizes));
-const packedLength = sizeAt(sizes);
-if (packedPath !== undefined) fs.writeFileSync(packedPath, bytesAt(packed, packedLength));
-
-accept(
-  library.linsjoar_unpack_message(
-    packed, BigInt(packedLength), unpacked, BigInt(message.length), sizes, sizes + 8n
-  )
-);
-const same = message.equals(bytesAt(unpacked, sizeAt(sizes))) && sizeAt(sizes + 8n) === packedLength;
-
-accept(library.linsjoar_next_message(framed, BigInt(message.length), sizes));
-const step = sizeAt(sizes);
-
-console.log(
-  `${message.length} bytes are packed to ${packedLength}, unpacked ${same ? "to the same" : "to others"}, and stepped over by ${step}`
-);
-if (!same) process.exitCode = 1;
+const same = Buffer.compare(framed, unpacked) === 0 && numberOf(unpackedLength) === length;
+const end = same && numberOf(read) === numberOf(packedLength) ? "to the same" : "to others";
+console.log(`${length} bytes are packed to ${numberOf(packedLength)}, unpacked ${end}, and stepped over by ${numberOf(step)}`);
+if (end === "to others") process.exitCode = 1;

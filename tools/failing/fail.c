@@ -10,7 +10,7 @@
 void *__libc_malloc(size_t);
 void *__libc_realloc(void *, size_t);
 
-static uintptr_t first, behind;
+static uintptr_t first, limit;
 static unsigned long calls, failed;
 
 // The program itself comes first.
@@ -20,21 +20,19 @@ static int note(struct dl_phdr_info *info, size_t size, void *data) {
         const ElfW(Phdr) *part = &info->dlpi_phdr[i];
         if (part->p_type == PT_LOAD && part->p_flags & PF_X) {
             first = info->dlpi_addr + part->p_vaddr;
-            behind = first + part->p_memsz;
+            limit = first + part->p_memsz;
         }
     }
     return 1;
 }
 
 __attribute__((constructor)) static void begin(void) {
-    const char *number = getenv("FAILED");
-    failed = number ? strtoul(number, NULL, 10) : 0;
+    failed = strtoul(getenv("FAILED"), NULL, 10);
     dl_iterate_phdr(note, NULL);
 }
 
 __attribute__((destructor)) static void end(void) {
-    const char *name = getenv("COUNTED");
-    FILE *file = name ? fopen(name, "w") : NULL;
+    FILE *file = fopen(getenv("COUNTED"), "w");
     if (file) {
         fprintf(file, "%lu\n", calls);
         fclose(file);
@@ -43,7 +41,7 @@ __attribute__((destructor)) static void end(void) {
 
 static int fails(void *caller) {
     uintptr_t at = (uintptr_t)caller;
-    return at >= first && at < behind && ++calls == failed;
+    return at >= first && at < limit && ++calls == failed;
 }
 
 void *malloc(size_t size) {

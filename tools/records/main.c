@@ -1,7 +1,7 @@
 /* Reads and builds records by the types that the schema compiler writes for C, as main.cc does in C++.
  *
- *   main read FRAMED, main texts FRAMED     prints a sum of what it reads
- *   main build COUNT FRAMED                 builds as many, twice in the same memory, and writes them */
+ *   main read FRAMED, main texts FRAMED                 prints a sum of what it reads
+ *   main build COUNT FRAMED, main grow COUNT FRAMED     builds as many twice, in one memory or in memory that grows, and writes them */
 #include "linsjoar_types.h"
 #include "records_capnp.h"
 
@@ -67,13 +67,15 @@ __attribute__((noinline)) static size_t measured_build(struct linsjoar_message *
     return len;
 }
 
-static int write_built(uint32_t count, const char *path) {
-    struct linsjoar_message message = {{0}, NULL, 0, 0, NULL};
+static int write_built(bool grows, uint32_t count, const char *path) {
+    struct linsjoar_message grown = {{0}, NULL, 0, 0, NULL}, used = {{0}, (uint8_t *)malloc(1 << 24), 1 << 24, 0, NULL};
+    struct linsjoar_message *message = grows ? &grown : &used;
     FILE *file = fopen(path, "wb");
-    size_t len;
-    (void)measured_build(&message, count);
-    len = measured_build(&message, count);
-    return file == NULL || fwrite(message.region, 1, len, file) != len || fclose(file) != 0;
+    size_t len = measured_build(message, count);
+    if (grows)
+        linsjoar_message_free(message);
+    len = measured_build(message, count);
+    return file == NULL || fwrite(message->region, 1, len, file) != len || fclose(file) != 0;
 }
 
 int main(int count, char **words) {
@@ -84,7 +86,7 @@ int main(int count, char **words) {
     FILE *file;
     size_t len;
     if (count > 3)
-        return write_built((uint32_t)atol(words[2]), words[3]);
+        return write_built(words[1][0] == 'g', (uint32_t)atol(words[2]), words[3]);
     if (count < 3 || (file = fopen(words[2], "rb")) == NULL)
         return 2;
     len = fread(bytes, 1, sizeof bytes, file);

@@ -42,7 +42,8 @@ int main(int count, char** words) {
     if (count > 3) {
         auto memory = kj::heapArray<capnp::word>(1 << 21);
         for (int i = 0; i < 2; i++) {
-            capnp::MallocMessageBuilder message(memory);
+            capnp::MallocMessageBuilder used(memory), grown;
+            auto& message = words[1][0] == 'g' ? grown : used;
             measured_build(message, uint32_t(atol(words[2])));
             if (i == 1) capnp::writeMessageToFd(file, message);
         }
