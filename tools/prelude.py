@@ -1,5 +1,6 @@
-"""What the tools in Python share: the top of the repository, its tracked files, and copies of these."""
+"""What the tools in Python share: the top of the repository, its tracked files, copies of these, and the messages of a stream."""
 import shutil
+import struct
 import subprocess
 from pathlib import Path
 
@@ -12,6 +13,12 @@ def tracked(*below, options=()):
     return [path for path in listed.split("\0") if path and (ROOT / path).is_file()]
 
 
+def crates():
+    """Each crate of crates.txt with those that it lists, lowest first."""
+    lines = [line.partition(":") for line in (ROOT / "crates.txt").read_text().splitlines() if ":" in line and line[0] != "#"]
+    return {head.split()[0]: names.split() for head, _, names in lines}
+
+
 def copy_tree(to, paths, crates=()):
     """Copies these files, and what checks here kept of these crates in out/."""
     for path in paths:
@@ -19,7 +26,8 @@ def copy_tree(to, paths, crates=()):
         shutil.copy2(ROOT / path, to / path)
     for name in crates:
         if (ROOT / "crates" / name / "out").is_dir():
-            shutil.copytree(ROOT / "crates" / name / "out", to / "crates" / name / "out", symlinks=True)
+            shutil.copytree(ROOT / "crates" / name / "out", to / "crates" / name / "out", symlinks=True,
+                            ignore=shutil.ignore_patterns("incremental"))
 
 
 def add_crate(to, line, main):
@@ -29,3 +37,14 @@ def add_crate(to, line, main):
     shutil.copy2(ROOT / main, source / "main.rt")
     with open(to / "crates.txt", "a") as file:
         file.write(line + "\n")
+
+
+def messages_of(stream):
+    """The framed messages of a stream."""
+    at = 0
+    while at < len(stream):
+        count = struct.unpack_from("<I", stream, at)[0] + 1
+        words = sum(struct.unpack_from(f"<{count}I", stream, at + 4))
+        end = at + (4 + 4 * count + 7) // 8 * 8 + 8 * words
+        yield stream[at:end]
+        at = end

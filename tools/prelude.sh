@@ -4,7 +4,9 @@
 #   libraries                            `capnp`, the crate that programs list, and all below it, each after those that it lists
 #   temporary NAME                       makes a folder that is removed in the end, and sets NAME to it
 #   copy_tree FOLDER [CRATE..]           copies the tracked files, as they stand in the working tree, and what checks here kept of
-#                                        these crates in out/, unless the folder has that already
+#                                        these crates in out/, but for out/incremental, unless the folder has that already
+#   take_proved CRATES                   copies what was proved here of the library's crates into these; what is of other sources is proved anew
+#   write_lib FOLDER WHAT                writes FOLDER/lib.rt, whose modules are the other files there
 #   add_crate FOLDER 'NAME: USED..' FILE..   adds a crate to such a copy: of the first file, which is `main`, and of further modules
 #   quietly SAID N COMMAND..             runs it, with all that it says in the file SAID; where it fails prints the last N lines, and ends
 #   say TEXT..                           says it on standard error, after the tool's name
@@ -39,9 +41,29 @@ copy_tree() {
     (cd "$root" && git ls-files -z | tar --null --files-from=- --create --file=-) | tar --extract --file=- --directory="$to"
     for name in "${@:2}"; do
         if [ -d "$root/crates/$name/out" ] && [ ! -d "$to/crates/$name/out" ]; then
-            cp -a "$root/crates/$name/out" "$to/crates/$name/out"
+            mkdir "$to/crates/$name/out"
+            tar --create --file=- --directory="$root/crates/$name/out" --exclude=./incremental . |
+                tar --extract --file=- --directory="$to/crates/$name/out"
         fi
     done
+}
+
+take_proved() {
+    local name
+    for name in "${libraries[@]}"; do
+        if [ -e "$root/crates/$name/out/rlib/stamp" ]; then
+            mkdir -p "$1/$name/out"
+            cp -a "$root/crates/$name/out/rlib" "$1/$name/out"
+        fi
+    done
+}
+
+write_lib() {
+    {
+        printf '//! %s\n#![tactic(auto)]\n\n' "$2"
+        (cd "$1" && ls -- *.rt) | sed 's/\(.*\)[.]rt/pub mod \1;/'
+    } > "$1/lib"
+    mv "$1/lib" "$1/lib.rt"
 }
 
 add_crate() {
