@@ -1,5 +1,8 @@
 -- Objects that are read in place, from C.
+pub mod SegmentsByGroupLemmas
+pub mod OpenedReaderLemmas
 pub mod SegmentByteRangeLemmas
+pub mod ObjectAfterLandingPadLemmas
 pub mod FollowedPointerResultLemmas
 pub mod EnteredObjectReadLemmas
 pub mod ListElementsInBytesLemmas

@@ -5,6 +5,7 @@ pub mod Packing
 pub mod Exports
 pub mod Sizes
 pub mod Parts
+pub mod Segments
 pub mod Reading
 pub mod Entering
 pub mod ReadingExports

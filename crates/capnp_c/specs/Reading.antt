@@ -1,30 +1,30 @@
 -- What C's structs mean (src/reading). Whatever the bytes are and whatever a reader says, its
--- message is one list of segments: the lengths are those that the table's fields spell, and what
--- lies past the bytes is cut off.
-use Rattle.std.specs.Prelude.{◌≡◌, ℕ, ◌+◌, ◌*◌, ◌/◌, ◌<◌, ◌≤◌, ◌⊎◌, ◌==◌, if◌then◌else◌, List, Option, Some, None, drop, take, length, map, sum}
+-- message is one list of segments.
+use Rattle.std.specs.Prelude.{◌≡◌, ℕ, ◌+◌, ◌/◌, ◌<◌, ◌≤◌, ◌⊎◌, ◌==◌, if◌then◌else◌, List, Option, Some, None, drop, take, length, map}
 use Rattle.std.specs.Simd.{first_chunks}
 use Rattle.capnp_frame.specs.declared.error.ErrorKind.{ErrorKind}
 use Rattle.capnp_frame.specs.declared.error.ErrorKind.TheVariants.{ReadLimitExceeded}
-use Rattle.capnp_frame.specs.Prelude.{table_size, declared_lengths, declared_segments}
+use Rattle.capnp_frame.specs.Prelude.{table_size}
 use Rattle.capnp_layout.specs.Prelude.{message_of, number_of, places, less, Within, Form, null, struct, numbers, pointers, structs}
 use Rattle.capnp_layout.specs.declared.place.Place.{Place}
 use Rattle.capnp_wire.specs.Prelude.{Pointer, Struct, Shows, Reads, IsStruct, IsText, IsData, IsInvalidPointer}
 use Rattle.capnp_c.specs.Options.{limit_of_number}
+use Rattle.capnp_c.specs.Segments.{segments_from}
 use Rattle.capnp_c.specs.declared.reading.place.LinsjoarPlace.{LinsjoarPlace}
 use Rattle.capnp_c.specs.declared.reading.reader.LinsjoarReader.{LinsjoarReader}
 use Rattle.capnp_c.specs.declared.reading.structs.LinsjoarStruct.{LinsjoarStruct}
-
--- how many bytes are before the segment at this index
-abbrev pub start_of : ℕ → List ℕ → ℕ → ℕ
-start_of count bytes index = table_size count + 8 * sum (declared_lengths index bytes)
 
 -- the bytes have room for a table of as many segments as the reader says
 abbrev pub HasTableOf : LinsjoarReader → List ℕ → Type 0
 HasTableOf reader bytes = (0 < reader.segments) × (reader.segments < 512) × (table_size reader.segments ≤ length bytes)
 
--- the message of a reader in these bytes
+-- the segments of a reader's message in these bytes
+abbrev pub segments_in : LinsjoarReader → List ℕ → List (List ℕ)
+segments_in reader bytes = segments_from reader.begins reader.segments bytes
+
+-- the message
 abbrev pub message_in : LinsjoarReader → List ℕ → List (List ℕ)
-message_in reader bytes = message_of (declared_segments reader.segments bytes)
+message_in reader bytes = message_of (segments_in reader bytes)
 
 -- the place that C keeps; a flag of 0 says that no pointer is there
 abbrev pub place_of : LinsjoarPlace → Option Place

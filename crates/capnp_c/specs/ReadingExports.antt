@@ -1,13 +1,14 @@
 -- What the exports that read a message in place return and write (src/reading).
-use Rattle.std.specs.Prelude.{◌≡◌, ℕ, ◌+◌, ◌<◌, ◌≤◌, ◌^◌, ◌⊎◌, ⊤, pos, List, Option, Some, length}
+use Rattle.std.specs.Prelude.{◌≡◌, ℕ, ◌+◌, ◌<◌, ◌≤◌, ◌^◌, ◌⊎◌, ⊤, pos, List, Option, Some, length, replicate}
 use Rattle.capnp_frame.specs.declared.error.ErrorKind.{ErrorKind}
 use Rattle.capnp_frame.specs.declared.message.options.ReaderOptions.{ReaderOptions}
-use Rattle.capnp_frame.specs.Prelude.{kind_number, declared_segments}
+use Rattle.capnp_frame.specs.Prelude.{kind_number}
 use Rattle.capnp_layout.specs.Prelude.{Form, root, word_at, NoWord}
 use Rattle.capnp_wire.specs.Prelude.{Pointer, Shows, IsInvalidPointer, pointer_in}
 use Rattle.capnp_c.specs.Fronts.{IsAtFront, MessageError, root_within}
 use Rattle.capnp_c.specs.Options.{limit_of_number}
-use Rattle.capnp_c.specs.Reading.{HasTableOf, message_in, pointer_by, pointer_read, struct_by, TakesOff, ReadError, IsReadable, HasKind}
+use Rattle.capnp_c.specs.Segments.{group_begins}
+use Rattle.capnp_c.specs.Reading.{HasTableOf, segments_in, message_in, pointer_by, pointer_read, struct_by, TakesOff, ReadError, IsReadable, HasKind}
 use Rattle.capnp_c.specs.declared.reading.place.LinsjoarPlace.{LinsjoarPlace}
 use Rattle.capnp_c.specs.declared.reading.reader.LinsjoarReader.{LinsjoarReader}
 use Rattle.capnp_c.specs.declared.reading.structs.LinsjoarStruct.{LinsjoarStruct}
@@ -22,14 +23,15 @@ pub record IsReaderOf (options : ReaderOptions) (bytes : List ℕ) (reader : Lin
   pub rest : List ℕ
   pub front : IsAtFront options bytes segments rest
   pub table : HasTableOf reader bytes
-  pub segments_are : declared_segments reader.segments bytes ≡ segments
+  pub segments_are : segments_in reader bytes ≡ segments
+  pub begins : reader.begins ≡ group_begins reader.segments bytes
   pub len : reader.message_len + length rest ≡ length bytes
   pub limit : limit_of_number reader.words_left ≡ options.traversal_limit_in_words
   pub nesting : reader.nesting_limit ≡ options.nesting_limit
 
 -- the reader of no message
 abbrev pub no_reader : LinsjoarReader
-no_reader = record { message_len = 0; words_left = 0; segments = 0; nesting_limit = pos 0 }
+no_reader = record { message_len = 0; words_left = 0; segments = 0; nesting_limit = pos 0; begins = replicate 31 0 }
 
 -- A message is opened.
 pub record OpensMessage (options : ReaderOptions) (bytes : List ℕ) (reader : LinsjoarReader) (result : ℕ) : Type 0 where
@@ -43,7 +45,7 @@ pub record OpensMessage (options : ReaderOptions) (bytes : List ℕ) (reader : L
 pub record FindsRoot (reader : LinsjoarReader) (bytes : List ℕ) (place : LinsjoarPlace) (result : ℕ) : Type 0 where
   pub no_table : (HasTableOf reader bytes → ⊥) → result ≡ 27
   pub found : result ≡ 0 → HasTableOf reader bytes × ((limit : Option ℕ) →
-      pointer_by (message_in reader bytes) limit place ≡ root_within reader.nesting_limit limit (declared_segments reader.segments bytes))
+      pointer_by (message_in reader bytes) limit place ≡ root_within reader.nesting_limit limit (segments_in reader bytes))
   pub accepted : HasTableOf reader bytes → (word : ℕ) → word_at (message_in reader bytes) root ≡ Some word → result ≡ 0
   pub errors : HasTableOf reader bytes → (kind : ErrorKind) → NoWord (message_in reader bytes) root kind → result ≡ kind_number kind
   pub stays : 0 < result → place ≡ no_place

@@ -11,5 +11,3 @@ mod builder;
 mod copies;
 mod lists;
 mod structs;
-#[cfg(test)]
-mod tests;

@@ -8,9 +8,6 @@ ghost use Rattle.capnp_c.specs.Parts.{IsFirstGroup, FindsGroups, UnpacksPart, Is
 use crate::packed::unpack_from;
 use capnp_frame::{Error, ErrorKind, Result};
 
-#[cfg(test)]
-mod tests;
-
 // How many bytes the group at the front of some bytes has, at least, and how many its words have.
 #[derive(Clone, Copy)]
 struct FirstGroup {

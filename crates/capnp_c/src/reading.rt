@@ -5,19 +5,17 @@
 //! Where they are not what a call wrote for these bytes it fails, or finds another object, and
 //! always one within the bytes. No pointer is handed out, but how many bytes of the message are
 //! before an object.
-pub(crate) mod blobs;
+mod blobs;
 mod element_kind;
 mod entered;
 mod fast_path;
-pub(crate) mod list;
-pub(crate) mod list_elements;
+mod list;
+mod list_elements;
 mod list_kinds;
 pub(crate) mod place;
 pub(crate) mod reader;
 pub(crate) mod segments;
 mod structs;
-#[cfg(test)]
-pub(crate) mod tests;
 
 /// The number of the error `InvalidArgument`, which the crates below don't have: no call wrote what
 /// was passed, or no list has such a code.

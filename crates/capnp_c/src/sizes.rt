@@ -169,7 +169,7 @@ fn sizes_of(table: &[u8], options: ReaderOptions) -> Result<(usize, usize)>
     check_table(table, options)?;
     let last = field_at(table, 0) as usize;
     let start = table_len(last + 1);
-    let words = words_of_segments(table, last + 1);
+    let words = words_of_segments(table, 0, last + 1);
     let size = start + 8 * words;
     Ok((start, size))
 }

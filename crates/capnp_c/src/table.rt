@@ -1,6 +1,6 @@
 //! Segment tables.
 ghost use Rattle.std.specs.Prelude.{◌≡◌, ◌+◌, ◌*◌, ◌<◌, ◌≤◌, ◌^◌, length, take, drop, sum};
-ghost use Rattle.capnp_frame.specs.Prelude.{declared_lengths, table_field, table_size};
+ghost use Rattle.capnp_frame.specs.Prelude.{numbers, table_field, table_size};
 
 /// How many bytes the table of this many segments has.
 pub(crate) fn table_len(count: usize) -> usize
@@ -18,16 +18,17 @@ pub(crate) fn field_at(table: &[u8], at: usize) -> u32
     u32::from_le_bytes([table[at], table[at + 1], table[at + 2], table[at + 3]])
 }
 
-/// How many words the first segments have together, as the table at the front of these bytes says.
-pub(crate) fn words_of_segments(table: &[u8], count: usize) -> usize
-    requires few { count < 512 }
-    requires room { 4 * (count + 1) ≤ length table.now }
-    ensures words { result ≡ sum (declared_lengths count table.now) }
+/// How many words this many segments from one of them on have together, as the table at the front of
+/// these bytes says.
+pub(crate) fn words_of_segments(table: &[u8], first: usize, count: usize) -> usize
+    requires few { first + count < 512 }
+    requires room { 4 * (first + count + 1) ≤ length table.now }
+    ensures words { result ≡ sum (numbers count (drop (4 * (first + 1)) table.now)) }
     ensures bound { result ≤ count * 2 ^ 32 }
 {
     let mut words = 0;
     for before in 0..count {
-        words += field_at(table, 4 * (before + 1)) as usize;
+        words += field_at(table, 4 * (first + before + 1)) as usize;
     }
     words
 }

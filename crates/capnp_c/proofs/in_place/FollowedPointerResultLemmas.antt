@@ -53,8 +53,8 @@ kind_positive NonZeroPadding = omega arith
 
 -- the pointer among a reader's segments is the pointer that the reader means
 pub same_pointer : (segments : MessageSegments) (reader : LinsjoarReader) (bytes : List ℕ) (place : LinsjoarPlace) → segments.count ≡ reader.segments
-    → segments.bytes.now ≡ bytes → pointer_among segments reader place ≡ pointer_read reader bytes place
-same_pointer segments reader bytes place count same = rw (count, same) refl
+    → segments.bytes.now ≡ bytes → segments.begins.now ≡ reader.begins → pointer_among segments reader place ≡ pointer_read reader bytes place
+same_pointer segments reader bytes place count same begins = rw (count, same, begins) refl
 
 error_denotes_nothing : (p : Pointer) (place : Place) (kind : ErrorKind) (s : Shape) → p.place ≡ Some place → PointerError p.message place p.nesting kind → Denotes p s → ⊥
 error_denotes_nothing p place kind s e invalid (nowhere f) = cc

@@ -8,7 +8,7 @@ ghost use Rattle.capnp_c.specs.ReadingExports.{Follows};
 
 use crate::reading::INVALID_ARGUMENT;
 use crate::reading::entered::{Entered, enter};
-use crate::reading::fast_path::{ObjectKind, enter_local};
+use crate::reading::fast_path::{ObjectKind, enter_far_bytes, enter_local};
 use crate::reading::place::LinsjoarPlace;
 use crate::reading::reader::LinsjoarReader;
 use crate::reading::segments::MessageSegments;
@@ -153,6 +153,9 @@ fn enter_elsewhere<'a>(
         (λ entered. Enters place segments.now.bytes.now entered))
         (λ error. EnterError place error.kind) }
 {
+    if let Some(entered) = enter_far_bytes(segments, reader, pointer) {
+        return Ok(Some(entered));
+    }
     enter(segments, reader, pointer)
 }
 

@@ -1,11 +1,10 @@
 //! The object that a pointer points to.
 ghost use Rattle.std.specs.Prelude.{ℕ, List, Option, MatchOption, MatchResult};
-ghost use Rattle.capnp_frame.specs.Prelude.{declared_segments};
-ghost use Rattle.capnp_layout.specs.Prelude.{nothing, message_of, shape_of};
+ghost use Rattle.capnp_layout.specs.Prelude.{nothing, shape_of};
 ghost use Rattle.capnp_layout.specs.declared.place.Place.{Place};
 ghost use Rattle.capnp_wire.specs.Prelude.{Denotes, IsInvalidPointer, Shows};
 ghost use Rattle.capnp_c.specs.Reading.{EnterError, HasKind, pointer_by};
-ghost use Rattle.capnp_c.specs.Entering.{Enters, pointer_among};
+ghost use Rattle.capnp_c.specs.Entering.{Enters, message_among, pointer_among};
 ghost use Rattle.capnp_c.specs.ReadingExports.{TellsKind};
 
 use crate::reading::INVALID_ARGUMENT;
@@ -101,9 +100,8 @@ pub extern "C" fn linsjoar_kind(
 
 // The numbers of the kind of object, whatever the limit of words.
 fn kind_at(segments: &MessageSegments, pointer: &LinsjoarPlace) -> Result<(u8, u8)>
-    ensures { (limit : Option ℕ) → let place = pointer_by
-        (message_of (declared_segments segments.now.count segments.now.bytes.now)) limit pointer.now
-        in MatchResult result (λ found. Shows place (λ shape. HasKind shape.form found.0 found.1))
+    ensures { (limit : Option ℕ) →
+        let place = pointer_by (message_among segments.now) limit pointer.now in MatchResult result (λ found. Shows place (λ shape. HasKind shape.form found.0 found.1))
         (λ error. IsInvalidPointer place error.kind) }
 {
     let Some(place) = pointer.in_message() else {

@@ -11,7 +11,7 @@ ghost use Rattle.capnp_c.specs.ReadingExports.{OpensMessage, FindsRoot};
 use crate::options::LinsjoarOptions;
 use crate::reading::INVALID_ARGUMENT;
 use crate::reading::place::LinsjoarPlace;
-use crate::reading::segments::MessageSegments;
+use crate::reading::segments::{GROUP_LEN, MessageSegments, begins_of};
 use capnp_frame::message::{DEFAULT_READER_OPTIONS, ReaderOptions, ReaderSegments};
 use capnp_frame::serialize::NoAllocBufferSegments;
 use capnp_frame::{Error, ErrorKind, Result};
@@ -29,6 +29,9 @@ pub struct LinsjoarReader {
     pub segments: u32,
     /// How deep objects may be nested. A limit below 0 is the same as 0.
     pub nesting_limit: i32,
+    /// Where each 16th segment begins, in bytes of the message: segment 16 first, then segment 32. It
+    /// is 0 where there is no such segment.
+    pub begins: [usize; 31],
 }
 
 /// Opens the framed message at the front of these bytes, within the default limits. Returns 0, or
@@ -61,17 +64,20 @@ fn open_message(bytes: &[u8], options: ReaderOptions, reader: &mut LinsjoarReade
         words_left: 0,
         segments: 0,
         nesting_limit: 0,
+        begins: [0; 31],
     };
     let mut rest = bytes;
     match NoAllocBufferSegments::from_slice(&mut rest, options) {
         Ok(segments) => {
             let count = segments.len();
-            *reader = LinsjoarReader {
-                message_len: bytes.len() - rest.len(),
-                words_left: options.traversal_limit_in_words.unwrap_or(usize::MAX),
-                segments: count as u32,
-                nesting_limit: options.nesting_limit,
-            };
+            reader.message_len = bytes.len() - rest.len();
+            reader.words_left = options.traversal_limit_in_words.unwrap_or(usize::MAX);
+            reader.segments = count as u32;
+            reader.nesting_limit = options.nesting_limit;
+            // Speed: most messages have one segment.
+            if count > GROUP_LEN {
+                reader.begins = begins_of(bytes, count);
+            }
             0
         }
         Err(error) => error.kind.number() as u32,
@@ -109,12 +115,12 @@ impl LinsjoarReader {
     /// The segments of the message in these bytes; `None` where no message in them could be the
     /// reader's.
     #[inline(always)]
-    pub(crate) fn segments_in<'a>(&self, bytes: &'a [u8]) -> Option<MessageSegments<'a>>
+    pub(crate) fn segments_in<'a>(&'a self, bytes: &'a [u8]) -> Option<MessageSegments<'a>>
         ensures { MatchOption result (HasTableOf self.now bytes.now → ⊥)
             (λ segments. HasTableOf self.now bytes.now × (segments.count ≡ self.now.segments)
-            × (segments.bytes.now ≡ bytes.now)) }
+            × (segments.bytes.now ≡ bytes.now) × (segments.begins.now ≡ self.now.begins)) }
     {
-        MessageSegments::new(bytes, self.segments)
+        MessageSegments::new(bytes, &self.begins, self.segments)
     }
 
     /// What a reader of the same message accepts, within what is left of this one's limits.

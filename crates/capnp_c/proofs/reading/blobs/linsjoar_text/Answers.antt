@@ -14,7 +14,7 @@ returns-in-Ok c =
     let segments = c.in-Some.segments in
     let known = c.in-Some.ensures in
     let q = pointer_among segments c.args.reader.now c.args.pointer.now in
-    let same = same_pointer segments c.args.reader.now c.args.bytes.now c.args.pointer.now known.1 known.2 in
+    let same = same_pointer segments c.args.reader.now c.args.bytes.now c.args.pointer.now known.1 known.2 known.3 in
     let shown = c.in-Ok.ensures.0 in
     let read = shown.0 in
     follows_object _ _ _ _ _ _ _ c.in-Ok.text.words_left q text_decides same known.0 shown c.in-Ok.ensures.1 (readable q TakesText read.0 (text_accepted q _ read) read.1 read.2.1)
@@ -24,5 +24,5 @@ returns-in-Err c =
     let segments = c.in-Some.segments in
     let known = c.in-Some.ensures in
     let q = pointer_among segments c.args.reader.now c.args.pointer.now in
-    let same = same_pointer segments c.args.reader.now c.args.bytes.now c.args.pointer.now known.1 known.2 in
+    let same = same_pointer segments c.args.reader.now c.args.bytes.now c.args.pointer.now known.1 known.2 known.3 in
     rw c.number.ensures (follows_error _ _ _ _ _ _ _ c.in-Err.error.kind q text_decides same known.0 c.in-Err.ensures (refl, refl))

@@ -11,7 +11,7 @@ pub returns-in-Ok : goal.returns-in-Ok
 returns-in-Ok c =
     let known = c.in-Some.ensures in
     let p = pointer_read c.args.reader.now c.args.bytes.now c.args.pointer.now in
-    let same = same_pointer c.in-Some.segments c.args.reader.now c.args.bytes.now c.args.pointer.now known.1 known.2 in
+    let same = same_pointer c.in-Some.segments c.args.reader.now c.args.bytes.now c.args.pointer.now known.1 known.2 known.3 in
     let shown = subst (λ q. Shows q (λ shape. HasKind shape.form c.in-Ok.found_kind c.in-Ok.found_code)) same
     (c.in-Ok.ensures (limit_of_number c.args.reader.now.words_left)) in
     record {
@@ -27,7 +27,7 @@ returns-in-Err c =
     let known = c.in-Some.ensures in
     let kind = c.in-Err.error.kind in
     let p = pointer_read c.args.reader.now c.args.bytes.now c.args.pointer.now in
-    let same = same_pointer c.in-Some.segments c.args.reader.now c.args.bytes.now c.args.pointer.now known.1 known.2 in
+    let same = same_pointer c.in-Some.segments c.args.reader.now c.args.bytes.now c.args.pointer.now known.1 known.2 known.3 in
     let own = subst (λ q. IsInvalidPointer q kind) same (c.in-Err.ensures (limit_of_number c.args.reader.now.words_left)) in
     record {
       no_table = λ none. absurd (none known.0);

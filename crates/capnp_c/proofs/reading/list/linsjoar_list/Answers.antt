@@ -19,7 +19,7 @@ returns-in-Some-local_list_at c =
     let list = c.in-Some-local_list_at.found.list in
     let code = c.args.code in
     let q = pointer_among c.in-Some-segments_in.segments c.args.reader.now c.args.pointer.now in
-    let same = same_pointer c.in-Some-segments_in.segments c.args.reader.now bytes c.args.pointer.now known.1 known.2 in
+    let same = same_pointer c.in-Some-segments_in.segments c.args.reader.now bytes c.args.pointer.now known.1 known.2 known.3 in
     let shown = c.in-Some-local_list_at.ensures.0 in
     subst (λ kind. FollowsKind kind c.args.reader.now (record c.args.reader.now { words_left = c.in-Some-local_list_at.found.words_left }) bytes c.args.pointer.now code (record list { code = code }) 0)
     c.in-Some.ensures
@@ -34,7 +34,7 @@ returns-in-Ok c =
     let list = c.in-Ok.found.list in
     let code = c.args.code in
     let q = pointer_among c.in-Some-segments_in.segments c.args.reader.now c.args.pointer.now in
-    let same = same_pointer c.in-Some-segments_in.segments c.args.reader.now bytes c.args.pointer.now known.1 known.2 in
+    let same = same_pointer c.in-Some-segments_in.segments c.args.reader.now bytes c.args.pointer.now known.1 known.2 known.3 in
     let shown = c.in-Ok.ensures.0 in
     subst (λ kind. FollowsKind kind c.args.reader.now (record c.args.reader.now { words_left = c.in-Ok.found.words_left }) bytes c.args.pointer.now code (record list { code = code }) 0)
     c.in-Some.ensures
@@ -47,6 +47,6 @@ returns-in-Err c =
     let known = c.in-Some-segments_in.ensures in
     let wanted = c.in-Some.wanted in
     let q = pointer_among c.in-Some-segments_in.segments c.args.reader.now c.args.pointer.now in
-    let same = same_pointer c.in-Some-segments_in.segments c.args.reader.now bytes c.args.pointer.now known.1 known.2 in
+    let same = same_pointer c.in-Some-segments_in.segments c.args.reader.now bytes c.args.pointer.now known.1 known.2 known.3 in
     subst (λ kind. FollowsKind kind c.args.reader.now c.args.reader.now bytes c.args.pointer.now c.args.code c.empty.result c.number.result) c.in-Some.ensures
     (rw c.number.ensures (follows_error _ _ _ _ _ _ _ c.in-Err.error.kind q (list_decides wanted) same known.0 c.in-Err.ensures (c.empty.ensures ∙ ap empty c.nowhere.ensures)))

@@ -1,9 +1,10 @@
 -- The root is the first word, where it is there.
 use Rattle.std.proofs.Common.{◌≡◌, ◌∙◌, refl, ap, subst, arith}
-use Rattle.capnp_frame.specs.Prelude.{kind_number, declared_segments}
-use Rattle.capnp_layout.specs.Prelude.{message_of, root, NoWord, no_word}
+use Rattle.capnp_frame.specs.Prelude.{kind_number}
+use Rattle.capnp_layout.specs.Prelude.{root, NoWord, no_word}
 use Rattle.capnp_layout.proofs.pointers.ErrorExcludesObjectLemmas.{no_word_there}
 use Rattle.capnp_layout.proofs.pointers.UniquePointerErrorLemmas.{one_error}
+use Rattle.capnp_c.specs.Entering.{message_among}
 use Rattle.capnp_c.specs.Reading.{message_in}
 use Rattle.capnp_c.proofs.in_place.FollowedPointerResultLemmas.{kind_positive}
 use Rattle.capnp_c.proofs.reading.reader.linsjoar_root.Goals as goal
@@ -13,7 +14,7 @@ returns-in-Err c =
     let known = c.in-Some.ensures in
     let kind = c.in-Err.error.kind in
     let m = message_in c.args.reader.now c.args.bytes.now in
-    let same : message_of (declared_segments c.in-Some.segments.count c.in-Some.segments.bytes.now) ≡ m = rw (known.1, known.2) refl in
+    let same : message_among c.in-Some.segments ≡ m = rw (known.1, known.2, known.3) refl in
     let own = subst (λ there. NoWord there root kind) same c.in-Err.ensures in
     record {
       no_table = λ none. absurd (none known.0);

@@ -1,48 +1,26 @@
 -- The reader is the one of the message at the front.
-use Rattle.std.proofs.Common.{◌≡◌, ◌≢◌, ◌-◌, ◌^◌, ℕ, Option, Some, None, length, refl, ap, ◌∙◌, arith, rules, length-append}
-use Rattle.std.specs.Prelude.{unwrap_or}
-use Rattle.std.proofs.lemmas.Bool.Decides.{nat_tests}
-use Rattle.capnp_frame.specs.declared.serialize.segment_table.Padding.TheVariants.{Zero}
-use Rattle.capnp_frame.specs.Prelude.{kind_number, declared_segments}
-use Rattle.capnp_frame.proofs.encodings.DeclaredMessageIsFrontFrameLemmas.{holds_from_begins}
-use Rattle.capnp_frame.proofs.sinks.JoinedChunkListLemmas.{length-lengths}
+use Rattle.std.proofs.Common.{refl, ap, ◌∙◌, arith, rules}
+use Rattle.capnp_frame.specs.Prelude.{kind_number}
 use Rattle.capnp_c.specs.Options.{limit_of_number}
 use Rattle.capnp_c.proofs.in_place.FollowedPointerResultLemmas.{kind_positive}
+use Rattle.capnp_c.proofs.in_place.OpenedReaderLemmas.{limit_back, room_there, opens_front}
+use Rattle.capnp_c.proofs.in_place.SegmentsByGroupLemmas.{no_groups}
 use Rattle.capnp_c.proofs.reading.reader.open_message.Goals as goal
 
-limit_back : (limit : Option ℕ) → limit ≢ Some (2 ^ 64 - 1) → limit_of_number (unwrap_or limit (2 ^ 64 - 1)) ≡ limit
-limit_back None less = refl
-limit_back (Some words) less =
-    let other : words ≢ 2 ^ 64 - 1 = λ is. less (ap Some is) in
-    grind (arith, nat_tests)
+pub begins_of-reader-requires-clause-room : goal.begins_of-reader-requires-clause-room
+begins_of-reader-requires-clause-room c =
+    room_there c.args.options c.args.bytes.now c.from_slice.new.slice.now c.in-Ok.segments.segments c.len-count.result c.in-Ok.ensures.found c.len-count.ensures
 
-pub returns-in-Ok : goal.returns-in-Ok
-returns-in-Ok c =
-    let bytes = c.args.bytes.now in
-    let left = c.from_slice.new.slice.now in
-    let own = c.in-Ok.segments.segments in
-    let front = c.in-Ok.ensures.found in
-    let holds = holds_from_begins Zero bytes own left c.args.options.traversal_limit_in_words (front.encoding, front.is_encoding, front.spelled) front.within in
-    let many = length-lengths own in
-    let count : c.len-count.result ≡ length own = c.len-count.ensures in
-    let room = holds.holds.room in
-    let some = front.within.some in
-    let few = front.within.few in
-    record {
-      found = λ zero. record {
-        segments = own;
-        rest = left;
-        front = front;
-        table = (omega arith, omega arith, omega arith);
-        segments_are = ap (λ k. declared_segments k bytes) count ∙ holds.segments_are;
-        len = omega (arith, ap length front.spelled, length-append front.encoding left);
-        limit = ap limit_of_number c.unwrap_or.ensures ∙ limit_back c.args.options.traversal_limit_in_words c.requires;
-        nesting = search rules;
-      };
-      accepted = λ segments rest there. refl;
-      errors = λ kind errors. absurd (c.in-Ok.ensures.exact kind errors);
-      stays = λ more. absurd (omega (arith, more));
-    }
+pub returns-then-count-gt-GROUP_LEN : goal.returns-then-count-gt-GROUP_LEN
+returns-then-count-gt-GROUP_LEN c =
+    let limit = ap limit_of_number c.unwrap_or-reader.ensures ∙ limit_back c.args.options.traversal_limit_in_words c.requires in
+    opens_front _ _ _ _ _ c.in-Ok.ensures.found c.in-Ok.ensures.exact c.len-count.ensures c.begins_of-reader.ensures refl limit (search rules)
+
+pub returns-else-count-gt-GROUP_LEN : goal.returns-else-count-gt-GROUP_LEN
+returns-else-count-gt-GROUP_LEN c =
+    let limit = ap limit_of_number c.unwrap_or-reader.ensures ∙ limit_back c.args.options.traversal_limit_in_words c.requires in
+    let begins = no_groups c.len-count.result c.args.bytes.now (omega (arith, c.if-count-gt-GROUP_LEN.false)) in
+    opens_front _ _ _ _ _ c.in-Ok.ensures.found c.in-Ok.ensures.exact c.len-count.ensures begins refl limit (search rules)
 
 pub returns-in-Err : goal.returns-in-Err
 returns-in-Err c = record {

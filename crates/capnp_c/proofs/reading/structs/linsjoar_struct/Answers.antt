@@ -20,7 +20,7 @@ returns-in-Some-local_struct_at c =
     let segments = c.in-Some.segments in
     let known = c.in-Some.ensures in
     let q = pointer_among segments c.args.reader.now c.args.pointer.now in
-    let same = same_pointer segments c.args.reader.now c.args.bytes.now c.args.pointer.now known.1 known.2 in
+    let same = same_pointer segments c.args.reader.now c.args.bytes.now c.args.pointer.now known.1 known.2 known.3 in
     let shown = subst (λ b. ShowsStruct q b c.in-Some-local_struct_at.found.fields) known.2 c.in-Some-local_struct_at.ensures.0 in
     let read = shown.0 in
     follows_object _ _ _ _ _ _ _ c.in-Some-local_struct_at.found.words_left q struct_decides same known.0 shown c.in-Some-local_struct_at.ensures.1 (readable q TakesStruct read.shown.0 (struct_accepted q _ read) read.shown.1 read.shown.2.2)
@@ -30,7 +30,7 @@ returns-in-Ok c =
     let segments = c.in-Some.segments in
     let known = c.in-Some.ensures in
     let q = pointer_among segments c.args.reader.now c.args.pointer.now in
-    let same = same_pointer segments c.args.reader.now c.args.bytes.now c.args.pointer.now known.1 known.2 in
+    let same = same_pointer segments c.args.reader.now c.args.bytes.now c.args.pointer.now known.1 known.2 known.3 in
     let shown = subst (λ b. ShowsStruct q b c.in-Ok.found.fields) known.2 c.in-Ok.ensures.0 in
     let read = shown.0 in
     follows_object _ _ _ _ _ _ _ c.in-Ok.found.words_left q struct_decides same known.0 shown c.in-Ok.ensures.1 (readable q TakesStruct read.shown.0 (struct_accepted q _ read) read.shown.1 read.shown.2.2)
@@ -40,5 +40,5 @@ returns-in-Err c =
     let segments = c.in-Some.segments in
     let known = c.in-Some.ensures in
     let q = pointer_among segments c.args.reader.now c.args.pointer.now in
-    let same = same_pointer segments c.args.reader.now c.args.bytes.now c.args.pointer.now known.1 known.2 in
+    let same = same_pointer segments c.args.reader.now c.args.bytes.now c.args.pointer.now known.1 known.2 known.3 in
     rw c.number.ensures (follows_error _ _ _ _ _ _ _ c.in-Err.error.kind q struct_decides same known.0 c.in-Err.ensures (c.empty.ensures ∙ ap empty c.nowhere.ensures))
