@@ -327,6 +327,7 @@ struct linsjoar_reader {
     size_t words_left;     /* how many words may still be read; LINSJOAR_NO_LIMIT sets no limit, and stays */
     uint32_t segments;     /* how many segments it has */
     int32_t nesting_limit; /* how deep objects may be nested; a number below 0 is as 0 */
+    size_t begins[31];     /* how many bytes of the message are before segment 16, 32, ..; 0 where there is none */
 };
 
 /* The place of a pointer. One that is not there, as past the last pointer of a struct, is null. */

@@ -111,6 +111,7 @@ static inline struct linsjoar_reader *linsjoar_reader_of(
     const struct linsjoar_source *source, struct linsjoar_reader *of_constant) {
     if (source->reader != NULL)
         return source->reader;
+    memset(of_constant, 0, sizeof *of_constant);
     of_constant->message_len = source->len;
     of_constant->words_left = LINSJOAR_NO_LIMIT;
     of_constant->segments = 1;

@@ -1,7 +1,7 @@
 // Reads the address book on standard input (crates/capnpc_sample/schemas/addressbook.capnp), a framed message, and
-// writes it built anew, by crates/capnp_c as WebAssembly. The status is the number of an error, and 0 without one.
+// writes it built anew, by crates/capnp_c as WebAssembly: framed, or packed. The status is the number of an error, and 0 without one.
 //
-//   node --experimental-wasm-memory64 addressbook.js LINSJOAR.WASM < FRAMED > BUILT
+//   node --experimental-wasm-memory64 addressbook.js LINSJOAR.WASM [packed] < FRAMED > BUILT
 "use strict";
 const fs = require("fs");
 const { accept, load, numberOf, bytesOf } = require("./linsjoar.js");
@@ -10,7 +10,7 @@ const BUFFER_NOT_LARGE_ENOUGH = 2;
 const STRUCTS = 7;
 const { attempt, call } = load(process.argv[2]);
 const message = new Uint8Array(fs.readFileSync(0));
-const [reader, builder] = [new Uint8Array(1024), new Uint8Array(8)];
+const [reader, builder] = [new Uint8Array(272), new Uint8Array(8)];
 let region = new Uint8Array(16);
 
 // What a call writes, of these sizes in bytes: 8 is a number, else it is a struct.
@@ -90,4 +90,14 @@ const [book] = follow("struct", [root], 48);
 const people = addStructs(book, 0, wordsOfPerson, 1, 4);
 const orphan = build("add_struct", bytesOf([]), 0n, bytesOf([people]), 1n);
 call("set_root", builder, region, BigInt(region.length), orphan);
-process.stdout.write(region.subarray(0, Number(build("finish"))));
+const length = build("finish");
+const framed = region.slice(0, Number(length));
+// Of n words the packed bytes are at most 10 n.
+const packed = new Uint8Array((framed.length * 10) / 8);
+const unpacked = new Uint8Array(framed.length);
+const [packedLength] = read("pack_message", [framed, length, packed, BigInt(packed.length)], 8);
+const lengths = [...read("unpack_message", [packed, packedLength, unpacked, length], 8, 8), ...read("next_message", [framed, length], 8)];
+if (Buffer.compare(framed, unpacked) !== 0 || String(lengths) !== String([length, packedLength, length])) {
+  throw new Error("the packed message is another one");
+}
+process.stdout.write(process.argv[3] === "packed" ? packed.subarray(0, Number(packedLength)) : framed);

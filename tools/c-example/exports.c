@@ -2,26 +2,7 @@
  * that lack a word, with a reader of no message, with a builder of no region, and with arguments that are wrong. What is read of
  * messages, packed and canonical is for the cases of conformance/, which tools/conformance/library.cc runs. Each comparison that
  * fails prints a line, and the status is 1. */
-#include "linsjoar.h"
-
-#include <stdio.h>
-
-/* What a number that a call has to write is before the call, and the room for what it writes. */
-enum { UNWRITTEN = 77, NUMBERS = 64 };
-
-static int differing;
-
-static void compare(int line, const char *text, size_t wanted, size_t got) {
-    if (wanted != got)
-        fprintf(stderr, "exports.c:%d: %s is %zu and not %zu\n", line, text, got, wanted);
-    differing |= wanted != got;
-}
-
-#define NUMBER(wanted, got) compare(__LINE__, #got, wanted, got)
-#define BYTES(wanted, got, len) NUMBER(0, memcmp(wanted, got, len) != 0)
-/* A call that succeeds; one that fails, and what it writes then. */
-#define OK(call) NUMBER(LINSJOAR_OK, call)
-#define FAILS(error, call, written) (NUMBER(error, call), NUMBER(0, written))
+#include "in_place.h"
 
 /* "Serialization Over a Stream": two segments, of one word and of two, whose table ends with padding. */
 static const uint8_t two_segments[] = {1, 0, 0, 0, 1, 0, 0, 0, 2, 0, 0, 0, 0, 0, 0, 0, 1, 2, 3, 4, 5, 6, 7, 8,
@@ -29,15 +10,7 @@ static const uint8_t two_segments[] = {1, 0, 0, 0, 1, 0, 0, 0, 2, 0, 0, 0, 0, 0,
 /* "Packing": a message of the two words of its first example, framed and packed. */
 static const uint8_t framed[] = {0, 0, 0, 0, 2, 0, 0, 0, 8, 0, 0, 0, 3, 0, 2, 0, 0x19, 0, 0, 0, 0xaa, 1, 0, 0};
 static const uint8_t packed[] = {0x10, 2, 0x51, 8, 3, 2, 0x31, 0x19, 0xaa, 1};
-/* A struct of one data word, and of pointers to the bytes 1, 2 and 3, to two structs of a number and of a pointer, and to "hi",
- * to which the pointer of the second struct points too. Each object comes before those that point to it. */
-static const uint8_t message[] = {
-    0, 0, 0, 0, 12, 0, 0, 0, 28, 0, 0, 0, 1, 0, 3, 0, 1, 2, 3, 0, 0, 0, 0, 0, 104, 105, 0, 0, 0, 0, 0, 0, 8, 0, 0, 0,
-    1, 0, 1, 0, 5, 1, 0, 0, 0, 0, 0, 0, 0, 0, 0, 0, 0, 0, 0, 0, 7, 0, 0, 0, 0, 0, 0, 0, 233, 255, 255, 255, 26, 0, 0, 0,
-    136, 119, 102, 85, 68, 51, 34, 17, 221, 255, 255, 255, 26, 0, 0, 0, 225, 255, 255, 255, 39, 0, 0, 0, 217, 255, 255, 255, 26, 0, 0, 0};
-enum { LEN = sizeof message, ROOM = LEN + 8, FORM_LEN = 13 * 8 };
 /* The tables of messages of a word more than the default limit, and no word after them. */
-enum { LARGE_WORDS = (8 << 20) + 1 };
 static const uint8_t large[] = {0, 0, 0, 0, 1, 0, 0x80, 0}, large_packed[] = {0x50, 1, 0x80};
 
 /* A call that reads a message, or its twin where there are options: what it returns. It writes numbers, and bytes to `block`. */
@@ -162,63 +135,6 @@ static void unpack_parts(void) {
           linsjoar_unpack_part(four_zero_words, 2, block, WORDS, &read, &written, &needed), read + written + needed);
 }
 
-/* The pointers of the message: to the struct, to the bytes, to the structs, to the text. */
-static struct linsjoar_reader reader;
-static struct linsjoar_place pointers[4];
-static struct linsjoar_struct fields;
-
-static void find_pointers(void) {
-    size_t start, len;
-    OK(linsjoar_open(message, LEN, &reader));
-    OK(linsjoar_root(message, LEN, &reader, pointers));
-    NUMBER(64, pointers->nesting);
-    OK(linsjoar_struct(message, LEN, &reader, pointers, &fields));
-    for (uint16_t index = 0; index < 3; index++)
-        OK(linsjoar_struct_pointer(&fields, index, &pointers[index + 1]));
-    OK(linsjoar_text(message, LEN, &reader, pointers + 3, &start, &len));
-    BYTES("hi", message + start, len + 1);
-    NUMBER(LARGE_WORDS - 6, reader.words_left);
-    NUMBER(0x1122334455667788, linsjoar_u64(message, &fields, 0));
-    NUMBER(0, linsjoar_u32(message, &fields, 2));
-    NUMBER(1, (size_t)linsjoar_bool(message, &fields, 3));
-}
-
-/* Structs that no call wrote, readers of other bytes, and elements of other lists. */
-static void read_by_wrong_numbers(void) {
-    const struct linsjoar_reader no_reader = {0};
-    struct linsjoar_reader poor = reader;
-    struct linsjoar_struct wrong = fields;
-    struct linsjoar_place place;
-    struct linsjoar_list list;
-    uint8_t kind, code;
-    uint64_t number;
-    size_t start, len;
-    FAILS(LINSJOAR_INVALID_ARGUMENT, linsjoar_root(message, LEN, &no_reader, &place), place.is_there);
-    FAILS(LINSJOAR_TEXT_NOT_TERMINATED, linsjoar_text(message, LEN, &poor, pointers + 1, &start, &len), start + len);
-    FAILS(LINSJOAR_WRONG_POINTER_KIND, linsjoar_data(message, LEN, &poor, pointers + 2, &start, &len), start + len);
-    NUMBER(reader.words_left, poor.words_left);
-    poor.words_left = 3;
-    FAILS(LINSJOAR_READ_LIMIT_EXCEEDED, linsjoar_struct(message, LEN, &poor, pointers, &wrong), wrong.data_len + wrong.pointers);
-    NUMBER(3, poor.words_left);
-    NUMBER(LINSJOAR_INVALID_ARGUMENT, linsjoar_struct(message, 7, &poor, pointers, &wrong));
-    NUMBER(LINSJOAR_POINTER_OUT_OF_BOUNDS, linsjoar_struct(message, 15, &poor, pointers, &wrong));
-    wrong = fields;
-    wrong.first.word = SIZE_MAX;
-    FAILS(LINSJOAR_INVALID_ARGUMENT, linsjoar_struct_pointer(&wrong, 1, &place), place.word);
-    FAILS(LINSJOAR_OK, linsjoar_struct_pointer(&fields, 3, &place), place.is_there);
-    OK(linsjoar_kind(message, LEN, &reader, pointers + 1, &kind, &code));
-    NUMBER(LINSJOAR_LIST, kind);
-    NUMBER(LINSJOAR_BYTE, code);
-    FAILS(LINSJOAR_INVALID_ARGUMENT, linsjoar_list(message, LEN, &reader, pointers + 1, LINSJOAR_STRUCTS + 1, &list), list.count);
-    OK(linsjoar_list(message, LEN, &reader, pointers + 1, LINSJOAR_BYTE, &list));
-    NUMBER(LINSJOAR_INVALID_ARGUMENT, linsjoar_list_number(message, 23, &list, 1, &number));
-    FAILS(LINSJOAR_OK, linsjoar_list_number(message, LEN, &list, 3, &number), number);
-    FAILS(LINSJOAR_INVALID_ARGUMENT, linsjoar_list_struct(&list, 0, &wrong), wrong.data_len);
-    FAILS(LINSJOAR_INVALID_ARGUMENT, linsjoar_list_pointer(&list, 0, &place), place.is_there);
-    OK(linsjoar_list(message, LEN, &reader, pointers + 2, LINSJOAR_POINTERS, &list));
-    FAILS(LINSJOAR_OK, linsjoar_list_pointer(&list, 2, &place), place.is_there);
-}
-
 #define ROOMY &builder, region, ROOM
 
 static struct linsjoar_builder builder;
@@ -291,8 +207,7 @@ int main(void) {
     read_at_ends();
     pack_and_unpack_words();
     unpack_parts();
-    find_pointers();
-    read_by_wrong_numbers();
+    read_in_place();
     build_the_message();
     add_lists();
     add_copies();

@@ -8,7 +8,7 @@
  * Every other region begins with any bytes, and calls build there by what no call wrote: builders, orphans, counts and codes,
  * and readers and places of which some bytes are others. A call that fails has to leave the builder and the region as they
  * were, and another one the used bytes but for the word that it writes. Last the message is read by such readers, places, structs
- * and lists, as it is, cut, with other bytes or in two segments: what a call finds has to lie within the bytes; after an error
+ * and lists, as it is, cut, with other bytes or in many segments: what a call finds has to lie within the bytes; after an error
  * what it writes has to be 0, and the reader as before. */
 #include "memory.h"
 
@@ -194,7 +194,8 @@ static uint64_t read_by_wrong_numbers(struct task *task, const uint8_t *message,
         corrupt_bytes(task, &list, below(task, 8) ? 0 : sizeof list);
         corrupt_bytes(task, &fields, below(task, 8) ? 0 : sizeof fields);
         corrupt_bytes(task, &place, below(task, 8) ? 0 : sizeof place);
-        corrupt_bytes(task, &reader, below(task, 16) ? 0 : sizeof reader);
+        if (below(task, 16) == 0)
+            corrupt_reader(task, &reader);
         struct linsjoar_reader before = reader;
         error = calls[below(task, sizeof calls / sizeof *calls)](task);
         check(!error || !memcmp(&before, &reader, sizeof reader), "a reader has changed after an error");
@@ -204,19 +205,21 @@ static uint64_t read_by_wrong_numbers(struct task *task, const uint8_t *message,
     return successes;
 }
 
-/* Reads the message as it is, cut, with other bytes, or in two segments, of which the first is a far pointer; at each place. */
+/* Reads the message as it is, cut, with other bytes, or as the last segment, to which the first has a far pointer; at each place. */
 static void read_wrongly(struct task *task, const uint8_t *message, size_t len) {
-    const uint8_t words = (uint8_t)(len / 8 - 1), more = (uint8_t)((len / 8 - 1) >> 8);
-    const uint8_t two_segments[] = {1, 0, 0, 0, 1, 0, 0, 0, words, more, 0, 0, 0, 0, 0, 0, 2, 0, 0, 0, 1, 0, 0, 0};
+    uint32_t last = 1 + (uint32_t)below(task, 50), table[54] = {last, 1};
     enum place place = task->place;
     uint64_t kind = below(task, 4), state = task->state, found[2];
-    size_t front = kind == 3 ? 16 : 0, read_len = kind == 2 ? below(task, len) : len + front;
+    size_t words = (last + 3) / 2, front = kind == 3 ? 8 * words : 0, read_len = kind == 2 ? below(task, len) : len + front;
+    table[1 + last] = (uint32_t)(len / 8 - 1);
+    table[2 * words] = 2;
+    table[2 * words + 1] = last;
     for (int i = 0; i < 2; i++) {
         task->state = state;
         task->place = i && place == END ? FRONT : place;
         uint8_t *bytes = block_of(task, 0, read_len);
         memcpy(bytes + front, message, read_len - front);
-        memcpy(bytes, two_segments, front ? sizeof two_segments : 0);
+        memcpy(bytes, table, front ? front + 8 : 0);
         corrupt_bytes(task, bytes, kind == 1 ? len : 0);
         found[i] = read_by_wrong_numbers(task, bytes, read_len);
     }

@@ -65,6 +65,13 @@ static inline void corrupt_bytes(struct task *task, void *bytes, size_t size) {
     }
 }
 
+static inline void corrupt_reader(struct task *task, struct linsjoar_reader *reader) {
+    if (below(task, 2))
+        corrupt_bytes(task, reader, offsetof(struct linsjoar_reader, begins));
+    else
+        corrupt_bytes(task, reader->begins, sizeof reader->begins);
+}
+
 /* A block of this size, which is there until the next one of its number. */
 static inline void *block_of(struct task *task, int which, size_t size) {
     uint8_t *pages = task->pages[which];
@@ -179,7 +186,8 @@ static inline unsigned add_copy(struct task *task, const uint8_t *message, size_
     corrupt_bytes(task, bytes, wrong_now(task) ? len : 0);
     unsigned error = linsjoar_open_with_options(bytes, len, &limits, &reader);
     check((!linsjoar_root(bytes, len, &reader, &root) && !error) || task->is_wrong, "a message has no root");
-    corrupt_bytes(task, &reader, wrong_now(task) ? sizeof reader : 0);
+    if (wrong_now(task))
+        corrupt_reader(task, &reader);
     corrupt_bytes(task, &root, wrong_now(task) ? sizeof root : 0);
     if (reader.nesting_limit > limits.nesting_limit)
         reader.nesting_limit = limits.nesting_limit;

@@ -1,7 +1,7 @@
 /* Reads and builds records by the types that the schema compiler writes for C, as main.cc does in C++.
  *
- *   main read FRAMED, main texts FRAMED                 prints a sum of what it reads
- *   main build COUNT FRAMED, main grow COUNT FRAMED     builds as many twice, in one memory or in memory that grows, and writes them */
+ *   main read < FRAMED, main texts < FRAMED             prints a sum of what it reads
+ *   main build COUNT > FRAMED, main grow COUNT > FRAMED builds as many twice, in one memory or in memory that grows */
 #include "linsjoar_types.h"
 #include "records_capnp.h"
 
@@ -9,10 +9,8 @@
 #include <stdio.h>
 
 static void expect(int error) {
-    if (error != LINSJOAR_OK) {
-        fprintf(stderr, "records: %d %s\n", error, linsjoar_error_name(error));
-        exit(1);
-    }
+    if (error != LINSJOAR_OK)
+        exit(error);
 }
 
 __attribute__((noinline)) static uint64_t measured_read(const struct Records_reader *records) {
@@ -67,15 +65,14 @@ __attribute__((noinline)) static size_t measured_build(struct linsjoar_message *
     return len;
 }
 
-static int write_built(bool grows, uint32_t count, const char *path) {
+static int write_built(bool grows, uint32_t count) {
     struct linsjoar_message grown = {{0}, NULL, 0, 0, NULL}, used = {{0}, (uint8_t *)malloc(1 << 24), 1 << 24, 0, NULL};
     struct linsjoar_message *message = grows ? &grown : &used;
-    FILE *file = fopen(path, "wb");
     size_t len = measured_build(message, count);
     if (grows)
         linsjoar_message_free(message);
     len = measured_build(message, count);
-    return file == NULL || fwrite(message->region, 1, len, file) != len || fclose(file) != 0;
+    return fwrite(message->region, 1, len, stdout) != len;
 }
 
 int main(int count, char **words) {
@@ -83,14 +80,9 @@ int main(int count, char **words) {
     const struct linsjoar_options options = {LINSJOAR_NO_LIMIT, 64};
     struct linsjoar_reader reader;
     struct Records_reader records;
-    FILE *file;
-    size_t len;
-    if (count > 3)
-        return write_built(words[1][0] == 'g', (uint32_t)atol(words[2]), words[3]);
-    if (count < 3 || (file = fopen(words[2], "rb")) == NULL)
-        return 2;
-    len = fread(bytes, 1, sizeof bytes, file);
-    expect(Records_root_with_options(bytes, len, &options, &reader, &records));
+    if (count > 2)
+        return write_built(words[1][0] == 'g', (uint32_t)atol(words[2]));
+    expect(Records_root_with_options(bytes, fread(bytes, 1, sizeof bytes, stdin), &options, &reader, &records));
     printf("%" PRIu64 "\n", words[1][0] == 'r' ? measured_read(&records) : measured_texts(&records));
     return 0;
 }

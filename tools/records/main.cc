@@ -1,10 +1,9 @@
-// Reads and builds records as main.c does, by the types of the C++ tool; `main far FRAMED` writes 200,000 texts in segments of
+// Reads and builds records as main.c does, by the types of the C++ tool; `main far > FRAMED` writes 200,000 texts in segments of
 // 1,440 words, so that far pointers point to them.
 #include "records.capnp.h"
 #include <capnp/message.h>
 #include <capnp/serialize.h>
 #include <cstdio>
-#include <fcntl.h>
 #include <string>
 
 __attribute__((noinline)) static uint64_t measured_read(Records::Reader records) {
@@ -37,15 +36,13 @@ __attribute__((noinline)) static void measured_build(capnp::MessageBuilder& mess
 }
 
 int main(int count, char** words) {
-    if (count < 3) return 2;
-    int file = open(words[count - 1], count > 3 || words[1][0] == 'f' ? O_RDWR | O_CREAT | O_TRUNC : O_RDONLY, 0600);
-    if (count > 3) {
+    if (count > 2) {
         auto memory = kj::heapArray<capnp::word>(1 << 21);
         for (int i = 0; i < 2; i++) {
             capnp::MallocMessageBuilder used(memory), grown;
             auto& message = words[1][0] == 'g' ? grown : used;
             measured_build(message, uint32_t(atol(words[2])));
-            if (i == 1) capnp::writeMessageToFd(file, message);
+            if (i == 1) capnp::writeMessageToFd(1, message);
         }
         return 0;
     }
@@ -53,10 +50,10 @@ int main(int count, char** words) {
         capnp::MallocMessageBuilder message(1440, capnp::AllocationStrategy::FIXED_SIZE);
         auto texts = message.initRoot<Records>().initTexts(200000);
         for (uint32_t i = 0; i < 200000; i++) texts.set(i, "text " + std::to_string(i));
-        capnp::writeMessageToFd(file, message);
+        capnp::writeMessageToFd(1, message);
         return 0;
     }
-    capnp::StreamFdMessageReader message(file, {1ull << 40, 64});
+    capnp::StreamFdMessageReader message(0, {1ull << 40, 64});
     auto records = message.getRoot<Records>();
     printf("%llu\n", (unsigned long long)(words[1][0] == 'r' ? measured_read(records) : measured_texts(records)));
 }

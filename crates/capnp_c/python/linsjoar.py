@@ -88,10 +88,10 @@ def _options(traversal_limit_in_words=8388608, nesting_limit=64):
 
 
 class _Message:
-    """A framed message that is read, and what each call takes first. `reader` has its length and the words left."""
+    """A framed message that is read, and what each call takes first. `reader` has its length, the words left, and more."""
     def __init__(self, data, options):
         self.data = data if type(data) is bytes else bytes(memoryview(data))
-        self.view, self.options, self.reader = memoryview(self.data), options, (c_size_t * 3)()
+        self.view, self.options, self.reader = memoryview(self.data), options, (c_size_t * 35)()
         self.taken = self.data, len(self.data), ctypes.addressof(self.reader)
         _check(_calls["open_with_options"](self.data, len(self.data), options, self.reader))
 
