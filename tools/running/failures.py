@@ -1,11 +1,14 @@
 """Devices that move little at a time, are interrupted, or fail, and allocations that fail."""
+import itertools
 import os
+import re
 import subprocess
 
 from runs import Ended, ended_of, name_of, stopped, usage, whole
-from streams import EMPTY, HELLO, LINES, STREAM
+from streams import EMPTY, HELLO, LINES, STREAM, inputs
 
 FAILED = "13 DeviceFailed"
+OUT_OF_MEMORY = re.compile(rb"capnp_ls: message (\d+): error 12 OutOfMemory\n")
 UNREAD = ["standard input: Input/output error (os error 5)"]
 FULL = ["standard output: No space left on device (os error 28)"]
 
@@ -34,6 +37,11 @@ def try_writes(program):
         ended = program.slow(["canon"], 2 * large, READ_MOST="100000", WRITE_FAILS=str(fails))
         wanted = stopped(message, FAILED, (2 * large)[:taken], None, FULL)
         program.compare(wanted, ended, "canon, write %d fails" % fails)
+    # Lines that fill the buffer, which is written before the line that doesn't fit.
+    lines = [b"%d 1 0 0\n" % index for index in range(3500)]
+    message = next(count for count in range(3500) if sum(map(len, lines[:count + 1])) > 32768)
+    ended = program.slow(["list"], 3500 * EMPTY, READ_MOST="100000", WRITE_FAILS="1")
+    program.compare(stopped(message, FAILED, left=None, failures=FULL), ended, "list, write 1 fails")
 
 
 def try_devices(program):
@@ -69,22 +77,35 @@ def try_diagnostics(program):
         program.compare(wanted._replace(said=b""), ended, name_of(words, given) + " 2> /dev/full")
 
 
-def try_allocations(program):
-    """One allocation fails, and each in turn: the run stops at its message by 12, or lists them all."""
-    counted, number, allocations, stops = program.file("counted"), 0, 1, 0
-    while number < allocations:
-        number += 1
-        ended = program.run(["list"], STREAM, LD_PRELOAD=program.library("failing"), FAILED=str(number), COUNTED=counted)
-        allocations = max(allocations, int(program.read("counted")))
-        message = next((count for count in range(4) if ended.printed == b"".join(LINES[:count])), 0)
-        wanted = whole(b"".join(LINES), None)
-        if ended.status != 0:
-            stops += 1
-            wanted = stopped(min(message, 2), "12 OutOfMemory", b"".join(LINES[:min(message, 2)]), None)
-        program.compare(wanted, ended, "list, failed allocation %d" % number)
+def try_allocations(program, runs=(("list", STREAM),)):
+    """One allocation fails, and each in turn up to the 60th: a run ends as it should, though the line of a stop may have no room, or
+    stops by 12 with a front of its output, which has each message that the line of the stop counts."""
+    counted, stops = program.file("counted"), 0
+    for words, given in runs:
+        wanted, number, allocations = ended_of(words, given), 0, 1
+        while number < min(allocations, 60):
+            number += 1
+            ended = program.run(words.split(), given, LD_PRELOAD=program.library("malloc"), FAILED=str(number), COUNTED=counted)
+            allocations = max(allocations, int(program.read("counted").split()[0]))
+            stop = OUT_OF_MEMORY.fullmatch(ended.said)
+            has_lines = stop and (not words.startswith("list") or ended.printed.count(b"\n") == int(stop[1]))
+            stops += bool(stop)
+            if has_lines and wanted.printed.startswith(ended.printed):
+                wanted_now = stopped(int(stop[1]), "12 OutOfMemory", ended.printed, None)
+            else:
+                wanted_now = wanted._replace(said=ended.said and wanted.said, left=None)
+            program.compare(wanted_now, ended, "%s, failed allocation %d" % (name_of([words], given), number))
     if not stops:
         program.wrong += 1
-        print("try-program: of %d failed allocations none stops the program" % allocations)
+        print("try-program: no failed allocation stops the program")
+
+
+def try_each_allocation(program):
+    """The same with each command, over the streams of conformance/ and all messages in them."""
+    framed, packed = ([b"".join(segments) for word, segments in inputs() if word == kind] for kind in ("framed", "packed"))
+    all_framed, all_packed = (b"".join(ended_of(words, given).printed for given in streams) for words, streams in (("unpack", packed), ("pack", framed)))
+    try_allocations(program, itertools.product(("list", "pack", "canon"), [*framed, all_framed]))
+    try_allocations(program, itertools.product(("list --packed", "unpack", "canon --packed"), [*packed, all_packed]))
 
 
 def try_failures(program):

@@ -67,12 +67,12 @@ def bound(factor, messages, declared):
 
 def kept_by(program, command, given):
     """What a run prints, and how many bytes it holds at most."""
-    environment = {**os.environ, "LD_PRELOAD": program.library("count"), "COUNTED": program.file("counted")}
+    environment = {**os.environ, "LD_PRELOAD": program.library("malloc"), "COUNTED": program.file("counted")}
     with open(program.file("given"), "wb") as file:
         file.write(given)
     with open(program.file("given"), "rb") as source:
         ran = subprocess.run(command, env=environment, stdin=source, stdout=subprocess.PIPE, stderr=subprocess.PIPE, timeout=60)
-    return ran.stdout, int(program.read("counted"))
+    return ran.stdout, int(program.read("counted").split()[1])
 
 
 def compare(program, name, kept, most, is_right=True):

@@ -8,9 +8,9 @@ from model import Invalid, Message, NoMessage
 
 USAGE = b"usage: capnp_ls list [--packed] [--lenient] | pack [--lenient] | unpack [--lenient] | canon [--packed]\n"
 HERE = os.path.dirname(os.path.abspath(__file__))
-LIBRARIES = {"devices": os.path.join(HERE, "devices.c"), "failing": os.path.join(HERE, "../failing/fail.c"), "count": os.path.join(HERE, "count.c")}
-COMMANDS = ["list", "list --lenient", "list --packed", "list --packed --lenient", "pack", "pack --lenient", "unpack", "unpack --lenient",
-            "canon", "canon --packed"]
+LIBRARIES = {name: os.path.join(HERE, name + ".c") for name in ("devices", "malloc")}
+COMMANDS = ["list", "list --lenient", "list --packed", "list --packed --lenient", "list --lenient --packed", "pack", "pack --lenient",
+            "unpack", "unpack --lenient", "canon", "canon --packed"]
 PRINTED = {
     "list": lambda index, segments: model.line_of(index, segments).encode(),
     "pack": lambda _, segments: model.packed_message(segments),

@@ -1,12 +1,8 @@
 """What each command prints of the inputs of conformance/ and of long streams, and where it stops."""
-import glob
-import os
-
+import corpus
 import model
 from runs import COMMANDS, PRINTED, ended_of, name_of, stopped, usage, whole
 
-ROOT = os.path.dirname(os.path.dirname(os.path.dirname(os.path.abspath(__file__))))
-OPTIONS = {"limit", "nesting", "calls", "buffer", "at"}
 MANY = 70005
 
 # Segments of no words and of the bytes 1 to 8; then one empty segment; then one of two words.
@@ -17,7 +13,7 @@ EMPTY, HELLO = model.frame([b""]), model.frame([b"\x01\0\0\0\x72\0\0\0Hello, Wor
 # Words that are no command, each by itself.
 OTHERS = [
     [], ["lst"], ["lists"], ["list", "list"], ["list", ""], ["list", "--packed", "x"], ["list", "--packed", "--packed"],
-    ["list", "--lenient", "--packed"], ["list", "--lenient", "--lenient"],
+    ["list", "--lenient", "--lenient"], ["list", "--lenient", "--packed", "--lenient"],
     ["list", "--packed", "--lenient", "--lenient"], ["--lenient", "list"],
     ["--lenient", "pack"], ["--packed", "list"], ["pack", "--packed"],
     ["pack", "--packed", "--lenient"], ["unpack", "--packed"], ["unpack", "--lenient", "--lenient"],
@@ -33,31 +29,27 @@ SHARED_LISTS = [0x80006_00000001] + [0x10005_00000001 + 4 * left for left in ran
 
 
 def inputs():
-    """The bytes and segments of the calls of conformance/ that ask for no option: each as its word and these."""
-    for path in sorted(glob.glob(os.path.join(ROOT, "conformance/[a-z]*.txt"))):
-        has_options = False
-        with open(path) as file:
-            for line in file:
-                word, _, text = line.rstrip("\n").partition(" ")
-                has_options = word != "case" and (has_options or word in OPTIONS)
-                if word in ("framed", "packed", "canonical", "pack", "write") and not has_options:
-                    yield word, model.parse(text)
+    """The calls and segments of the cases of conformance/ that have no option."""
+    for case in corpus.cases():
+        call, _, *options, segments = next(iter(case.requests.values())).split()[:8]
+        if call in ("framed", "packed", "canonical", "pack", "write") and options == [*model.DEFAULTS.values()]:
+            yield call, model.parse(segments)
 
 
 def try_cases(program):
     """Each input by the commands that take it: strict and lenient ones in turn, and canonical forms after a message."""
-    for number, (word, segments) in enumerate(inputs()):
+    for number, (call, segments) in enumerate(inputs()):
         message = [segment[:len(segment) // 8 * 8] for segment in segments]
-        if word in ("pack", "write"):
+        if call in ("pack", "write"):
             program.expect("pack", model.frame(message[:511] or [b""]))
             continue
-        if word == "canonical":
+        if call == "canonical":
             if 0 < len(segments) < 512:
                 form = model.packed_message if number % 4 == 0 else model.frame
                 command = "canon --packed" if number % 4 == 0 else "canon"
                 program.expect(command, form([HELLO[8:]]) + form(message) + form([HELLO[8:]]))
             continue
-        given, packed = b"".join(segments), " --packed" if word == "packed" else ""
+        given, packed = b"".join(segments), " --packed" if call == "packed" else ""
         lenient = ["", " --lenient"][number % 2]
         program.expect("list" + packed + lenient, given)
         program.expect(("unpack" if packed else "pack") + ["", " --lenient"][number % 3 % 2], given)

@@ -1,4 +1,4 @@
-pub mod NonOptionsExcludeCommandLemmas
+pub mod WordsAreOfOneCommandLemmas
 pub mod DecimalDigitsFromLastLemmas
 pub mod LineListsSegmentLengthsLemmas
 pub mod MessageLineWrittenOrErrorLemmas

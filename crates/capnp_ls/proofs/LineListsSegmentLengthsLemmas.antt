@@ -1,6 +1,5 @@
--- The line of a message lists the lengths of its segments one by one, and a sink may leave a part of it. Also
--- lists of two or three words.
-use Rattle.std.proofs.Common.{◌≡◌, ◌⊎◌, ℕ, ◌+◌, ◌≤◌, ◌<◌, Option, Some, None, Result, Ok, Err, OnErr, List, [], ◌∷◌, ◌++◌, length, take, get_or, map, inl, inr, refl, sym, ap, ◌∙◌, arith, append_assoc}
+-- The line of a message lists the lengths of its segments one by one, and a sink may leave a part of it.
+use Rattle.std.proofs.Common.{◌≡◌, ◌⊎◌, ℕ, ◌+◌, ◌≤◌, ◌<◌, Option, Some, None, Result, Ok, Err, OnErr, List, [], ◌∷◌, ◌++◌, length, take, inl, inr, refl, sym, ap, ◌∙◌, arith, append_assoc}
 use Rattle.std.proofs.lemmas.List.{take_all, take_more, append-nil, length-map}
 use Rattle.std.proofs.lemmas.List.Concat.{flat_map-append}
 use Rattle.std.proofs.lemmas.Option.{slice_get_within, slice_get_cases, get_or_from_slice_get, none-some}
@@ -52,26 +51,6 @@ lengths_parts index ns first second third fourth last listed a b c d e f =
     ∙ ap (λ l. l ++ 10 ∷ []) (d ∙ ap (λ l. third ++ l) e
     ∙ ap (λ l. l ++ flat_map spaced ns) (c ∙ ap (λ l. l ++ spaced (sum ns)) (b ∙ ap (λ l. l ++ spaced (length ns)) a)))
     ∙ simp append_assoc
-
--- a list of two elements
-pub two_items : {X : Type 0} (xs : List X) (x y : X) → 2 ≤ length xs → length xs < 3 → x ≡ get_or xs 0 x → y ≡ get_or xs 1 y → xs ≡ x ∷ y ∷ []
-two_items [] x y some few first second = absurd (omega arith)
-two_items (a ∷ []) x y some few first second = absurd (omega arith)
-two_items (a ∷ b ∷ []) x y some few first second = ap (λ z. z ∷ b ∷ []) (sym first) ∙ ap (λ z. x ∷ z ∷ []) (sym second)
-two_items (a ∷ b ∷ c ∷ cs) x y some few first second = absurd (omega arith)
-
--- what is known of both
-pub two_words : {X : Type 0} (f : X → List ℕ) (xs : List X) (x y : X) (a b : List ℕ) → 2 ≤ length xs → length xs < 3 → x ≡ get_or xs 0 x → y ≡ get_or xs 1 y
-    → f x ≡ a → f y ≡ b → map f xs ≡ a ∷ b ∷ []
-two_words f xs x y a b some few first second p q =
-    ap (map f) (two_items xs x y some few first second) ∙ ap (λ word. word ∷ f y ∷ []) p ∙ ap (λ word. a ∷ word ∷ []) q
-
--- and of three
-pub three_words : {X : Type 0} (f : X → List ℕ) (xs : List X) (x y z : X) (a b c : List ℕ) → 3 ≤ length xs → length xs < 4 → x ≡ get_or xs 0 x
-    → y ≡ get_or xs 1 y → z ≡ get_or xs 2 z → f x ≡ a → f y ≡ b → f z ≡ c → map f xs ≡ a ∷ b ∷ c ∷ []
-three_words f [] x y z a b c some few first second third p q r = absurd (omega arith)
-three_words f (s ∷ xs) x y z a b c some few first second third p q r =
-    ap (λ word. word ∷ map f xs) (ap f (sym first) ∙ p) ∙ ap (λ words. a ∷ words) (two_words f xs y z b c (omega arith) (omega arith) second third q r)
 
 -- what a sink leaves of a line, it leaves of some line
 pub line_left : {X : Type 0} (IsLine : List ℕ → Type 0) (leaves : Leaving) (line : List ℕ) (r : Result X Error) (old new : Option (List ℕ)) → IsLine line

@@ -1,9 +1,10 @@
 //! The words that the program takes.
-ghost use Rattle.std.specs.Prelude.{◌≡◌, map, string_bytes, IfSome, IfNone};
-ghost use Rattle.capnp.specs.Prelude.{Padding};
+ghost use Rattle.std.specs.Prelude.{◌≡◌, ◌↔◌, true, [], ◌∷◌, map, string_bytes, IfSome, IfNone};
+ghost use Rattle.capnp.specs.Prelude.{Padding, Any};
 ghost use Rattle.capnp.specs.declared.streams.Format.{Format};
+ghost use Rattle.capnp.specs.declared.streams.Format.TheVariants.{Packed};
 ghost use Rattle.capnp_ls.specs.declared.command.Command.{Command};
-ghost use Rattle.capnp_ls.specs.Commands.{command_words, option_words};
+ghost use Rattle.capnp_ls.specs.Commands.{AreOptions, IsCommand};
 
 use capnp::Way;
 use capnp::serialize::Padding;
@@ -12,7 +13,8 @@ use capnp::streams::Format;
 /// What the program is to do.
 #[derive(Clone, Copy, Debug, PartialEq, Eq)]
 pub enum Command {
-    /// `list`, with `--packed`, `--lenient` or both after it: print a line for each message.
+    /// `list`, with `--packed`, `--lenient` or both after it, in either order: print a line for each
+    /// message.
     Listing(Format, Padding),
     /// `pack` and `unpack`, each with `--lenient` after it or not: write each message in the other
     /// format.
@@ -24,9 +26,9 @@ pub enum Command {
 impl Command {
     /// The command that these words, which follow the program's name, stand for.
     pub fn from_words(words: &[String]) -> Option<Command>
-        ensures some { IfSome result (λ command. map string_bytes words.now ≡ command_words command) }
+        ensures some { IfSome result (λ command. IsCommand command (map string_bytes words.now)) }
         ensures none { IfNone result
-            ((command : Command) → map string_bytes words.now ≡ command_words command → ⊥) }
+            ((command : Command) → IsCommand command (map string_bytes words.now) → ⊥) }
     {
         let (name, options) = words.split_first()?;
         let (format, padding) = options_of(options)?;
@@ -45,9 +47,9 @@ impl Command {
 // The format and the rule of padding that options stand for.
 fn options_of(words: &[String]) -> Option<(Format, Padding)>
     ensures some { IfSome result (λ options.
-        map string_bytes words.now ≡ option_words options.0 options.1) }
+        AreOptions options.0 options.1 (map string_bytes words.now)) }
     ensures none { IfNone result ((format : Format) (padding : Padding) →
-        map string_bytes words.now ≡ option_words format padding → ⊥) }
+        AreOptions format padding (map string_bytes words.now) → ⊥) }
 {
     match words {
         [] => Some((Format::Framed, Padding::Zero)),
@@ -56,9 +58,14 @@ fn options_of(words: &[String]) -> Option<(Format, Padding)>
             "--lenient" => Some((Format::Framed, Padding::Any)),
             _ => None,
         },
-        [option, last] if option.as_str() == "--packed" && last.as_str() == "--lenient" => {
-            Some((Format::Packed, Padding::Any))
-        }
+        [first, second] if are_both(first, second) => Some((Format::Packed, Padding::Any)),
         _ => None,
     }
+}
+
+// Whether these are the words of both options, in either order.
+fn are_both(first: &str, second: &str) -> bool
+    ensures { result ≡ true ↔ AreOptions Packed Any (first.now ∷ second.now ∷ []) }
+{
+    first == "--packed" && second == "--lenient" || first == "--lenient" && second == "--packed"
 }

@@ -2,7 +2,7 @@
 ghost use Rattle.std.specs.Prelude.{◌≡◌, ◌⊎◌, ◌↔◌, map, string_bytes, IsErrOf};
 ghost use Rattle.capnp.specs.Prelude.{WritesEach, default_limit};
 ghost use Rattle.capnp_ls.specs.declared.command.Command.{Command};
-ghost use Rattle.capnp_ls.specs.Commands.{command_words, command_input, padding_of};
+ghost use Rattle.capnp_ls.specs.Commands.{IsCommand, command_input, padding_of};
 ghost use Rattle.capnp_ls.specs.Output.{Prints, PrintedErrors};
 ghost use Rattle.capnp_ls.specs.Runs.{ForCommand};
 
@@ -31,14 +31,14 @@ pub fn run<R: BufRead, W: Write>(
 ) -> std::result::Result<(), Stop>
     // For other words nothing is read, and nothing written.
     ensures usage { IsErrOf result Stop.Usage
-        ↔ ((command : Command) → map string_bytes words.now ≡ command_words command → ⊥) }
+        ↔ ((command : Command) → IsCommand command (map string_bytes words.now) → ⊥) }
     ensures untouched { IsErrOf result Stop.Usage
         → (source.new ≡ source.old) × (sink.new ≡ sink.old) }
 
     // For the words of a command: what it reads and writes, and where it stops.
     ensures reported { IsErrOf result Stop.Usage
-        ⊎ ((command : Command) × (map string_bytes words.now ≡ command_words command)) }
-    ensures runs { (command : Command) → map string_bytes words.now ≡ command_words command →
+        ⊎ ((command : Command) × IsCommand command (map string_bytes words.now)) }
+    ensures runs { (command : Command) → IsCommand command (map string_bytes words.now) →
         ForCommand (WritesEach R.Read source.old source.new W.Write sink.old sink.new
         (padding_of command) (command_input command) default_limit (Prints command W.appends)
         (PrintedErrors command W.appends W.leaves W.refuses)) result }
@@ -76,6 +76,3 @@ fn print_each<R: BufRead, W: Write>(
         }
     }
 }
-
-#[cfg(test)]
-mod tests;

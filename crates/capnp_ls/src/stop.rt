@@ -109,6 +109,3 @@ fn device_error_line(
     line.push('\n')?;
     Ok(line)
 }
-
-#[cfg(test)]
-mod tests;

@@ -1,6 +1,6 @@
 -- Where the words after the first are no options, the words stand for no command.
 use Rattle.std.proofs.Common.{string_bytes}
-use Rattle.capnp_ls.proofs.NonOptionsExcludeCommandLemmas.{no_command}
+use Rattle.capnp_ls.proofs.WordsAreOfOneCommandLemmas.{no_command}
 use Rattle.capnp_ls.proofs.command.Command.from_words.Goals as goal
 
 pub returns-in_err-format-clause-none : goal.returns-in_err-format-clause-none
