@@ -1,6 +1,8 @@
 //! Chunks that are packed by themselves.
-use crate::assertions::{At, assert_bytes, assert_calls, assert_count, assert_fails, assert_holds};
+use crate::cases::At;
 use crate::chunk_cases::{PACKED, Packed};
+use crate::errors::error_of;
+use crate::fixtures::expect;
 use crate::packing::{pack, unpack, unpack_some};
 use crate::retried;
 use crate::sinks::FailingSink;
@@ -22,11 +24,11 @@ fn pack_case(rt: &(impl Abort + AllocGlobal), case: &Packed) -> Result<()> {
     if !case.is_written {
         return Ok(());
     }
-    let at = At::case(case.name);
+    let at = case.name;
     let mut sink = FailingSink::new(Vec::new(rt.alloc()), 0);
     pack(&mut sink, case.chunks)?;
-    assert_bytes(rt, sink.written.as_slice(), case.encoding, at);
-    assert_calls(rt, sink.calls, case.handed.unwrap_or(sink.calls), at);
+    expect(rt, at, sink.written.as_slice(), case.encoding);
+    expect(rt, at, sink.calls, case.handed.unwrap_or(sink.calls));
     Ok(())
 }
 
@@ -48,15 +50,16 @@ fn unpack_case(rt: &impl Abort, case: &Packed, most: usize) -> Result<()> {
         unpack_chunk(rt, &mut source, &mut parts, chunk, at)?;
         asked = asked.saturating_add(u64::from(!chunk.is_empty()));
     }
-    assert_holds(
+    expect(
         rt,
-        source.source.bytes.is_empty() && parts.bytes.is_empty() && parts.asked_at_end == 0,
         at,
+        source.source.bytes.is_empty() && parts.bytes.is_empty() && parts.asked_at_end == 0,
+        true,
     );
     if case.encoding.len() <= most {
-        assert_calls(rt, source.calls, asked, at);
-        assert_calls(rt, parts.fills, asked, at);
-        assert_calls(rt, source.source.reads, 0, at);
+        expect(rt, at, source.calls, asked);
+        expect(rt, at, parts.fills, asked);
+        expect(rt, at, source.source.reads, 0);
     }
     Ok(())
 }
@@ -72,10 +75,10 @@ fn unpack_chunk(
     let length = chunk.len().min(2064);
     let mut space = [0xaa; 2064];
     unpack(source, &mut space[..length])?;
-    assert_bytes(rt, &space[..length], chunk, at);
+    expect(rt, at, &space[..length], chunk);
     let mut again = [0xaa; 2064];
-    assert_count(rt, unpack_some(parts, &mut again[..length])?, length, at);
-    assert_bytes(rt, &again[..length], chunk, at);
+    expect(rt, at, unpack_some(parts, &mut again[..length])?, length);
+    expect(rt, at, &again[..length], chunk);
     Ok(())
 }
 
@@ -87,13 +90,13 @@ fn a_tag_alone_leaves_the_word(rt: HostRuntime) {
         let encoding = [tag];
         let mut source = Failing::new(Trickle::new(&encoding, 1), 2);
         let mut word = [0xaa; 8];
-        assert_fails(
+        expect(
             &rt,
-            unpack(&mut source, &mut word),
-            ErrorKind::DeviceFailed,
             at,
+            error_of(unpack(&mut source, &mut word)),
+            ErrorKind::DeviceFailed.number(),
         );
-        assert_bytes(&rt, &word, &[0xaa; 8], at);
+        expect(&rt, at, word.as_slice(), &[0xaa; 8]);
     }
 }
 
@@ -118,8 +121,8 @@ fn unpack_cut_run(rt: &impl Abort, at: At<'_>) -> Result<()> {
     let mut source = Trickle::new(&RUN, at.number as usize);
     let mut back = [0xaa; 24];
     unpack(&mut source, &mut back)?;
-    assert_bytes(rt, &back, &RUN_WORDS, at);
-    assert_bytes(rt, source.bytes, &[0xaa], at);
-    assert_holds(rt, source.reads <= 1, at);
+    expect(rt, at, back.as_slice(), &RUN_WORDS);
+    expect(rt, at, source.bytes, &[0xaa]);
+    expect(rt, at, source.reads <= 1, true);
     Ok(())
 }

@@ -1,6 +1,7 @@
 //! One adapter that is kept through errors: it goes on as if there had been none.
-use crate::assertions::{At, assert_bytes, assert_calls, assert_count, assert_kind};
+use crate::cases::At;
 use crate::errors::kind_of;
+use crate::fixtures::expect;
 use crate::retried;
 use crate::sinks::FailingSink;
 use crate::sources::{Failing, Trickle};
@@ -27,18 +28,18 @@ fn one_adapter_of_a_sink(rt: HostRuntime) -> Result<()> {
 }
 
 fn write_chunks(rt: &(impl Abort + AllocGlobal)) -> Result<()> {
-    let at = At::case("one adapter of a sink");
+    let at = "one adapter of a sink";
     let mut sink = FailingSink::new(Vec::new(rt.alloc()), 2);
     write_each(rt, &mut PackedWrite::new(&mut sink))?;
-    assert_bytes(rt, sink.written.as_slice(), &[1, 5, 1, 7, 0x80, 8], at);
-    assert_calls(rt, sink.calls, 4, at);
+    expect(rt, at, sink.written.as_slice(), &[1, 5, 1, 7, 0x80, 8]);
+    expect(rt, at, sink.calls, 4);
     Ok(())
 }
 
 fn write_each<W: Write>(rt: &impl Abort, packed: &mut W) -> Result<()> {
     for (number, (chunk, kind)) in (0..).zip(&CHUNKS) {
         let returned = kind_of(packed.write_all(*chunk))?;
-        assert_kind(rt, returned, *kind, At::new("a chunk", number));
+        expect(rt, At::new("a chunk", number), returned, *kind);
     }
     Ok(())
 }
@@ -58,11 +59,11 @@ const REQUESTS: [Request; 5] = [
 
 #[test]
 fn one_adapter_of_a_source(rt: HostRuntime) -> Result<()> {
-    let at = At::case("one adapter of a source");
+    let at = "one adapter of a source";
     let mut source = Failing::new(Trickle::new(&[1, 5, 1, 6, 1, 7, 1, 8], 24), 2);
     read_each(&rt, &mut PackedRead::new(&mut source))?;
-    assert_bytes(&rt, source.source.bytes, &[], at);
-    assert_calls(&rt, source.failures, 1, at);
+    expect(&rt, at, source.source.bytes, &[]);
+    expect(&rt, at, source.failures, 1);
     Ok(())
 }
 
@@ -71,9 +72,9 @@ fn read_each<R: Read>(rt: &impl Abort, packed: &mut R) -> Result<()> {
         let at = At::new("a request", number);
         let mut words = [0xaa; 16];
         let returned = kind_of(packed.read_exact(&mut words[..length.min(16)]))?;
-        assert_kind(rt, returned, kind, at);
-        assert_bytes(rt, &words[..1], &[first], at);
+        expect(rt, at, returned, kind);
+        expect(rt, at, &words[..1], &[first]);
     }
-    assert_count(rt, packed.read(&mut [0; 8])?, 0, At::case("the end"));
+    expect(rt, "the end", packed.read(&mut [0; 8])?, 0);
     Ok(())
 }

@@ -1,5 +1,5 @@
 //! Messages of 2^16 and 2^20 words, and more bytes in one chunk than two bytes count.
-use crate::assertions::{At, assert_count, assert_holds};
+use crate::fixtures::expect;
 use crate::framing::{Found, read, read_packed, write, write_packed};
 use crate::packing::{pack, unpack};
 use crate::retried;
@@ -69,21 +69,22 @@ fn write_and_read(rt: &(impl Abort + AllocGlobal), case: &Pattern) -> Result<()>
     let segment = segment_of(rt.alloc(), case)?;
     let mut framed: Vec<u8> = Vec::new(rt.alloc());
     write(rt, &mut framed, &[&segment])?;
-    let at = At::case(case.name);
-    assert_count(
+    let at = case.name;
+    expect(
         rt,
+        at,
         framed.len(),
         case.words.saturating_add(1).saturating_mul(8),
-        at,
     );
-    assert_holds(
+    expect(
         rt,
-        framed.starts_with(&case.table) && framed.ends_with(&segment),
         at,
+        framed.starts_with(&case.table) && framed.ends_with(&segment),
+        true,
     );
     let mut source = framed.as_slice();
     let found = read(rt.alloc(), &mut source, &[&segment])?;
-    assert_holds(rt, found == Found::Wanted && source.is_empty(), at);
+    expect(rt, at, found == Found::Wanted && source.is_empty(), true);
     Ok(())
 }
 
@@ -91,12 +92,12 @@ fn pack_and_read(rt: &(impl Abort + AllocGlobal), case: &Pattern) -> Result<()> 
     let segment = segment_of(rt.alloc(), case)?;
     let mut packed: Vec<u8> = Vec::new(rt.alloc());
     write_packed(rt, &mut packed, &[&segment])?;
-    let at = At::case(case.name);
-    assert_count(rt, packed.len(), case.packed, at);
-    assert_holds(rt, packed.starts_with(case.front), at);
+    let at = case.name;
+    expect(rt, at, packed.len(), case.packed);
+    expect(rt, at, packed.starts_with(case.front), true);
     let mut source = packed.as_slice();
     let found = read_packed(rt.alloc(), &mut source, &[&segment])?;
-    assert_holds(rt, found == Found::Wanted && source.is_empty(), at);
+    expect(rt, at, found == Found::Wanted && source.is_empty(), true);
     Ok(())
 }
 
@@ -104,7 +105,7 @@ fn pack_and_unpack(rt: &(impl Abort + AllocGlobal), case: &Pattern) -> Result<()
     let segment = segment_of(rt.alloc(), case)?;
     let mut packed: Vec<u8> = Vec::new(rt.alloc());
     pack(&mut packed, &[&case.table, &segment])?;
-    assert_count(rt, packed.len(), case.packed, At::case(case.name));
+    expect(rt, case.name, packed.len(), case.packed);
     unpack_all(rt, &packed, case, &segment)
 }
 
@@ -118,13 +119,14 @@ fn unpack_all(
     let mut words = vec![in rt.alloc(); 0xaau8; segment.len().saturating_add(8)]?;
     let mut source = packed;
     unpack(&mut source, &mut words)?;
-    let at = At::case(case.name);
-    assert_holds(
+    let at = case.name;
+    expect(
         rt,
-        words.starts_with(&case.table) && words.ends_with(segment),
         at,
+        words.starts_with(&case.table) && words.ends_with(segment),
+        true,
     );
-    assert_holds(rt, source.is_empty(), at);
+    expect(rt, at, source.is_empty(), true);
     Ok(())
 }
 

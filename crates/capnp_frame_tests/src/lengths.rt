@@ -1,6 +1,6 @@
 //! Lengths of segments, and segments of these lengths, where memory is there.
-use crate::assertions::{At, assert_holds};
 use crate::failed_allocations::is_out_of_memory;
+use crate::fixtures::expect;
 use crate::retried;
 use capnp_frame::Result;
 use capnp_frame::message::ReaderSegments;
@@ -24,7 +24,7 @@ fn write_into_segments(rt: &(impl Abort + AllocGlobal)) -> Result<()> {
     bytes[7] = 1;
     bytes[8] = 2;
     bytes[23] = 3;
-    assert_holds(rt, has_written(&segments), At::case("1, 0 and 2 words"));
+    expect(rt, "1, 0 and 2 words", has_written(&segments), true);
     Ok(())
 }
 

@@ -9,14 +9,15 @@
 //! [encoding document]: https://capnproto.org/encoding.html
 #![tactic(auto)]
 
-#[cfg(test)]
-mod assertions;
+pub mod cases;
 #[cfg(test)]
 mod chunk_cases;
 #[cfg(test)]
 mod chunks;
 pub mod errors;
 pub mod failed_allocations;
+#[cfg(test)]
+mod fixtures;
 #[cfg(test)]
 mod framing;
 #[cfg(test)]

@@ -3,8 +3,8 @@
 //! `rt try --test --fail-alloc N` makes the Nth allocation of each test fail, and no other. So each
 //! test asks of a result that it is the right one, or `OutOfMemory` with nothing else changed, and
 //! that the call returns the right one when it is made again.
-use crate::assertions::{At, assert_bytes, assert_count, assert_holds};
 use crate::failed_allocations::is_out_of_memory;
+use crate::fixtures::expect;
 use crate::framing::{Found, read_by};
 use crate::limits::STRICT;
 use crate::retried;
@@ -21,21 +21,22 @@ fn a_failed_chunk_is_not_written(rt: HostRuntime) -> Result<()> {
 const CHUNK: [u8; 64] = [7; 64];
 
 fn write_after_three(rt: &(impl Abort + AllocGlobal)) -> Result<()> {
-    let at = At::case("three bytes");
+    let at = "three bytes";
     let mut sink = Vec::new(rt.alloc());
     sink.write_all(&[1, 2, 3])?;
     let written = sink.write_all(&CHUNK);
     if written.is_err() {
-        assert_holds(rt, is_out_of_memory(&written), at);
-        assert_bytes(rt, sink.as_slice(), &[1, 2, 3], at);
+        expect(rt, at, is_out_of_memory(&written), true);
+        expect(rt, at, sink.as_slice(), &[1, 2, 3]);
         sink.write_all(&CHUNK)?;
     }
-    assert_holds(
+    expect(
         rt,
-        sink.starts_with(&[1, 2, 3]) && sink.ends_with(&CHUNK),
         at,
+        sink.starts_with(&[1, 2, 3]) && sink.ends_with(&CHUNK),
+        true,
     );
-    assert_count(rt, sink.len(), 67, at);
+    expect(rt, at, sink.len(), 67);
     Ok(())
 }
 
@@ -128,21 +129,21 @@ fn messages_without_memory(rt: HostRuntime) -> Result<()> {
 }
 
 fn read_case(rt: &(impl Abort + AllocGlobal), case: &Asking) -> Result<()> {
-    let at = At::case(case.name);
+    let at = case.name;
     let mut source = case.bytes;
     let returned = read_by(rt.alloc(), &mut source, case.rules, &SEGMENTS);
     if is_out_of_memory(&returned) {
-        assert_holds(rt, case.asks.contains(&source.len()), at);
+        expect(rt, at, case.asks.contains(&source.len()), true);
         return Err(Error::from_kind(ErrorKind::OutOfMemory));
     }
     match (returned, case.returns) {
-        (Ok(found), Ok(wanted)) => assert_holds(rt, found == wanted, at),
-        (Err(error), Err(kind)) => assert_holds(rt, error.kind == kind, at),
+        (Ok(found), Ok(wanted)) => expect(rt, at, found == wanted, true),
+        (Err(error), Err(kind)) => expect(rt, at, error.kind == kind, true),
         _ => panic!(rt;
             "a result for an error, or an error for a result, at {}",
             case.name
         ),
     }
-    assert_count(rt, source.len(), case.unread, at);
+    expect(rt, at, source.len(), case.unread);
     Ok(())
 }

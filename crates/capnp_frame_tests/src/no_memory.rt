@@ -1,5 +1,6 @@
 //! Calls that take no memory: they succeed whichever allocation fails, and none is made twice.
-use crate::assertions::{At, assert_bytes, assert_count, assert_fails, assert_holds};
+use crate::errors::kind_of;
+use crate::fixtures::expect;
 use crate::framing::{Found, read_packed, write, write_packed};
 use crate::limits::STRICT;
 use crate::messages::has_segments;
@@ -19,17 +20,17 @@ const PACKED: [u8; 17] = [0x11, 2, 1, 0x10, 1, 0xff, 1, 2, 3, 4, 5, 6, 7, 8, 0, 
 
 #[test]
 fn segments_are_written(rt: HostRuntime) -> Result<()> {
-    let at = At::case("segments of 1, 0 and 1 words");
+    let at = "segments of 1, 0 and 1 words";
     let mut framed = [9; 32];
     let mut left: &mut [u8] = &mut framed;
     write(&rt, &mut left, &SEGMENTS)?;
-    assert_holds(&rt, left.is_empty(), at);
-    assert_bytes(&rt, &framed, &FRAMED, at);
+    expect(&rt, at, left.is_empty(), true);
+    expect(&rt, at, framed.as_slice(), &FRAMED);
     let mut packed = [9; 17];
     let mut left: &mut [u8] = &mut packed;
     write_packed(&rt, &mut left, &SEGMENTS)?;
-    assert_holds(&rt, left.is_empty(), at);
-    assert_bytes(&rt, &packed, &PACKED, at);
+    expect(&rt, at, left.is_empty(), true);
+    expect(&rt, at, packed.as_slice(), &PACKED);
     Ok(())
 }
 
@@ -45,11 +46,11 @@ const FAILING: [(&str, &[u8], ErrorKind); 3] = [
 fn packed_messages_that_take_no_memory(rt: HostRuntime) -> Result<()> {
     for &(name, encoding, kind) in &FAILING {
         let mut source = encoding;
-        assert_fails(
+        expect(
             &rt,
-            read_packed(rt.alloc(), &mut source, &[]),
-            kind,
-            At::case(name),
+            name,
+            kind_of(read_packed(rt.alloc(), &mut source, &[]))?,
+            Some(kind),
         );
     }
     assert!(rt; read_packed(rt.alloc(), &mut [].as_slice(), &[])? == Found::End);
@@ -76,17 +77,17 @@ const ENCODING_AND_ROOM: [u8; 48] = [
 
 #[test]
 fn a_framed_message_in_a_buffer(rt: HostRuntime) -> Result<()> {
-    let at = At::case("a framed message");
+    let at = "a framed message";
     let mut source = FRAME_AND_MORE.as_slice();
     let mut room = [1; 48];
     let found = try_read_framed_into(&mut source, STRICT, &mut room)?;
     let Some(info) = found else {
         panic!(rt; "no message");
     };
-    assert_count(&rt, info.segment_table_length_bytes, 16, at);
-    assert_count(&rt, info.total_segments_length_bytes, 24, at);
-    assert_bytes(&rt, &room, &ENCODING_AND_ROOM, at);
-    assert_count(&rt, source.len(), 16, at);
+    expect(&rt, at, info.segment_table_length_bytes, 16);
+    expect(&rt, at, info.total_segments_length_bytes, 24);
+    expect(&rt, at, room.as_slice(), &ENCODING_AND_ROOM);
+    expect(&rt, at, source.len(), 16);
     Ok(())
 }
 
@@ -98,16 +99,16 @@ const NINES_AND_ROOM: [u8; 17] = [0, 0, 0, 0, 1, 0, 0, 0, 9, 9, 9, 9, 9, 9, 9, 9
 
 #[test]
 fn a_packed_message_in_a_buffer(rt: HostRuntime) -> Result<()> {
-    let at = At::case("a packed message");
+    let at = "a packed message";
     let mut source = PACKED_NINES.as_slice();
     let mut room = [1; 17];
     let found = try_read_packed_framed_into(&mut source, STRICT, &mut room)?;
     let Some(info) = found else {
         panic!(rt; "no message");
     };
-    assert_count(&rt, info.total_segments_length_bytes, 8, at);
-    assert_bytes(&rt, &room, &NINES_AND_ROOM, at);
-    assert_bytes(&rt, source, &[7], at);
+    expect(&rt, at, info.total_segments_length_bytes, 8);
+    expect(&rt, at, room.as_slice(), &NINES_AND_ROOM);
+    expect(&rt, at, source, &[7]);
     Ok(())
 }
 
@@ -118,7 +119,7 @@ fn a_single_segment_is_found(rt: HostRuntime) -> Result<()> {
     let mut slice = NINES_AND_ROOM.as_slice();
     let found = take_segments(rt.alloc(), &mut slice, DEFAULT_READER_OPTIONS)?;
     assert!(rt; has_segments(&found, &wanted) && found.len() == 1);
-    assert_bytes(&rt, slice, &[1], At::case("a byte after it"));
+    expect(&rt, "a byte after it", slice, &[1]);
     let found = BufferSegments::new(
         rt.alloc(),
         NINES_AND_ROOM.as_slice(),

@@ -1,5 +1,6 @@
 //! What errors are printed as, and their numbers.
-use crate::assertions::{At, assert_bytes, assert_holds};
+use crate::cases::At;
+use crate::fixtures::expect;
 use crate::retried;
 use capnp_frame::{Error, ErrorKind, Result};
 use std::process::Abort;
@@ -54,18 +55,18 @@ fn print(
 ) -> Result<()> {
     let at = At::new("kind", u64::from(number));
     let error = Error::from_kind(kind);
-    assert_holds(rt, kind.number() == number && error.kind == kind, at);
-    assert_bytes(
+    expect(rt, at, kind.number() == number && error.kind == kind, true);
+    expect(
         rt,
+        at,
         format!(in rt.alloc(); "{kind}")?.as_bytes(),
         sentence,
-        at,
     );
-    assert_bytes(
+    expect(
         rt,
+        at,
         format!(in rt.alloc(); "{error}")?.as_bytes(),
         sentence,
-        at,
     );
     Ok(())
 }

@@ -1,6 +1,7 @@
 //! A sink that fails at its nth chunk, and a caller-provided slice that is too short.
-use crate::assertions::{At, assert_bytes, assert_calls, assert_count, assert_holds, assert_kind};
+use crate::cases::At;
 use crate::errors::kind_of;
+use crate::fixtures::expect;
 use crate::framing::{encoding_of, write, write_packed};
 use crate::messages::{MESSAGES, Message};
 use crate::packing::pack;
@@ -43,10 +44,11 @@ fn written(sink: &FailingSink) -> &[u8] {
 // Whether the sink took each chunk. An `OutOfMemory` is handed back.
 fn is_taken(rt: &impl Abort, returned: Result<()>, at: At<'_>) -> Result<bool> {
     let error = kind_of(returned)?;
-    assert_holds(
+    expect(
         rt,
-        error.is_none() || error == Some(ErrorKind::DeviceFailed),
         at,
+        error.is_none() || error == Some(ErrorKind::DeviceFailed),
+        true,
     );
     Ok(error.is_none())
 }
@@ -81,12 +83,12 @@ fn write_to(
     let mut sink = sink_that_fails(rt.alloc(), at.number)?;
     let returned = write(rt, &mut sink, segments);
     let is_whole = is_taken(rt, returned, at)?;
-    assert_holds(rt, is_whole == (at.number > chunks), at);
-    assert_calls(rt, sink.failures, u64::from(!is_whole), at);
-    assert_calls(rt, sink.calls, at.number.min(chunks), at);
+    expect(rt, at, is_whole == (at.number > chunks), true);
+    expect(rt, at, sink.failures, u64::from(!is_whole));
+    expect(rt, at, sink.calls, at.number.min(chunks));
     let written = written(&sink);
-    assert_count(rt, written.len(), end, at);
-    assert_bytes(rt, written, encoding.get(..end).unwrap_or(&[]), at);
+    expect(rt, at, written.len(), end);
+    expect(rt, at, written, encoding.get(..end).unwrap_or(&[]));
     Ok(())
 }
 
@@ -100,7 +102,7 @@ fn packed_encodings_before_the_error(rt: HostRuntime) -> Result<()> {
                 break;
             }
         }
-        assert_holds(&rt, calls > 1, At::case(message.name));
+        expect(&rt, message.name, calls > 1, true);
     }
     Ok(())
 }
@@ -126,7 +128,7 @@ fn parts_of_chunks_before_the_error(rt: HostRuntime) -> Result<()> {
                 break;
             }
         }
-        assert_holds(&rt, calls > case.parts, At::case(case.name));
+        expect(&rt, case.name, calls > case.parts, true);
     }
     Ok(())
 }
@@ -155,18 +157,19 @@ fn is_front(
     let written = written(sink);
     let is_whole = is_taken(rt, returned, at)?;
     if is_whole {
-        assert_bytes(rt, written, encoding, at);
-        assert_calls(rt, sink.failures, 0, at);
+        expect(rt, at, written, encoding);
+        expect(rt, at, sink.failures, 0);
         return Ok(true);
     }
-    assert_holds(
+    expect(
         rt,
-        encoding.starts_with(written) && written.len() < encoding.len(),
         at,
+        encoding.starts_with(written) && written.len() < encoding.len(),
+        true,
     );
-    assert_holds(rt, written.is_empty() == (at.number == 1), at);
-    assert_calls(rt, sink.failures, 1, at);
-    assert_calls(rt, sink.calls, at.number, at);
+    expect(rt, at, written.is_empty() == (at.number == 1), true);
+    expect(rt, at, sink.failures, 1);
+    expect(rt, at, sink.calls, at.number);
     Ok(false)
 }
 
@@ -207,12 +210,12 @@ fn write_into(
     } else {
         None
     };
-    assert_kind(rt, returned, failed, at);
-    assert_holds(rt, failed.is_some() || fits == whole, at);
-    assert_count(rt, left, room.saturating_sub(fits), at);
+    expect(rt, at, returned, failed);
+    expect(rt, at, failed.is_some() || fits == whole, true);
+    expect(rt, at, left, room.saturating_sub(fits));
     let encoding = encoding_of(rt, segments)?;
     let front = encoding.get(..fits).unwrap_or(&[]);
-    assert_count(rt, front.len(), fits, at);
+    expect(rt, at, front.len(), fits);
     assert_filled(rt, &space, front, at);
     Ok(())
 }
@@ -234,5 +237,5 @@ fn assert_filled(rt: &impl Abort, space: &[u8; 64], front: &[u8], at: At<'_>) {
     let Some(rest) = space.as_slice().strip_prefix(front) else {
         panic!(rt; "{space:?} at {}", at.case);
     };
-    assert_bytes(rt, rest, &[9; 64][..rest.len().min(64)], at);
+    expect(rt, at, rest, &[9; 64][..rest.len().min(64)]);
 }

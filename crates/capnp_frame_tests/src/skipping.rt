@@ -1,7 +1,8 @@
 //! Packed messages that are skipped.
-use crate::assertions::{At, assert_count, assert_holds, assert_kind};
+use crate::cases::At;
 use crate::errors::kind_of;
 use crate::failed_allocations::is_out_of_memory;
+use crate::fixtures::expect;
 use crate::limits::STRICT;
 use crate::messages::{MESSAGES, Message};
 use crate::retried;
@@ -71,8 +72,8 @@ fn skip_again(rt: &(impl Abort + AllocGlobal), message: &Message, most: usize) -
     for _ in 0..2 {
         let mut source = Trickle::new(message.packed, most);
         kept = skip(&mut source, ANY_PADDING, kept)?;
-        assert_holds(rt, has_lengths(&kept, message.segments), at);
-        assert_count(rt, source.bytes.len(), 0, at);
+        expect(rt, at, has_lengths(&kept, message.segments), true);
+        expect(rt, at, source.bytes.len(), 0);
     }
     Ok(())
 }
@@ -128,8 +129,8 @@ fn skip_failing(
     let mut source = Trickle::new(encoding, at.number as usize);
     let lengths = SegmentLengthsBuilder::empty(rt.alloc());
     let returned = kind_of(skip(&mut source, STRICT, lengths))?;
-    assert_kind(rt, returned, Some(kind), at);
-    assert_count(rt, source.bytes.len(), unread, at);
+    expect(rt, at, returned, Some(kind));
+    expect(rt, at, source.bytes.len(), unread);
     Ok(())
 }
 
@@ -171,8 +172,8 @@ fn skip_large(rt: &(impl Abort + AllocGlobal), encoding: &[u8], most: usize) -> 
         let lengths = SegmentLengthsBuilder::empty(rt.alloc());
         skip(&mut source, STRICT, lengths)
     })?;
-    assert_count(rt, lengths.total_words(), 600, at);
-    assert_count(rt, source.bytes.len(), 1, at);
+    expect(rt, at, lengths.total_words(), 600);
+    expect(rt, at, source.bytes.len(), 1);
     Ok(())
 }
 
@@ -205,12 +206,12 @@ fn blame(rt: &(impl Abort + AllocGlobal), message: &Message, fails_at: u64) -> R
     }
     match skipped {
         Ok(lengths) => {
-            assert_holds(rt, has_lengths(&lengths, message.segments), at);
-            assert_holds(rt, source.failures == 0, at);
+            expect(rt, at, has_lengths(&lengths, message.segments), true);
+            expect(rt, at, source.failures == 0, true);
         }
         Err(error) => {
-            assert_kind(rt, Some(error.kind), Some(ErrorKind::DeviceFailed), at);
-            assert_holds(rt, source.failures == 1, at);
+            expect(rt, at, Some(error.kind), Some(ErrorKind::DeviceFailed));
+            expect(rt, at, source.failures == 1, true);
         }
     }
     Ok(())

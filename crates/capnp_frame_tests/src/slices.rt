@@ -1,5 +1,5 @@
 //! Slices as sources: as much as there is room for is read at once, and all is shown.
-use crate::assertions::{At, assert_bytes, assert_count};
+use crate::fixtures::expect;
 use capnp_frame::Result;
 use capnp_frame::io::{BufRead, Read};
 use std::process::Abort;
@@ -8,12 +8,12 @@ const BYTES: [u8; 11] = [1, 2, 3, 4, 5, 6, 7, 8, 9, 10, 11];
 
 #[test]
 fn a_slice_is_read(rt: HostRuntime) -> Result<()> {
-    let at = At::case("eleven bytes");
+    let at = "eleven bytes";
     let mut source = BYTES.as_slice();
     let mut part = [0; 8];
-    assert_count(&rt, source.read(&mut part)?, 8, at);
-    assert_bytes(&rt, &part, &BYTES[..8], at);
-    assert_count(&rt, source.read(&mut part)?, 3, at);
+    expect(&rt, at, source.read(&mut part)?, 8);
+    expect(&rt, at, part.as_slice(), &BYTES[..8]);
+    expect(&rt, at, source.read(&mut part)?, 3);
     Ok(())
 }
 

@@ -1,5 +1,5 @@
 //! Messages whose tables are known already, and how many words they take.
-use crate::assertions::{At, assert_count, assert_holds};
+use crate::fixtures::expect;
 use crate::framing::encoding_of;
 use crate::messages::{MESSAGES, Message, has_segments};
 use crate::retried;
@@ -21,15 +21,15 @@ fn messages_of_known_tables(rt: HostRuntime) -> Result<()> {
 }
 
 fn find_message(rt: &(impl Abort + AllocGlobal), message: &Message) -> Result<()> {
-    let at = At::case(message.name);
+    let at = message.name;
     let encoding = encoding_of(rt, message.segments)?;
-    assert_holds(rt, is_described(&encoding, message), at);
-    assert_holds(rt, is_cut(rt.alloc(), &encoding, message)?, at);
-    assert_count(
+    expect(rt, at, is_described(&encoding, message), true);
+    expect(rt, at, is_cut(rt.alloc(), &encoding, message)?, true);
+    expect(
         rt,
+        at,
         size_of(rt, message.segments)?,
         message.size_in_words,
-        at,
     );
     Ok(())
 }

@@ -1,6 +1,6 @@
 //! Messages that are written one after the other, and read so over sources that show little.
-use crate::assertions::{At, assert_bytes, assert_calls, assert_holds, assert_kind};
 use crate::failures::FORMATS;
+use crate::fixtures::expect;
 use crate::samples::{ONE_AND_TWO, TWO};
 use crate::streams::{PACKED_THREE, THREE};
 use capnp::streams::{Format, read_messages, write_messages};
@@ -8,6 +8,7 @@ use capnp_frame::io::Write;
 use capnp_frame::message::{DEFAULT_READER_OPTIONS, SegmentArray};
 use capnp_frame::serialize::is_writable;
 use capnp_frame::{ErrorKind, Result};
+use capnp_frame_tests::cases::At;
 use capnp_frame_tests::errors::kind_of;
 use capnp_frame_tests::messages::has_segments;
 use capnp_frame_tests::retried;
@@ -25,10 +26,10 @@ fn encoding_of(format: Format) -> &'static [u8] {
     }
 }
 
-fn name_of(format: Format) -> At<'static> {
+fn name_of(format: Format) -> &'static str {
     match format {
-        Format::Framed => At::case("three messages, framed"),
-        Format::Packed => At::case("three messages, packed"),
+        Format::Framed => "three messages, framed",
+        Format::Packed => "three messages, packed",
     }
 }
 
@@ -63,31 +64,32 @@ fn no_chunk_follows_a_failed_one(rt: HostRuntime) -> Result<()> {
             chunks = fails_at;
         }
         let is_framed = *format == Format::Framed;
-        assert_holds(&rt, chunks > 2 && chunks <= 10, name_of(*format));
-        assert_holds(&rt, is_framed == (chunks == 10), name_of(*format));
+        expect(&rt, name_of(*format), chunks > 2 && chunks <= 10, true);
+        expect(&rt, name_of(*format), is_framed == (chunks == 10), true);
     }
     Ok(())
 }
 
 // Whether the run meets no failure.
 fn write_to(rt: &(impl Abort + AllocGlobal), format: Format, fails_at: u64) -> Result<bool> {
-    let at = At::new(name_of(format).case, fails_at);
+    let at = At::new(name_of(format), fails_at);
     let mut sink = FailingSink::new(Vec::new(rt.alloc()), fails_at);
     let returned = kind_of(write_three(rt, format, &mut sink))?;
     let encoding = encoding_of(format);
     let written = sink.written.as_slice();
     if returned.is_none() {
-        assert_bytes(rt, written, encoding, at);
+        expect(rt, at, written, encoding);
         return Ok(true);
     }
-    assert_kind(rt, returned, Some(ErrorKind::DeviceFailed), at);
-    assert_holds(rt, encoding.starts_with(written), at);
-    assert_holds(
+    expect(rt, at, returned, Some(ErrorKind::DeviceFailed));
+    expect(rt, at, encoding.starts_with(written), true);
+    expect(
         rt,
-        (written.len() == encoding.len()) == (fails_at == 10),
         at,
+        (written.len() == encoding.len()) == (fails_at == 10),
+        true,
     );
-    assert_calls(rt, sink.calls, fails_at, at);
+    expect(rt, at, sink.calls, fails_at);
     Ok(false)
 }
 
@@ -108,13 +110,18 @@ fn three_messages_at_once(rt: HostRuntime) -> Result<()> {
 }
 
 fn read_three(rt: &(impl Abort + AllocGlobal), format: Format, most: usize) -> Result<()> {
-    let at = At::new(name_of(format).case, most as u64);
+    let at = At::new(name_of(format), most as u64);
     let mut source = Trickle::new(encoding_of(format), most);
     let options = DEFAULT_READER_OPTIONS;
     let messages = read_messages(rt.alloc(), &mut source, format, 3, options)?;
     for (message, segments) in messages.iter().zip(&MESSAGES) {
-        assert_holds(rt, has_segments(message.get_segments(), *segments), at);
+        expect(
+            rt,
+            at,
+            has_segments(message.get_segments(), *segments),
+            true,
+        );
     }
-    assert_holds(rt, messages.len() == 3 && source.bytes.is_empty(), at);
+    expect(rt, at, messages.len() == 3 && source.bytes.is_empty(), true);
     Ok(())
 }

@@ -1,7 +1,7 @@
 //! Messages of more segments than a reader accepts, which are built, written and read back.
-use crate::assertions::{At, assert_bytes, assert_count, assert_kind};
 use crate::built_messages::{size_of, words_of, write};
 use crate::failures::FORMATS;
+use crate::fixtures::expect;
 use capnp::message::{AllocationStrategy, Builder, DEFAULT_READER_OPTIONS, HeapAllocator};
 use capnp::streams::{Format, read_messages};
 use capnp::text;
@@ -45,28 +45,28 @@ fn read_back(
 }
 
 fn write_many(rt: &(impl Abort + AllocGlobal)) -> Result<()> {
-    let at = At::case("511 segments");
+    let at = "511 segments";
     let message = build_many(rt.alloc(), 510)?;
     read_back(rt, Format::Packed, &message)?;
     let mut sink: Vec<u8> = Vec::new(rt.alloc());
     write(rt, Format::Framed, &mut sink, &message)?;
-    assert_count(rt, sink.len(), 2048 + 8 * (1 + 510 * 3), at);
+    expect(rt, at, sink.len(), 2048 + 8 * (1 + 510 * 3));
     Ok(())
 }
 
 fn fail_more(rt: &(impl Abort + AllocGlobal)) -> Result<()> {
-    let at = At::case("512 segments");
+    let at = "512 segments";
     let failed = Some(ErrorKind::InvalidNumberOfSegments(512));
     let message = build_many(rt.alloc(), 511)?;
-    assert_count(rt, size_of(rt, &message)?, 257 + 1 + 511 * 3, at);
+    expect(rt, at, size_of(rt, &message)?, 257 + 1 + 511 * 3);
     let returned = kind_of(read_back(rt, Format::Framed, &message))?;
-    assert_kind(rt, returned, failed, at);
-    assert_kind(rt, kind_of(words_of(rt, &message))?, failed, at);
+    expect(rt, at, returned, failed);
+    expect(rt, at, kind_of(words_of(rt, &message))?, failed);
     for format in &FORMATS {
         let mut sink = [9].to_vec(rt.alloc())?;
         let returned = kind_of(write(rt, *format, &mut sink, &message))?;
-        assert_kind(rt, returned, failed, at);
-        assert_bytes(rt, sink.as_slice(), &[9], at);
+        expect(rt, at, returned, failed);
+        expect(rt, at, sink.as_slice(), &[9]);
     }
     Ok(())
 }

@@ -1,11 +1,12 @@
 //! Messages that are built, and written in both formats.
-use crate::assertions::{At, assert_bytes, assert_calls, assert_holds, assert_kind};
+use crate::fixtures::expect;
 use crate::samples::{FAR_FRAMED, FAR_PACKED};
 use capnp::message::{Builder, HeapAllocator, ReaderSegments};
 use capnp::streams::Format;
 use capnp::{serialize, serialize_packed, text};
 use capnp_frame::io::Write;
 use capnp_frame::{ErrorKind, Result};
+use capnp_frame_tests::cases::At;
 use capnp_frame_tests::errors::kind_of;
 use capnp_frame_tests::retried;
 use capnp_frame_tests::sinks::FailingSink;
@@ -67,24 +68,24 @@ fn a_sink_that_fails_at_each_chunk(rt: HostRuntime) -> Result<()> {
 fn write_framed_to(rt: &(impl Abort + AllocGlobal), end: usize, at: At<'_>) -> Result<()> {
     let (sink, returned) = write_far(rt, Format::Framed, at.number)?;
     let failed = at.number < 5;
-    assert_kind(
+    expect(
         rt,
+        at,
         returned,
         if failed {
             Some(ErrorKind::DeviceFailed)
         } else {
             None
         },
-        at,
     );
-    assert_bytes(
+    expect(
         rt,
+        at,
         sink.written.as_slice(),
         FAR_FRAMED.get(..end).unwrap_or(&[1; 99]),
-        at,
     );
-    assert_calls(rt, sink.calls, at.number.min(4), at);
-    assert_calls(rt, sink.failures, u64::from(failed), at);
+    expect(rt, at, sink.calls, at.number.min(4));
+    expect(rt, at, sink.failures, u64::from(failed));
     Ok(())
 }
 
@@ -93,15 +94,16 @@ fn write_packed_to(rt: &(impl Abort + AllocGlobal), at: At<'_>) -> Result<()> {
     let (sink, returned) = write_far(rt, Format::Packed, at.number)?;
     let written = sink.written.as_slice();
     if returned.is_none() {
-        assert_bytes(rt, written, FAR_PACKED, at);
+        expect(rt, at, written, FAR_PACKED);
         return Ok(());
     }
-    assert_kind(rt, returned, Some(ErrorKind::DeviceFailed), at);
-    assert_calls(rt, sink.calls, at.number, at);
-    assert_holds(
+    expect(rt, at, returned, Some(ErrorKind::DeviceFailed));
+    expect(rt, at, sink.calls, at.number);
+    expect(
         rt,
-        FAR_PACKED.starts_with(written) && written.len() < FAR_PACKED.len(),
         at,
+        FAR_PACKED.starts_with(written) && written.len() < FAR_PACKED.len(),
+        true,
     );
     Ok(())
 }

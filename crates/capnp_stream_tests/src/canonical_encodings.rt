@@ -1,9 +1,10 @@
 //! Canonical forms as they are written.
-use crate::assertions::{At, assert_bytes, assert_kind};
+use crate::fixtures::expect;
 use crate::samples::{TEXT, TEXT_FRAMED};
 use capnp::message::{DEFAULT_READER_OPTIONS, Reader, SegmentArray};
 use capnp::serialize::write_canonical_message;
 use capnp_frame::{ErrorKind, Result};
+use capnp_frame_tests::cases::At;
 use capnp_frame_tests::errors::kind_of;
 use capnp_frame_tests::retried;
 use std::process::Abort;
@@ -46,12 +47,12 @@ fn write_form(
         Ok(form) => (form, None),
         Err(kind) => (&[], Some(kind)),
     };
-    assert_kind(rt, returned, error, at);
-    assert_bytes(
+    expect(rt, at, returned, error);
+    expect(
         rt,
+        at,
         sink.as_slice().strip_prefix(b"before").unwrap_or(&[1; 99]),
         form,
-        at,
     );
     Ok(())
 }

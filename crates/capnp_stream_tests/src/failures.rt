@@ -1,6 +1,5 @@
 //! Sources that fail at their nth call.
-use crate::assertions::{At, assert_bytes, assert_calls, assert_fails, assert_holds};
-use crate::calls_reported::assert_call;
+use crate::fixtures::expect;
 use crate::flat::RULES;
 use crate::readers::{Call, READERS, is_returned};
 use crate::samples::{SAMPLES, Sample, TWO_SEGMENTS, encoding_of};
@@ -10,6 +9,8 @@ use capnp_frame::io::Read;
 use capnp_frame::message::DEFAULT_READER_OPTIONS;
 use capnp_frame::serialize::{Padding, try_read_segments};
 use capnp_frame::{ErrorKind, Result};
+use capnp_frame_tests::cases::At;
+use capnp_frame_tests::errors::error_of;
 use capnp_frame_tests::limits::DEFAULT_LIMIT;
 use capnp_frame_tests::retried;
 use capnp_frame_tests::sources::{Failing, Trickle};
@@ -39,7 +40,7 @@ fn fail_samples(rt: &(impl Abort + AllocGlobal), padding: Padding, most: usize) 
             for sample in &SAMPLES {
                 let call = (*format, padding, *reader);
                 let ended = retried!(fail_each(rt, call, sample, most))?;
-                assert_call(rt, ended, call, At::new(sample.name, most as u64));
+                expect(rt, (At::new(sample.name, most as u64), call), ended, true);
             }
         }
     }
@@ -74,9 +75,14 @@ fn fail_at(
     let encoding = encoding_of(sample, call.0);
     let mut source = Failing::new(Trickle::new(encoding, most), fails_at);
     let failed = is_returned(rt.alloc(), call, &mut source, DEFAULT_LIMIT, FAILED)?;
-    assert_call(rt, encoding.ends_with(source.source.bytes), call, at);
-    assert_calls(rt, source.failures, u64::from(failed), at);
-    assert_call(rt, !failed || source.calls == fails_at, call, at);
+    expect(
+        rt,
+        (at, call),
+        encoding.ends_with(source.source.bytes),
+        true,
+    );
+    expect(rt, at, source.failures, u64::from(failed));
+    expect(rt, (at, call), !failed || source.calls == fails_at, true);
     Ok(!failed)
 }
 
@@ -91,7 +97,7 @@ fn read_whole(
     let wanted = Wanted::Segments(sample.segments);
     let returned = is_returned(rt.alloc(), call, &mut source, DEFAULT_LIMIT, wanted)?;
     let is_whole = returned && source.source.bytes.is_empty();
-    assert_call(rt, is_whole, call, At::new(sample.name, fails_at));
+    expect(rt, (At::new(sample.name, fails_at), call), is_whole, true);
     Ok(())
 }
 
@@ -110,11 +116,11 @@ fn count_reads(rt: &(impl Abort + AllocGlobal), most: usize, reads: u64) -> Resu
     let mut source = Failing::new(Trickle::new(TWO_SEGMENTS.framed, most), 0);
     let options = DEFAULT_READER_OPTIONS;
     let _ = try_read_segments(rt.alloc(), &mut source, options)?;
-    assert_calls(
+    expect(
         rt,
+        At::new("two-segments", most as u64),
         source.calls,
         reads,
-        At::new("two-segments", most as u64),
     );
     Ok(())
 }
@@ -136,30 +142,24 @@ fn a_call_after_a_failed_first_one(rt: HostRuntime) -> Result<()> {
 fn read_again(rt: &(impl Abort + AllocGlobal), call: Call) -> Result<()> {
     for sample in &SAMPLES {
         let wanted = Wanted::Segments(sample.segments);
-        fail_first(
-            rt,
-            call,
-            encoding_of(sample, call.0),
-            wanted,
-            At::case(sample.name),
-        )?;
+        let encoding = encoding_of(sample, call.0);
+        fail_first(rt, (sample.name, call), encoding, wanted)?;
     }
-    fail_first(rt, call, &[], Wanted::End, At::case("nothing"))
+    fail_first(rt, ("nothing", call), &[], Wanted::End)
 }
 
 fn fail_first(
     rt: &(impl Abort + AllocGlobal),
-    call: Call,
+    (case, call): (&str, Call),
     encoding: &[u8],
     wanted: Wanted<'_>,
-    at: At<'_>,
 ) -> Result<()> {
     let mut source = Failing::new(Trickle::new(encoding, 8), 1);
     let failed = is_returned(rt.alloc(), call, &mut source, DEFAULT_LIMIT, FAILED)?;
-    assert_call(rt, failed, call, at);
+    expect(rt, (case, call), failed, true);
     let returned = is_returned(rt.alloc(), call, &mut source, DEFAULT_LIMIT, wanted)?;
-    assert_call(rt, returned, call, at);
-    assert_calls(rt, source.failures, 1, at);
+    expect(rt, (case, call), returned, true);
+    expect(rt, case, source.failures, 1);
     Ok(())
 }
 
@@ -180,7 +180,7 @@ fn a_failed_call_within_a_chunk(rt: HostRuntime) {
                 ended = unpack(&rt, *most, fails_at);
             }
         }
-        assert_holds(&rt, ended, At::new("a chunk", *most as u64));
+        expect(&rt, At::new("a chunk", *most as u64), ended, true);
     }
 }
 
@@ -191,11 +191,11 @@ fn unpack(rt: &impl Abort, most: usize, fails_at: u64) -> bool {
     let mut words = [0; 16];
     let returned = PackedRead::new(&mut source).read_exact(&mut words);
     let ended = returned.is_ok();
-    assert_calls(rt, source.failures, u64::from(!ended), at);
+    expect(rt, at, source.failures, u64::from(!ended));
     if ended {
-        assert_bytes(rt, &words, &WORDS, at);
+        expect(rt, at, words.as_slice(), &WORDS);
     } else {
-        assert_fails(rt, returned, ErrorKind::DeviceFailed, at);
+        expect(rt, at, error_of(returned), ErrorKind::DeviceFailed.number());
     }
     ended
 }

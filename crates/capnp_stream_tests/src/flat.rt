@@ -1,8 +1,7 @@
 //! The calls that find a message in a slice or a buffer and take memory for where its segments are:
 //! they find it where memory is there. What else the bytes may be, and the calls that take none, are
 //! in `conformance/`.
-use crate::assertions::At;
-use crate::calls_reported::{assert_form, assert_left};
+use crate::fixtures::expect;
 use crate::samples::{ONE_AND_TWO, SAMPLES};
 use crate::streams::THREE;
 use capnp::message::Reader;
@@ -125,11 +124,11 @@ fn messages_in_each_form(rt: HostRuntime) -> Result<()> {
         for form in &FORMS {
             let call = (*form, *rule);
             for sample in &SAMPLES {
-                let at = At::case(sample.name);
-                retried!(find_message(&rt, call, sample.framed, sample.segments, at))?;
+                let case = sample.name;
+                retried!(find_message(&rt, call, sample.framed, sample.segments, case))?;
             }
-            let at = At::case("flatten, and what follows it");
-            retried!(find_message(&rt, call, THREE, ONE_AND_TWO, at))?;
+            let case = "flatten, and what follows it";
+            retried!(find_message(&rt, call, THREE, ONE_AND_TWO, case))?;
         }
     }
     Ok(())
@@ -140,10 +139,10 @@ fn find_message(
     call: (Form, Padding),
     bytes: &[u8],
     segments: &[&[u8]],
-    at: At<'_>,
+    case: &str,
 ) -> Result<()> {
     let (found, left) = find(rt, call, bytes, segments)?;
-    assert_form(rt, found, call, at);
-    assert_left(rt, left, left_by(call.0, bytes), call, at);
+    expect(rt, (case, call), found, true);
+    expect(rt, (case, call), left, left_by(call.0, bytes));
     Ok(())
 }

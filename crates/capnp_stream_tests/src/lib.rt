@@ -5,21 +5,19 @@
 #[cfg(test)]
 mod appended;
 #[cfg(test)]
-mod assertions;
-#[cfg(test)]
 mod built_and_read;
 #[cfg(test)]
 mod built_messages;
 #[cfg(test)]
 mod calls;
 #[cfg(test)]
-mod calls_reported;
-#[cfg(test)]
 mod canonical_encodings;
 #[cfg(test)]
 mod devices;
 #[cfg(test)]
 mod failures;
+#[cfg(test)]
+mod fixtures;
 #[cfg(test)]
 mod flat;
 #[cfg(test)]

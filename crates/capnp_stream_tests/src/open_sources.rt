@@ -1,8 +1,7 @@
 //! Sources that stay open after a message, as a pipe does: a reader of one message asks for nothing
 //! past its last byte, where it would wait. Those that ask whether another one follows are left out.
-use crate::assertions::At;
-use crate::calls_reported::{assert_call, assert_other};
 use crate::failures::FORMATS;
+use crate::fixtures::expect;
 use crate::flat::RULES;
 use crate::readers::{READERS, is_returned, is_wanted, segments_of};
 use crate::samples::{HELLO, Sample, TWO_SEGMENTS, encoding_of};
@@ -12,6 +11,7 @@ use capnp::streams::{Format, MessageStream, next_message, read_messages};
 use capnp_frame::Result;
 use capnp_frame::message::DEFAULT_READER_OPTIONS;
 use capnp_frame::serialize::Padding;
+use capnp_frame_tests::cases::At;
 use capnp_frame_tests::limits::DEFAULT_LIMIT;
 use capnp_frame_tests::messages::has_segments;
 use capnp_frame_tests::retried;
@@ -88,13 +88,13 @@ fn read_alone(
         let mut source = Trickle::new(encoding_of(message, format), most);
         let call = (format, padding, *reader);
         let returned = is_returned(rt.alloc(), call, &mut source, DEFAULT_LIMIT, wanted)?;
-        assert_call(rt, returned && source.asked_at_end == 0, call, at);
+        expect(rt, (at, call), returned && source.asked_at_end == 0, true);
     }
     for other in &OTHERS {
         let mut source = Trickle::new(encoding_of(message, format), most);
         let call = (format, padding, *other);
         let returned = is_returned_by(rt.alloc(), call, &mut source, message.segments)?;
-        assert_other(rt, returned && source.asked_at_end == 0, call, at);
+        expect(rt, (at, call), returned && source.asked_at_end == 0, true);
     }
     Ok(())
 }

@@ -1,6 +1,5 @@
 //! What the readers of framed messages ask their source for.
-use crate::assertions::{At, assert_calls};
-use crate::calls_reported::assert_call;
+use crate::fixtures::expect;
 use crate::readers::{READERS, is_read};
 use crate::streams::Wanted;
 use capnp::streams::Format;
@@ -35,10 +34,14 @@ fn count_chunks(rt: &(impl Abort + AllocGlobal)) -> Result<()> {
             let mut source = Counting::new(encoding);
             let call = (Padding::Any, *reader);
             let returned = is_read(rt.alloc(), call, &mut source, NO_LIMIT, wanted)?;
-            let at = At::case(name);
-            assert_call(rt, returned, (Format::Framed, Padding::Any, *reader), at);
-            assert_calls(rt, source.empty, 0, at);
-            assert_calls(rt, source.requests, chunks, at);
+            expect(
+                rt,
+                (name, (Format::Framed, Padding::Any, *reader)),
+                returned,
+                true,
+            );
+            expect(rt, name, source.empty, 0);
+            expect(rt, name, source.requests, chunks);
         }
     }
     Ok(())

@@ -1,5 +1,5 @@
 //! Messages that are skipped where memory is there: the lengths of the segments are returned.
-use crate::assertions::{At, assert_count, assert_holds};
+use crate::fixtures::expect;
 use crate::streams::{STREAMS, Stream, Wanted};
 use capnp::message::DEFAULT_READER_OPTIONS;
 use capnp::streams::Format;
@@ -7,6 +7,7 @@ use capnp::{serialize, serialize_packed};
 use capnp_frame::Result;
 use capnp_frame::io::BufRead;
 use capnp_frame::serialize::{Padding, SegmentLengthsBuilder};
+use capnp_frame_tests::cases::At;
 use capnp_frame_tests::retried;
 use capnp_frame_tests::sources::Trickle;
 use std::alloc::Global;
@@ -74,8 +75,8 @@ fn skip_each(
     let mut source = Trickle::new(stream.bytes, most);
     for (wanted, unread) in stream.returns {
         let skipped = is_skipped(rt.alloc(), call, &mut source, *wanted)?;
-        assert_holds(rt, skipped, at);
-        assert_count(rt, source.bytes.len(), *unread, at);
+        expect(rt, at, skipped, true);
+        expect(rt, at, source.bytes.len(), *unread);
     }
     Ok(())
 }

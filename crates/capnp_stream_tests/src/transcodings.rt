@@ -1,10 +1,11 @@
 //! Messages that are taken from one format to the other, while a device fails, and by any padding.
-use crate::assertions::{At, assert_bytes, assert_calls, assert_count, assert_holds, assert_kind};
+use crate::fixtures::expect;
 use crate::samples::{FAR, FLATTEN, HELLO, Sample, TWO_SEGMENTS};
 use capnp::message::DEFAULT_READER_OPTIONS;
 use capnp::{Way, transcode, transcode_lenient};
 use capnp_frame::io::{BufRead, Write};
 use capnp_frame::{ErrorKind, Result};
+use capnp_frame_tests::cases::At;
 use capnp_frame_tests::errors::kind_of;
 use capnp_frame_tests::retried;
 use capnp_frame_tests::sinks::FailingSink;
@@ -82,7 +83,7 @@ fn a_sink_that_fails(rt: HostRuntime) -> Result<()> {
             let is_third = written >= length_of(*way == Way::Pack, 2);
             within_the_third = within_the_third.saturating_add(u32::from(is_third));
         }
-        assert_holds(&rt, ended && within_the_third > 0, At::case(name_of(*way)));
+        expect(&rt, name_of(*way), ended && within_the_third > 0, true);
     }
     Ok(())
 }
@@ -103,15 +104,15 @@ fn write_to(rt: &(impl Abort + AllocGlobal), way: Way, at: At<'_>) -> Result<Opt
         .unwrap_or(&[1; 999]);
     assert_is_front(rt, written, packs, at)?;
     if returned.is_none() {
-        assert_count(rt, written.len(), length_of_all(packs), at);
-        assert_holds(rt, sink.failures == 0 && source.bytes.is_empty(), at);
+        expect(rt, at, written.len(), length_of_all(packs));
+        expect(rt, at, sink.failures == 0 && source.bytes.is_empty(), true);
         return Ok(None);
     }
-    assert_kind(rt, returned, Some(ErrorKind::DeviceFailed), at);
-    assert_holds(rt, sink.failures == 1 && sink.calls == at.number, at);
+    expect(rt, at, returned, Some(ErrorKind::DeviceFailed));
+    expect(rt, at, sink.failures == 1 && sink.calls == at.number, true);
     let consumed = input.len().saturating_sub(source.bytes.len());
     let before = messages_in(!packs, consumed.saturating_sub(1));
-    assert_holds(rt, written.len() >= length_of(packs, before), at);
+    expect(rt, at, written.len() >= length_of(packs, before), true);
     Ok(Some(written.len()))
 }
 
@@ -127,11 +128,11 @@ fn assert_is_front(
     at: At<'_>,
 ) -> Result<()> {
     let whole = encodings_of(rt.alloc(), packed)?;
-    assert_bytes(
+    expect(
         rt,
+        at,
         written,
         whole.get(..written.len()).unwrap_or(&whole),
-        at,
     );
     Ok(())
 }
@@ -148,7 +149,7 @@ fn a_source_that_fails(rt: HostRuntime) -> Result<()> {
                     break;
                 }
             }
-            assert_holds(&rt, ended, At::new(name_of(*way), most as u64));
+            expect(&rt, At::new(name_of(*way), most as u64), ended, true);
         }
     }
     Ok(())
@@ -163,16 +164,16 @@ fn read_from(rt: &(impl Abort + AllocGlobal), way: Way, most: usize, at: At<'_>)
     let returned = transcoded(rt, way, &mut source, &mut written)?;
     assert_is_front(rt, &written, packs, at)?;
     let ended = returned.is_none();
-    assert_calls(rt, source.failures, u64::from(!ended), at);
+    expect(rt, at, source.failures, u64::from(!ended));
     if ended {
-        assert_count(rt, written.len(), length_of_all(packs), at);
+        expect(rt, at, written.len(), length_of_all(packs));
         return Ok(true);
     }
-    assert_kind(rt, returned, Some(ErrorKind::DeviceFailed), at);
+    expect(rt, at, returned, Some(ErrorKind::DeviceFailed));
     let consumed = input.len().saturating_sub(source.source.bytes.len());
     let is_whole = consumed == input.len() && written.len() == length_of_all(packs);
     let done = length_of(packs, messages_in(!packs, consumed));
-    assert_holds(rt, is_whole || written.len() == done, at);
+    expect(rt, at, is_whole || written.len() == done, true);
     Ok(false)
 }
 
@@ -204,6 +205,6 @@ fn transcode_padded(rt: &(impl Abort + AllocGlobal), way: Way, encoding: &[u8]) 
         DEFAULT_READER_OPTIONS,
     )?;
     let wanted = encoding_of(&TWO_SEGMENTS, way == Way::Pack);
-    assert_bytes(rt, &written, wanted, At::case(name_of(way)));
+    expect(rt, name_of(way), written.as_slice(), wanted);
     Ok(())
 }

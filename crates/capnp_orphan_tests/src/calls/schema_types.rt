@@ -1,7 +1,6 @@
 //! Messages that are read and built by the types that the schema compiler makes of two small
 //! schemas.
 mod address_book;
-mod assertions;
 mod builders;
 mod changed;
 mod counts;

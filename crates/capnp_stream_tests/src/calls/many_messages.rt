@@ -1,9 +1,8 @@
 //! A stream of 2,105 messages, each told from the others by its words, by each call that reads the
 //! next one, and by those that go over a stream.
-use crate::assertions::{At, assert_bytes, assert_count, assert_holds};
-use crate::calls_reported::{assert_call, assert_unread};
 use crate::devices::giving;
 use crate::failures::FORMATS;
+use crate::fixtures::expect;
 use crate::flat::RULES;
 use crate::readers::{Call, READERS, is_returned};
 use crate::samples::append_word;
@@ -17,6 +16,7 @@ use capnp::{Way, serialize, serialize_packed};
 use capnp_frame::message::ReaderSegments;
 use capnp_frame::serialize::{OwnedSegments, Padding, TableRules, try_read_segments_reusing};
 use capnp_frame::{Error, ErrorKind, Result};
+use capnp_frame_tests::cases::At;
 use capnp_frame_tests::limits::DEFAULT_LIMIT;
 use capnp_frame_tests::messages::shows;
 use capnp_pack::stream::try_read_packed_segments;
@@ -93,12 +93,12 @@ fn read_each(rt: &(impl Abort + AllocGlobal), call: Call, stream: &[u8]) -> Resu
         let all: [&[u8]; 3] = [&word, &word, &word];
         let wanted = Wanted::Segments(&all[..segments_in(index).min(3)]);
         let returned = is_returned(rt.alloc(), call, &mut source, DEFAULT_LIMIT, wanted)?;
-        assert_call(rt, returned, call, At::new("many messages", index));
+        expect(rt, (At::new("many messages", index), call), returned, true);
     }
     let ended = is_returned(rt.alloc(), call, &mut source, DEFAULT_LIMIT, Wanted::End)?;
-    let at = At::case("their end");
-    assert_call(rt, ended, call, at);
-    assert_unread(rt, source.len(), 0, call, at);
+    let at = "their end";
+    expect(rt, (at, call), ended, true);
+    expect(rt, (at, call), source.len(), 0);
     Ok(())
 }
 
@@ -135,14 +135,15 @@ fn reuse(
         let Some(segments) = found else {
             return Err(missing());
         };
-        assert_holds(
+        expect(
             rt,
-            is_message(&segments, index),
             At::new("kept memory", index),
+            is_message(&segments, index),
+            true,
         );
         kept = segments;
     }
-    assert_count(rt, source.len(), 0, At::case("kept memory"));
+    expect(rt, "kept memory", source.len(), 0);
     Ok(())
 }
 
@@ -166,24 +167,25 @@ fn skip(
             return Err(missing());
         };
         let at = At::new("skipped", index);
-        assert_count(rt, lengths.segments_count(), segments_in(index), at);
-        assert_count(rt, lengths.total_words(), segments_in(index), at);
+        expect(rt, at, lengths.segments_count(), segments_in(index));
+        expect(rt, at, lengths.total_words(), segments_in(index));
         kept = lengths;
     }
-    assert_count(rt, source.len(), 0, At::case("skipped"));
+    expect(rt, "skipped", source.len(), 0);
     Ok(())
 }
 
 // Messages in order.
 fn assert_all(rt: &impl Abort, messages: &[Reader<OwnedSegments>], case: &str) {
-    assert_count(rt, messages.len(), COUNT as usize, At::case(case));
+    expect(rt, case, messages.len(), COUNT as usize);
     let mut index = 0u64;
     for message in messages {
         index = index.wrapping_add(1);
-        assert_holds(
+        expect(
             rt,
-            is_message(message.get_segments(), index),
             At::new(case, index),
+            is_message(message.get_segments(), index),
+            true,
         );
     }
 }
@@ -213,13 +215,13 @@ fn read_all(
     let options = DEFAULT_READER_OPTIONS;
     let read = every_message(rt.alloc(), stream, format, padding, options);
     assert_all(rt, &read.messages, "at once");
-    let at = At::case("at once");
-    assert_count(rt, read.end, stream.len(), at);
-    assert_holds(rt, read.error.is_none(), at);
+    let at = "at once";
+    expect(rt, at, read.end, stream.len());
+    expect(rt, at, read.error.is_none(), true);
     let mut source = stream;
     let messages = read_messages(rt.alloc(), &mut source, format, COUNT as usize, options)?;
     assert_all(rt, &messages, "as many");
-    assert_count(rt, source.len(), 0, At::case("as many"));
+    expect(rt, "as many", source.len(), 0);
     Ok(())
 }
 
@@ -234,9 +236,9 @@ fn iterate<R: BufRead + Drop>(
         index = index.wrapping_add(1);
         let message = message?;
         let at = At::new("one by one", index);
-        assert_holds(rt, is_message(message.get_segments(), index), at);
+        expect(rt, at, is_message(message.get_segments(), index), true);
     }
-    assert_holds(rt, index == COUNT, At::new("one by one", index));
+    expect(rt, At::new("one by one", index), index == COUNT, true);
     Ok(())
 }
 
@@ -262,7 +264,7 @@ fn transcode(
         TableRules::new(padding, options),
         &way,
     );
-    assert_holds(rt, returned.is_ok(), At::case("transcoded"));
-    assert_bytes(rt, &sink, &wanted, At::case("transcoded"));
+    expect(rt, "transcoded", returned.is_ok(), true);
+    expect(rt, "transcoded", sink.as_slice(), wanted.as_slice());
     Ok(())
 }

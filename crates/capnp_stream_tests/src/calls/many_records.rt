@@ -1,11 +1,12 @@
 //! A log of 2,105 records, each a struct of its index, which are appended by one call after another
 //! and read at once.
-use crate::assertions::{At, assert_bytes, assert_count, assert_holds};
+use crate::fixtures::expect;
 use capnp::any_struct::{StructBuilder, StructReader};
 use capnp::message::{Builder, DEFAULT_READER_OPTIONS, HeapAllocator, ReaderSegments};
 use capnp::record_log::{append, read_log};
 use capnp_frame::Result;
 use capnp_frame::serialize::OwnedSegments;
+use capnp_frame_tests::cases::At;
 use capnp_frame_tests::long_lists::append_packed;
 use std::alloc::Global;
 use std::process::Abort;
@@ -43,15 +44,20 @@ fn each_record_is_appended_and_read(rt: HostRuntime) -> Result<()> {
         let mut message = Builder::new_default(rt.alloc());
         append_record(&rt, &mut log, &mut message, index)?;
     }
-    let at = At::case("a log");
-    assert_bytes(&rt, &log, &log_of(rt.alloc())?, at);
+    let at = "a log";
+    expect(&rt, at, log.as_slice(), log_of(rt.alloc())?.as_slice());
     let read = read_log(rt.alloc(), &log, DEFAULT_READER_OPTIONS);
-    assert_count(&rt, read.messages.len(), COUNT as usize, at);
+    expect(&rt, at, read.messages.len(), COUNT as usize);
     let mut index = 0u64;
     for record in &read.messages {
         index = index.wrapping_add(1);
         let fields: StructReader<'_, OwnedSegments> = record.get_root()?;
-        assert_holds(&rt, fields.get_word(0) == index, At::new("a record", index));
+        expect(
+            &rt,
+            At::new("a record", index),
+            fields.get_word(0) == index,
+            true,
+        );
     }
     Ok(())
 }

@@ -1,8 +1,9 @@
-use crate::assertions::{At, assert_bytes, assert_calls, assert_count, assert_kind};
 use crate::devices::{ChoppyReader, giving};
+use crate::fixtures::expect;
 use capnp::devices::Input;
 use capnp_frame::io::{BufRead, Read};
 use capnp_frame::{ErrorKind, Result};
+use capnp_frame_tests::cases::At;
 use capnp_frame_tests::errors::kind_of;
 use capnp_frame_tests::retried;
 use std::alloc::Global;
@@ -25,7 +26,7 @@ fn read_all(rt: &(impl Abort + AllocGlobal), interruptions: u64) -> Result<()> {
     let mut input = input_of(rt.alloc(), &mut device)?;
     read_six(rt, &mut input, at)?;
     read_last(rt, &mut input, at)?;
-    assert_calls(rt, input.failures(), 0, at);
+    expect(rt, at, input.failures(), 0);
     Ok(())
 }
 
@@ -33,7 +34,7 @@ fn read_all(rt: &(impl Abort + AllocGlobal), interruptions: u64) -> Result<()> {
 fn read_six<R: Read>(rt: &impl Abort, input: &mut R, at: At<'_>) -> Result<()> {
     let mut got = [0; 5];
     input.read_exact(&mut got)?;
-    assert_bytes(rt, &got, b"abcde", at);
+    expect(rt, at, got.as_slice(), b"abcde");
     assert_next(rt, input, b"f", at)
 }
 
@@ -56,7 +57,7 @@ fn input_of<'a, 'b>(
 fn assert_next<R: Read>(rt: &impl Abort, input: &mut R, wanted: &[u8], at: At<'_>) -> Result<()> {
     let mut got = [0; 5];
     let count = input.read(&mut got)?;
-    assert_bytes(rt, &got[..count], wanted, at);
+    expect(rt, at, &got[..count], wanted);
     Ok(())
 }
 
@@ -68,7 +69,7 @@ fn assert_shown<R: BufRead>(
     at: At<'_>,
 ) -> Result<()> {
     let shown = input.fill_buf()?;
-    assert_bytes(rt, shown, wanted, at);
+    expect(rt, at, shown, wanted);
     Ok(())
 }
 
@@ -88,8 +89,8 @@ fn read_on(rt: &(impl Abort + AllocGlobal), bad_read: u64, next: &[u8]) -> Resul
     let mut device = giving(b"abcdefgh", 3, 0, bad_read);
     let mut input = input_of(rt.alloc(), &mut device)?;
     let kind = kind_of(input.read_exact(&mut [0; 8]))?;
-    assert_kind(rt, kind, Some(ErrorKind::DeviceFailed), at);
-    assert_calls(rt, input.failures(), 1, at);
+    expect(rt, at, kind, Some(ErrorKind::DeviceFailed));
+    expect(rt, at, input.failures(), 1);
     assert_shown(rt, &mut input, next, at)
 }
 
@@ -112,8 +113,8 @@ fn read_much(rt: &(impl Abort + AllocGlobal), request: usize, longest: usize) ->
     let mut got = vec![in rt.alloc(); 0u8; request]?;
     let count = Read::read(&mut input, &mut got)?;
     drop(input);
-    assert_count(rt, count, request, at);
-    assert_count(rt, device.longest, longest, at);
-    assert_bytes(rt, &got, bytes.get(..request).unwrap_or(&[]), at);
+    expect(rt, at, count, request);
+    expect(rt, at, device.longest, longest);
+    expect(rt, at, got.as_slice(), bytes.get(..request).unwrap_or(&[]));
     Ok(())
 }

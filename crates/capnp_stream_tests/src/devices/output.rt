@@ -1,8 +1,9 @@
-use crate::assertions::{At, assert_bytes, assert_calls, assert_holds};
 use crate::devices::{ChoppyWriter, TAKES_ALL, Ways, taking};
+use crate::fixtures::expect;
 use capnp::devices::Output;
 use capnp_frame::io::Write;
 use capnp_frame::{ErrorKind, Result};
+use capnp_frame_tests::cases::At;
 use capnp_frame_tests::retried;
 use std::process::Abort;
 
@@ -88,9 +89,9 @@ fn write_whole(rt: &(impl Abort + AllocGlobal), capacity: usize, ways: Ways) -> 
     output.flush()?;
     let failures = output.failures();
     drop(output);
-    assert_calls(rt, failures, 0, at);
-    assert_bytes(rt, &device.got, b"abcdefghi", at);
-    assert_holds(rt, device.flushes > ways.flush_interruptions, at);
+    expect(rt, at, failures, 0);
+    expect(rt, at, device.got.as_slice(), b"abcdefghi");
+    expect(rt, at, device.flushes > ways.flush_interruptions, true);
     Ok(())
 }
 
@@ -178,10 +179,10 @@ fn fail_at(rt: &(impl Abort + AllocGlobal), case: &Failing) -> Result<()> {
     let call = failed_call(&mut output)?;
     let failures = output.failures();
     drop(output);
-    assert_holds(rt, call == case.call, at);
-    assert_calls(rt, failures, 1, at);
+    expect(rt, at, call == case.call, true);
+    expect(rt, at, failures, 1);
     let got = device.got.as_slice();
-    assert_bytes(rt, got, case.got.unwrap_or(got), at);
+    expect(rt, at, got, case.got.unwrap_or(got));
     Ok(())
 }
 

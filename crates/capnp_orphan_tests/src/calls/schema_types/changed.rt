@@ -2,10 +2,10 @@
 use crate::addressbook_capnp::person;
 use crate::addressbook_capnp::person::phone_number;
 use crate::calls::schema_types::address_book::{with_email, with_email_alone};
-use crate::calls::schema_types::assertions::{expect_bytes, expect_that};
 use crate::calls::schema_types::people::person_of;
 use crate::calls::schema_types::samples::FILLED;
 use crate::calls::schema_types::shown::{message_in, message_of, sample_of};
+use crate::fixtures::expect;
 use crate::sample_capnp::sample;
 use capnp::message::ReaderSegments;
 use capnp_frame::Result;
@@ -68,7 +68,7 @@ fn a_copy_is_what_was_copied(rt: HostRuntime) -> Result<()> {
     let segments = [FILLED];
     let written = message_of(&segments);
     let written = retried!(written.canonical_segment(alloc))?;
-    expect_bytes(&rt, "copy", copy.as_slice(), written.as_slice());
+    expect(&rt, "copy", copy.as_slice(), written.as_slice());
     Ok(())
 }
 
@@ -97,18 +97,20 @@ fn an_old_text_stays_in_the_bytes_and_not_in_the_canonical_words(rt: HostRuntime
     let alloc = rt.alloc();
     let objects = retried!(changed_twice(alloc, false))?;
     let bytes = objects.get_segment(0).unwrap_or(&[]);
-    expect_that(&rt, "new in bytes", has(bytes, b"alice@new.example"));
-    expect_that(&rt, "old in bytes", has(bytes, b"alice@example.com"));
+    expect(&rt, "new in bytes", has(bytes, b"alice@new.example"), true);
+    expect(&rt, "old in bytes", has(bytes, b"alice@example.com"), true);
     let words = retried!(message_in(&objects).canonical_segment(alloc))?;
-    expect_that(
+    expect(
         &rt,
         "new in words",
         has(words.as_slice(), b"alice@new.example"),
+        true,
     );
-    expect_that(
+    expect(
         &rt,
         "old in words",
         !has(words.as_slice(), b"alice@example.com"),
+        true,
     );
     Ok(())
 }
@@ -117,9 +119,9 @@ fn an_old_text_stays_in_the_bytes_and_not_in_the_canonical_words(rt: HostRuntime
 fn what_was_not_copied_is_not_there(rt: HostRuntime) -> Result<()> {
     let objects = retried!(changed_twice(rt.alloc(), true))?;
     let bytes = objects.get_segment(0).unwrap_or(&[]);
-    expect_that(&rt, "new email", has(bytes, b"alice@new.example"));
-    expect_that(&rt, "old email", !has(bytes, b"alice@example.com"));
-    expect_that(&rt, "name", has(bytes, b"Alice"));
-    expect_that(&rt, "phone", has(bytes, b"555-1212"));
+    expect(&rt, "new email", has(bytes, b"alice@new.example"), true);
+    expect(&rt, "old email", !has(bytes, b"alice@example.com"), true);
+    expect(&rt, "name", has(bytes, b"Alice"), true);
+    expect(&rt, "phone", has(bytes, b"555-1212"), true);
     Ok(())
 }

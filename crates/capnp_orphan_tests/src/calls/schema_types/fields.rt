@@ -1,8 +1,8 @@
 //! A builder whose fields are all set.
-use crate::calls::schema_types::assertions::expect_bytes;
 use crate::calls::schema_types::builders::point_at;
 use crate::calls::schema_types::samples::FILLED;
 use crate::calls::schema_types::shown::{message_in, message_of};
+use crate::fixtures::expect;
 use crate::sample_capnp::{Color, point, sample};
 use capnp_frame::Result;
 use capnp_orphans::Orphanage;
@@ -55,6 +55,6 @@ fn every_field_is_set_as_the_tool_sets_it(rt: HostRuntime) -> Result<()> {
     filled(&mut objects)?.add_root(&mut objects)?;
     let built = message_in(&objects).canonical_segment(alloc)?;
     let written = message_of(&[FILLED]).canonical_segment(alloc)?;
-    expect_bytes(&rt, "all fields", built.as_slice(), written.as_slice());
+    expect(&rt, "all fields", built.as_slice(), written.as_slice());
     Ok(())
 }

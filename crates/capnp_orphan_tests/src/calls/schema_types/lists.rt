@@ -1,7 +1,7 @@
 //! Lists of the types that the compiler makes, element by element.
-use crate::calls::schema_types::assertions::{expect, expect_bytes};
 use crate::calls::schema_types::samples::FILLED;
 use crate::calls::schema_types::shown::{coordinates, message_of, sample_of};
+use crate::fixtures::expect;
 use crate::sample_capnp::{palette, point};
 use capnp::message::{Reader, ReaderSegments};
 use capnp_frame::Result;
@@ -101,7 +101,7 @@ fn expect_first_name(rt: &impl Abort, words: &[u8], wanted: &[u8]) -> Result<()>
     let segments = [words];
     let message = message_of(&segments);
     let found = first_name(&palette_of(&message)?)?;
-    expect_bytes(rt, "the first name", found, wanted);
+    expect(rt, "the first name", found, wanted);
     Ok(())
 }
 

@@ -1,8 +1,8 @@
 //! Messages of the address book's types, and what people of it show.
 use crate::addressbook_capnp::{address_book, person};
 use crate::calls::schema_types::address_book::{Job, append_people, people, write_address_book};
-use crate::calls::schema_types::assertions::{expect, expect_bytes};
 use crate::calls::schema_types::shown::message_in;
+use crate::fixtures::expect;
 use capnp::message::{DEFAULT_READER_OPTIONS, Reader, ReaderSegments};
 use capnp::serialize;
 use capnp_frame::Result;
@@ -63,7 +63,7 @@ fn the_book_is_the_one_that_the_tool_writes(rt: HostRuntime) -> Result<()> {
     let mut objects = Orphanage::new(rt.alloc())?;
     write_address_book(&mut objects)?;
     let bytes = message_in(&objects).canonical_segment(rt.alloc())?;
-    expect_bytes(&rt, "the book", bytes.as_slice(), BOOK);
+    expect(&rt, "the book", bytes.as_slice(), BOOK);
     Ok(())
 }
 

@@ -1,7 +1,7 @@
 //! Structs as text, by the method that the schema compiler writes with `print`. The lines are as
 //! `capnp decode --short` writes them, and where it has none, as docs/COMPILER.md says.
-use crate::calls::schema_types::assertions::expect;
 use crate::calls::schema_types::shown::message_of;
+use crate::fixtures::expect;
 use crate::printed_capnp::printed;
 use capnp_frame::message::SegmentArray;
 use std::alloc::Global;
