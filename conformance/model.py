@@ -2,8 +2,7 @@
 """A model of Cap'n Proto's message layer: the rules of docs/FORMAT.md as a program, by which results are expected.
 
 `model.py [FILE ..]` copies files of cases, or standard input, and writes what it finds in the place of each result
-(conformance/README.md). Other programs import its functions. It knows nothing of the library, and follows the order of the
-encoding document.
+(conformance/README.md). It knows nothing of the library, and follows the order of the encoding document.
 """
 import fileinput
 import itertools
@@ -53,7 +52,7 @@ class Invalid(Exception):
         super().__init__(kind, *numbers)
         self.kind, self.number = kind, KINDS.index(kind)
         self.text = kind + ("(%s)" % ", ".join(map(str, numbers)) if numbers else "")
-        self.sentence = f"{SENTENCES[kind]} ({self.text})"
+        self.sentence, self.result = f"{SENTENCES[kind]} ({self.text})", f"error {self.number} {self.text}"
 
 
 class NoMessage(Exception):
@@ -241,7 +240,7 @@ class Message:
 
     def __init__(self, segments, limit=WORDS_LIMIT, nesting=NESTING_LIMIT):
         self.segments = segments
-        self.limit, self.nesting, self.left = limit, max(0, nesting), limit
+        self.limit, self.left, self.root = limit, limit, (0, 0, max(0, nesting))
 
     def has(self, segment):
         return segment < len(self.segments)
@@ -304,9 +303,6 @@ class Message:
 
     def read(self, segment, index, nesting):
         return self.count(self.object_at(segment, index, nesting))
-
-    def root(self):
-        return 0, 0, self.nesting
 
 
 # Views of objects
@@ -448,17 +444,14 @@ def put(words, at, message, tree):
 def canonical_form(message):
     """The bytes of the one segment that is the canonical form of the root and all below it."""
     words = [0]
-    put(words, 0, message, walk(message, *message.root()))
+    put(words, 0, message, walk(message, *message.root))
     require(len(words) <= 2**29, "CanonicalTooLarge")
     return b"".join(word.to_bytes(8, "little") for word in words)
 
 
 def is_canonical(message):
     """Whether a message is its canonical form; what comes first decides, an error or an object that isn't as there."""
-    if len(message.segments) > 1:
-        return False
-    free = follow(message, 1, *message.root())
-    return free == len(message.segments[0]) // 8
+    return len(message.segments) <= 1 and follow(message, 1, *message.root) == len(message.segments[0]) // 8
 
 
 def follow(message, free, segment, index, nesting):
@@ -485,25 +478,55 @@ def follow(message, free, segment, index, nesting):
     return free
 
 
-# Cases
+# Cases, and the requests that they are
 
-ASKED = {"framed": ["strict", "lenient"], "packed": ["strict", "lenient"], "write": ["framed", "packed"],
-         "flat": ["words", "fields", "lenient words", "lenient fields"], "pack": ["packed"], "unpack": ["unpacked"],
-         "pointer": ["null", "text", "data", "struct", "size"], "list": ["exact", "upgraded"], "field": ["field"],
-         "canonical": ["test", "form"]}
-DEFAULTS = {"limit": WORDS_LIMIT, "nesting": NESTING_LIMIT, "calls": math.inf, "buffer": math.inf, "at": ()}
+ASKED = {"framed": ["strict", "lenient"], "packed": ["strict", "lenient"], "flat": ["words", "fields", "lenient words", "lenient fields"],
+         "pack": ["packed"], "unpack": ["unpacked"], "write": ["framed", "packed"], "pointer": ["null", "text", "data", "struct", "size"],
+         "list": ["exact", "upgraded"], "field": ["field"], "canonical": ["test", "form"]}
+DEFAULTS = {"limit": str(WORDS_LIMIT), "nesting": str(NESTING_LIMIT), "calls": "none", "buffer": "none", "at": "root"}
+ARGUMENTS = {"unpack": 1, "list": 1, "field": 3}
 
 
 def parse(text):
     """The segments, or chunks, of a case."""
     text = re.sub('"([^"]*)"', lambda quoted: quoted[1].encode().hex(), text)
-    text = re.sub(r"(\w+|-)\*(\d+)", lambda run: ("|" if run[1] == "-" else "").join([run[1]] * int(run[2])), text)
+    text = re.sub(r"(\b\w+|-)\*(\d+)", lambda run: ("|" if run[1] == "-" else "").join([run[1]] * int(run[2])), text)
     return [] if text == "none" else [bytes.fromhex(segment.replace("-", "")) for segment in text.split("|")]
 
 
+def fold(text):
+    """Equal words, elements or empty segments in a row once, with their number."""
+    text = re.sub(r"-( \| -)+", lambda run: "-*%d" % run[0].count("-"), text)
+    runs = ((token, len(list(run))) for token, run in itertools.groupby(re.findall(r"\[[^]]*\]|[^ ]+", text)))
+    return " ".join(token if times == 1 else f"{token}*{times}" for token, times in runs)
+
+
 def show(segments):
-    text = " | ".join(segment.hex(" ", -8) or "-" for segment in segments)
-    return re.sub(r"(\w{16})( \1)+|-( \| -)+", lambda run: f"{run[1] or '-'}*{run[0].count(run[1] or '-')}", text)
+    return fold(" | ".join(segment.hex(" ", -8) or "-" for segment in segments))
+
+
+def requests_of(lines):
+    """What the last of some lines of a case asks, with the options before it: a request for each that is asked."""
+    options = dict(DEFAULTS)
+    for line in lines:
+        word, _, text = line.partition(" ")
+        if word in DEFAULTS:
+            options[word] = text.replace(" ", ",")
+    if word not in ASKED:
+        return {}
+    *arguments, text = text.split(" ", ARGUMENTS.get(word, 0))
+    segments = "|".join(segment.hex() or "-" for segment in parse(text)) or "none"
+    return {who: " ".join([word, who.replace(" ", "-"), *options.values(), segments, *arguments]) for who in ASKED[word]}
+
+
+class Request:
+    """A request that is a line: a call, who is asked, the options, the segments, and the arguments of the call."""
+    def __init__(self, line):
+        self.call, self.who, *options, at, segments = line.split(" ")[:8]
+        self.limit, self.nesting, self.calls, self.buffer = (math.inf if word == "none" else int(word) for word in options)
+        self.path = [int(index) for index in at.split(",")] if at != "root" else []
+        self.segments, self.arguments = parse(segments), line.split(" ")[8:]
+        self.bytes = bytearray(b"".join(self.segments))
 
 
 def show_struct(sections):
@@ -526,125 +549,102 @@ def show_number(kind, bits):
 
 
 def show_elements(kind, count, element_at):
-    """The first 64 elements, equal ones in a row as one."""
+    """The first 64 elements."""
     shown = {"structs": show_struct, "pointers": lambda word: "set" if word else "null"}.get(kind, lambda bits: show_number(kind, bits))
-    texts = itertools.groupby(shown(element_at(index)) for index in range(min(count, 64)))
-    runs = [(text, len(list(run))) for text, run in texts]
-    words = [f"list of {count}" + ":" * (count > 0), *(text if times == 1 else f"{text}*{times}" for text, times in runs)]
-    return " ".join(words + [".."] * (count > 64))
+    texts = [shown(element_at(index)) for index in range(min(count, 64))]
+    return fold(" ".join([f"list of {count}" + ":" * (count > 0), *texts, *[".."] * (count > 64)]))
 
 
-def of_streams(call, who, source, options):
+def and_unread(unread):
+    return f"; {len(unread)} unread" if unread else ""
+
+
+def of_stream(asked):
     """The results of a reader of a stream, until it returns no message or fails."""
-    given = []
-    while len(given) < options["calls"]:
+    given, unread, request = [], asked.bytes, unpack if asked.call == "packed" else take
+    while len(given) < asked.calls:
         try:
-            segments = read_message(source, unpack if call == "packed" else take, who == "lenient", options["limit"],
-                                    options["buffer"])
-            given.append("message " + show(segments))
+            given.append("message " + show(read_message(unread, request, asked.who == "lenient", asked.limit, asked.buffer)))
         except NoMessage:
             given.append("end")
         except Invalid as error:
-            given.append(f"error {error.number} {error.text}")
-        unread = f"; {len(source)} unread" if source and "error 11" not in given[-1] else ""
-        given[-1] += unread
-        if not given[-1].startswith("message") and options["calls"] == math.inf:
+            given.append(error.result)
+        given[-1] += and_unread(unread) if "error 11" not in given[-1] else ""
+        if not given[-1].startswith("message") and asked.calls == math.inf:
             break
     return given
 
 
-def of_bytes(call, who, text, options):
+def about_bytes(asked):
     """The result of a call over bytes in memory."""
-    size, text = text.split(" ", 1) if call == "unpack" else (0, text)
-    segments = parse(text)
-    source = bytearray(b"".join(segments)) if call in ("flat", "unpack") else b""
-    whole = len(source)
-    try:
-        if call == "flat":
-            read = read_fields if who.endswith("fields") else read_flat
-            result = "message " + show(read(source, who.startswith("lenient"), options["limit"]))
-        elif call == "unpack":
-            result = "bytes " + show([unpack(source, int(size))])
-        elif call == "write":
-            result = "bytes " + show([frame(segments) if who == "framed" else packed_message(segments)])
-        else:
-            result = "bytes " + show([b"".join(map(pack, segments))])
-    except Invalid as error:
-        result = f"error {error.number} {error.text}"
-        source = bytes(whole) if call == "flat" else b""
-    return [result + (f"; {len(source)} unread" if source else "")]
+    if asked.call == "pack":
+        return "bytes " + show([b"".join(map(pack, asked.segments))])
+    if asked.call == "write":
+        return "bytes " + show([(frame if asked.who == "framed" else packed_message)(asked.segments)])
+    if asked.call == "unpack":
+        return "bytes " + show([unpack(asked.bytes, int(asked.arguments[0]))]) + and_unread(asked.bytes)
+    read = read_fields if asked.who.endswith("fields") else read_flat
+    return "message " + show(read(asked.bytes, asked.who.startswith("lenient"), asked.limit)) + and_unread(asked.bytes)
 
 
-def of_objects(call, who, text, options):
+def about_object(asked):
     """The result about an object, of a message from which nothing was read."""
-    words = text.split(" ", {"list": 1, "field": 3}.get(call, 0))
-    message = Message(parse(words[-1]), options["limit"], options["nesting"])
-    try:
-        return [about_object(call, who, words, message, options["at"])]
-    except Invalid as error:
-        return [f"error {error.number} {error.text}"]
-
-
-def about_object(call, who, words, message, path):
-    place = message.root()
+    call, who, arguments = asked.call, asked.who, asked.arguments
+    message = Message(asked.segments, asked.limit, asked.nesting)
+    place = message.root
     if who != "test":
         message.word(*place[:2])
-    for index in path:
+    for index in asked.path:
         found = struct_of(message.read(*place))
-        if index >= found.pointers:
-            place = None
+        place = (found.segment, found.begin + found.data + index, found.nesting) if index < found.pointers else None
+        if not place:
             break
-        place = found.segment, found.begin + found.data + index, found.nesting
     if who == "null":
         return "yes" if place is None or message.word(*place[:2]) == 0 else "no"
-    if call == "canonical":
-        if who == "test":
-            return "yes" if is_canonical(message) else "no"
+    if who == "test":
+        return "yes" if is_canonical(message) else "no"
+    if who == "form":
         return "bytes " + show([canonical_form(message)])
     if who == "size":
         message.left = message.limit
         return str(size_of(walk(message, *place)) if place else 0)
     found = message.read(*place) if place else None
     if call == "list":
-        return show_elements(words[0], *elements_of(message, found, words[0], who == "upgraded"))
+        return show_elements(arguments[0], *elements_of(message, found, arguments[0], who == "upgraded"))
     if call == "field":
-        kind, index, default = words[0], int(words[1]), int(words[2], 16)
+        kind, index, default = arguments[0], int(arguments[1]), int(arguments[2], 16)
         return "number " + show_number(kind, field_of(message, struct_of(found), int(kind.lstrip("if")), index, default))
     if who == "struct":
         return "struct " + show_struct(sections_of(message, struct_of(found)))
     return "bytes " + show([text_of(message, found) if who == "text" else bytes_of(message, found)])
 
 
-def results(call, who, text, options):
-    if call in ("framed", "packed"):
-        return of_streams(call, who, bytearray(b"".join(parse(text))), options)
-    return (of_objects if call in ("pointer", "list", "field", "canonical") else of_bytes)(call, who, text, options)
+def results(request):
+    """The results of a request."""
+    asked = Request(request)
+    if asked.call in ("framed", "packed"):
+        return of_stream(asked)
+    whole = bytes(asked.bytes) if asked.call == "flat" else b""
+    try:
+        return [(about_bytes if asked.call in ("flat", "pack", "unpack", "write") else about_object)(asked)]
+    except Invalid as error:
+        return [error.result + and_unread(whole)]
 
 
-def results_of(lines):
-    """The results of each that is asked by the last of some lines of a case, with the options before it."""
-    options = dict(DEFAULTS)
-    for line in lines:
-        word, _, text = line.partition(" ")
-        if word in DEFAULTS:
-            options[word] = [int(index) for index in text.split()] if word == "at" else math.inf if text == "none" else int(text)
-    return {who: tuple(results(word, who, text, options)) for who in ASKED.get(word, [])}
-
-
-def lines_of(found):
-    """The results as a case has them: equal ones once, after the names of all that give them."""
-    for some in dict.fromkeys(found.values()):
-        names = [who for who in found if found[who] == some]
-        yield from (f"> {result}" if len(names) == len(found) else f"> {', '.join(names)}: {result}" for result in some)
-
-
-def main():
-    lines = []
-    for line in fileinput.input():
-        if not line.startswith(">"):
-            lines = [*([] if line.startswith("case ") else lines), line.rstrip("\n")]
-            print(line + "".join(f"{result}\n" for result in lines_of(results_of(lines))), end="")
+def copied(text, results_of=lambda requests: map(results, requests)):
+    """The lines of cases, with what is found in the place of each result."""
+    asked, case = [], []
+    for line in filter(lambda line: not line.startswith(">"), text.splitlines()):
+        case = [*([] if line.startswith("case ") else case), line]
+        asked.append((line, requests_of(case)))
+    given = iter(results_of([request for _, requests in asked for request in requests.values()]))
+    for line, requests in asked:
+        yield line
+        found = {who: tuple(next(given, ())) for who in requests}
+        for some in dict.fromkeys(found.values()):
+            names = [who for who in found if found[who] == some]
+            yield from (f"> {result}" if len(names) == len(found) else f"> {', '.join(names)}: {result}" for result in some)
 
 
 if __name__ == "__main__":
-    main()
+    print(*copied("".join(fileinput.input())), sep="\n")

@@ -8,6 +8,7 @@
   from one word on and in one: the tool's text of each is that of the message
 """
 import hashlib
+import itertools
 import json
 import os
 import random
@@ -16,11 +17,11 @@ import sys
 import tempfile
 from pathlib import Path
 
-import corpus
 import drivers
 import model
+from prelude import ROOT, add_crate, copy_tree, tracked
 
-SCHEMA = corpus.ROOT / "tools/conformance/composing/composed.capnp"
+SCHEMA = ROOT / "tools/conformance/composing/composed.capnp"
 WAYS = ["a copied root in segments from a word on", "a composed value in segments from a word on", "a copied root", "a composed value"]
 
 
@@ -95,30 +96,32 @@ def program_differences(program, showing, framed, spread):
 def value_differences(given):
     """Which copied roots and composed values the tool reads otherwise than the messages."""
     with tempfile.TemporaryDirectory() as folder:
-        copy = Path(folder)
-        corpus.copy_of_crates(copy)
-        crate = copy / "crates/composed"
-        (crate / "src").mkdir(parents=True)
-        (crate / "src/main.rt").write_bytes((SCHEMA.parent / "main").read_bytes())
-        with open(copy / "crates.txt", "a") as crates:
-            crates.write("composed: anyhow capnp capnp_values\n")
-        ran = subprocess.run([*drivers.OURS, "--", copy / "rebuilt"], cwd=crate, input=given, stdout=subprocess.PIPE, stderr=subprocess.PIPE)
-        rebuilt = messages_of((copy / "rebuilt").read_bytes() if (copy / "rebuilt").exists() else b"")
-    if ran.returncode or len(rebuilt) != 4 * len(messages_of(given)):
-        yield "the program of composed values ends with %d\n%s" % (ran.returncode, ran.stderr.decode()[-3000:])
-        return
-    wanted = convert("binary:text", given)
+        copy, rebuilt = Path(folder), Path(folder, "rebuilt")
+        copy_tree(copy, tracked("crates", "crates.txt", "HANDLES"))
+        add_crate(copy, "composed: anyhow capnp capnp_values", SCHEMA.parent / "main")
+        ran = subprocess.run([*drivers.OURS, "--", rebuilt], cwd=copy / "crates/composed", input=given, stdout=subprocess.PIPE,
+                             stderr=subprocess.PIPE)
+        if ran.returncode:
+            yield "the program of composed values ends with %d\n%s" % (ran.returncode, ran.stderr.decode()[-3000:])
+        else:
+            yield from rebuilt_differences(given, rebuilt.read_bytes())
+
+
+def rebuilt_differences(given, rebuilt):
+    """The same of what the program wrote."""
+    wanted, messages = convert("binary:text", given), messages_of(rebuilt)
     for index, way in enumerate(WAYS):
-        found = convert("binary:text", b"".join(map(model.frame, rebuilt[index::4])))
+        found = convert("binary:text", b"".join(map(model.frame, messages[index::4])))
         if found != wanted:
-            at = next(at for at, lines in enumerate(zip(wanted.splitlines(), found.splitlines() + [b""])) if lines[0] != lines[1])
-            yield f"{way}: message {at}:\nwanted {wanted.splitlines()[at][:2000]}\nfound  {found.splitlines()[at:at + 1]!s:.2000}"
+            lines = itertools.zip_longest(wanted.splitlines(), found.splitlines(), fillvalue=b"nothing")
+            at, line, other = next((at, *both) for at, both in enumerate(lines) if both[0] != both[1])
+            yield f"{way}: message {at}:\nwanted {line[:2000]}\nfound  {other[:2000]}"
 
 
 def main(words):
     numbers, paths = [int(word) for word in words if word.isdigit()], [word for word in words if not word.isdigit()]
     count, seed = (numbers + [200, 7][len(numbers):])[:2]
-    programs = paths or [str(corpus.ROOT / f"crates/{name}/out/{name}") for name in ("capnp_ls", "capnp_show")]
+    programs = paths or [str(ROOT / f"crates/{name}/out/{name}") for name in ("capnp_ls", "capnp_show")]
     chance = random.Random(seed)
     text = "".join(some_text(chance) for _ in range(count)).encode()
     framed, spread = convert("text:binary", text), convert("text:binary", text, "--segment-size=64")

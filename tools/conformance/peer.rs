@@ -1,4 +1,4 @@
-//! Runs conformance files over the Rust crate: reads cases on standard input, and writes them with what it finds.
+//! Runs requests over the Rust crate (conformance/README.md).
 use capnp::message::{Reader, ReaderOptions, ReaderSegments, SegmentArray};
 use capnp::private::layout::{ElementSize, ListReader, PointerReader, PrimitiveElement, StructReader};
 use capnp::traits::FromPointerReader;
@@ -6,93 +6,45 @@ use capnp::{serialize, serialize_packed, Word};
 use std::io::BufRead;
 use std::panic::{catch_unwind, AssertUnwindSafe};
 
-struct Case {
-    limit: Option<usize>,
-    nesting: i32,
+/// Who is asked what, of which segments.
+struct Request<'a> {
+    call: &'a str,
+    who: &'a str,
+    options: ReaderOptions,
     calls: Option<usize>,
     has_buffer: bool,
     path: Vec<usize>,
+    segments: Vec<Vec<u8>>,
+    arguments: Vec<&'a str>,
 }
 
-impl Case {
-    fn new() -> Case {
-        Case { limit: Some(8 << 20), nesting: 64, calls: None, has_buffer: false, path: vec![] }
-    }
-
-    fn options(&self) -> ReaderOptions {
+impl<'a> Request<'a> {
+    fn parse(line: &'a str) -> Request<'a> {
+        let words: Vec<&str> = line.split(' ').collect();
         let mut options = ReaderOptions::new();
-        options.traversal_limit_in_words(self.limit).nesting_limit(self.nesting);
-        options
-    }
-
-    fn set(&mut self, word: &str, value: &str) -> bool {
-        match word {
-            "case" => *self = Case::new(),
-            "limit" => self.limit = value.parse().ok(),
-            "nesting" => self.nesting = value.parse().unwrap(),
-            "calls" => self.calls = value.parse().ok(),
-            "buffer" => self.has_buffer = true,
-            "at" => self.path = value.split(' ').map(|index| index.parse().unwrap()).collect(),
-            _ => return false,
-        }
-        true
-    }
-}
-
-fn segments_of(written: &str) -> Vec<Vec<u8>> {
-    if written == "none" {
-        return vec![];
-    }
-    let (mut segments, mut segment) = (vec![], vec![]);
-    for (i, part) in written.split('"').enumerate() {
-        if i % 2 == 1 {
-            segment.extend_from_slice(part.as_bytes());
-            continue;
-        }
-        for token in part.split_ascii_whitespace() {
-            if token == "|" {
-                segments.push(std::mem::take(&mut segment));
-            } else if let Some(times) = token.strip_prefix("-*") {
-                segments.resize(segments.len() + times.parse::<usize>().unwrap() - 1, vec![]);
-            } else if token != "-" {
-                let (digits, times) = token.split_once('*').unwrap_or((token, "1"));
-                let bytes = (0..digits.len() / 2).map(|i| u8::from_str_radix(&digits[2 * i..2 * i + 2], 16).unwrap());
-                segment.extend_from_slice(&bytes.collect::<Vec<u8>>().repeat(times.parse().unwrap()));
-            }
+        options.traversal_limit_in_words(words[2].parse().ok()).nesting_limit(words[3].parse().unwrap());
+        let unhex = |digits: &str| (0..digits.len() / 2).map(|i| u8::from_str_radix(&digits[2 * i..2 * i + 2], 16).unwrap()).collect();
+        Request {
+            call: words[0],
+            who: words[1],
+            options,
+            calls: words[4].parse().ok(),
+            has_buffer: words[5] != "none",
+            path: words[6].split(',').filter_map(|index| index.parse().ok()).collect(),
+            segments: words[7].split('|').filter(|digits| *digits != "none").map(unhex).collect(),
+            arguments: words[8..].to_vec(),
         }
     }
-    segments.push(segment);
-    segments
-}
-
-// Each thing after a space, equal ones in a row once.
-fn runs(things: &[String]) -> String {
-    let (mut line, mut i) = (String::new(), 0);
-    while i < things.len() {
-        let times = things[i..].iter().take_while(|other| **other == things[i]).count();
-        line += &format!(" {}", things[i]);
-        if times > 1 {
-            line += &format!("*{}", times);
-        }
-        i += times;
-    }
-    line
 }
 
 fn shown(bytes: &[u8]) -> String {
     let digits = |word: &[u8]| word.iter().map(|byte| format!("{:02x}", byte)).collect::<String>();
-    if bytes.is_empty() { " -".into() } else { runs(&bytes.chunks(8).map(digits).collect::<Vec<_>>()) }
+    if bytes.is_empty() { "-".into() } else { bytes.chunks(8).map(digits).collect::<Vec<_>>().join(" ") }
 }
 
 fn message_of<S: ReaderSegments>(segments: S) -> String {
-    let all: Vec<Vec<u8>> = (0..).map_while(|id| segments.get_segment(id).map(|bytes| bytes.to_vec())).collect();
-    let (mut parts, mut i) = (vec![], 0);
-    while i < all.len() {
-        let empty = all[i..].iter().take_while(|segment| segment.is_empty()).count();
-        parts.push(if empty > 1 { format!(" -*{}", empty) } else { shown(&all[i]) });
-        i += empty.max(1);
-    }
-    "message".to_string() + &parts.join(" |")
+    let all = (0..).map_while(|id| segments.get_segment(id).map(shown));
+    format!("message {}", all.collect::<Vec<_>>().join(" | "))
 }
 
 fn unread(count: usize) -> String {
@@ -102,29 +54,29 @@ fn unread(count: usize) -> String {
 fn tried<F: FnOnce() -> capnp::Result<String>>(call: F) -> String {
     match catch_unwind(AssertUnwindSafe(call)) {
         Ok(Ok(line)) => line,
-        Ok(Err(error)) => format!("error - {}", error.description.replace(['\n', ';'], " ")),
+        Ok(Err(error)) => format!("error - {}", error.description.replace(['\n', '\t', ';'], " ")),
         Err(_) => "error - PANIC".into(),
     }
 }
 
-fn stream(case: &Case, packed: bool, bytes: &[u8]) -> Vec<String> {
-    let (mut lines, mut source) = (vec![], bytes);
-    while case.calls.map_or(true, |calls| lines.len() < calls) {
-        let line = tried(|| {
-            let read = if packed {
-                serialize_packed::try_read_message(&mut source, case.options())?
+fn stream(request: &Request) -> String {
+    let (mut results, mut source) = (vec![], request.segments[0].as_slice());
+    while request.calls.map_or(true, |calls| results.len() < calls) {
+        let result = tried(|| {
+            let read = if request.call == "packed" {
+                serialize_packed::try_read_message(&mut source, request.options)?
             } else {
-                serialize::try_read_message(&mut source, case.options())?
+                serialize::try_read_message(&mut source, request.options)?
             };
             Ok(read.map_or("end".into(), |message| message_of(message.into_segments())))
         });
-        let done = case.calls.is_none() && !line.starts_with("message");
-        lines.push(format!("lenient: {}{}", line, unread(source.len())));
-        if done {
+        let is_last = request.calls.is_none() && !result.starts_with("message");
+        results.push(result + &unread(source.len()));
+        if is_last {
             break;
         }
     }
-    lines
+    results.join("\t")
 }
 
 // Bytes at a place that is aligned.
@@ -134,29 +86,24 @@ fn aligned(bytes: &[u8]) -> Vec<Word> {
     words
 }
 
-fn flat(case: &Case, bytes: &[u8]) -> Vec<String> {
-    let words = aligned(bytes);
-    let by = |fields: bool| {
-        let mut slice = &Word::words_to_bytes(&words)[..bytes.len()];
-        let line = tried(|| {
-            Ok(if fields {
-                message_of(serialize::read_message_from_flat_slice_no_alloc(&mut slice, case.options())?.into_segments())
-            } else {
-                message_of(serialize::read_message_from_flat_slice(&mut slice, case.options())?.into_segments())
-            })
-        });
-        line + &unread(slice.len())
-    };
-    vec![format!("lenient words: {}", by(false)), format!("lenient fields: {}", by(true))]
+fn flat(request: &Request, bytes: &[u8]) -> String {
+    let mut slice = bytes;
+    let result = tried(|| {
+        Ok(if request.who.ends_with("fields") {
+            message_of(serialize::read_message_from_flat_slice_no_alloc(&mut slice, request.options)?.into_segments())
+        } else {
+            message_of(serialize::read_message_from_flat_slice(&mut slice, request.options)?.into_segments())
+        })
+    });
+    result + &unread(slice.len())
 }
 
-fn write(segments: &[&[u8]]) -> Vec<String> {
-    let framed = tried(|| {
+fn write(segments: &[&[u8]]) -> String {
+    tried(|| {
         let mut bytes = vec![];
         serialize::write_message_segments(&mut bytes, &SegmentArray::new(segments))?;
-        Ok("bytes".to_string() + &shown(&bytes))
-    });
-    vec![format!("framed: {}", framed)]
+        Ok(format!("bytes {}", shown(&bytes)))
+    })
 }
 
 struct Pointer<'a>(PointerReader<'a>);
@@ -165,18 +112,6 @@ impl<'a> FromPointerReader<'a> for Pointer<'a> {
     fn get_from_pointer(reader: &PointerReader<'a>, _: Option<&'a [Word]>) -> capnp::Result<Pointer<'a>> {
         Ok(Pointer(*reader))
     }
-}
-
-// What a call makes of the pointer that a case asks, of a message of which nothing was read.
-fn ask<F: Fn(PointerReader) -> capnp::Result<String>>(case: &Case, segments: &[&[u8]], call: F) -> String {
-    tried(|| {
-        let reader = Reader::new(SegmentArray::new(segments), case.options());
-        let mut pointer = reader.get_root::<Pointer>()?.0;
-        for index in &case.path {
-            pointer = pointer.get_struct(None)?.get_pointer_field(*index);
-        }
-        call(pointer)
-    })
 }
 
 fn shown_pointer(p: PointerReader) -> String { (if p.is_null() { "null" } else { "set" }).into() }
@@ -201,45 +136,25 @@ fn shown_struct(fields: StructReader) -> String {
     line + "]"
 }
 
-fn pointer(case: &Case, segments: &[&[u8]]) -> Vec<String> {
-    vec![
-        "null: ".to_string() + &ask(case, segments, |p| Ok(if p.is_null() { "yes" } else { "no" }.into())),
-        "text: ".to_string() + &ask(case, segments, |p| Ok("bytes".to_string() + &shown(p.get_text(None)?.as_bytes()))),
-        "data: ".to_string() + &ask(case, segments, |p| Ok("bytes".to_string() + &shown(p.get_data(None)?))),
-        "struct: ".to_string() + &ask(case, segments, |p| Ok("struct ".to_string() + &shown_struct(p.get_struct(None)?))),
-        "size: ".to_string() + &ask(case, segments, |p| Ok(format!("{}", p.total_size()?.word_count))),
-    ]
+fn field(request: &Request, fields: StructReader) -> String {
+    let (index, default) = (request.arguments[1].parse().unwrap(), u64::from_str_radix(request.arguments[2], 16).unwrap());
+    let shown = match request.arguments[0] {
+        "1" => format!("{:x}", fields.get_bool_field_mask(index, default != 0) as u8),
+        "8" => format!("{:x}", fields.get_data_field_mask::<u8>(index, default as u8)),
+        "16" => format!("{:x}", fields.get_data_field_mask::<u16>(index, default as u16)),
+        "32" => format!("{:x}", fields.get_data_field_mask::<u32>(index, default as u32)),
+        "64" => format!("{:x}", fields.get_data_field_mask::<u64>(index, default)),
+        "i8" => fields.get_data_field_mask::<i8>(index, default as i8).to_string(),
+        "i16" => fields.get_data_field_mask::<i16>(index, default as i16).to_string(),
+        "i32" => fields.get_data_field_mask::<i32>(index, default as i32).to_string(),
+        "i64" => fields.get_data_field_mask::<i64>(index, default as i64).to_string(),
+        "f32" => fields.get_data_field_mask::<f32>(index, default as u32).to_string(),
+        _ => fields.get_data_field_mask::<f64>(index, default).to_string(),
+    };
+    format!("number {}", shown)
 }
 
-fn canonical(case: &Case, segments: &[&[u8]]) -> Vec<String> {
-    let reader = || Reader::new(SegmentArray::new(segments), case.options());
-    let test = tried(|| Ok(if reader().is_canonical()? { "yes" } else { "no" }.into()));
-    let form = tried(|| Ok("bytes".to_string() + &shown(Word::words_to_bytes(&reader().canonicalize()?))));
-    vec![format!("test: {}", test), format!("form: {}", form)]
-}
-
-fn field(case: &Case, segments: &[&[u8]], number: &str, index: usize, default: u64) -> Vec<String> {
-    let line = ask(case, segments, |p| {
-        let fields = p.get_struct(None)?;
-        let shown = match number {
-            "1" => format!("{:x}", fields.get_bool_field_mask(index, default != 0) as u8),
-            "8" => format!("{:x}", fields.get_data_field_mask::<u8>(index, default as u8)),
-            "16" => format!("{:x}", fields.get_data_field_mask::<u16>(index, default as u16)),
-            "32" => format!("{:x}", fields.get_data_field_mask::<u32>(index, default as u32)),
-            "64" => format!("{:x}", fields.get_data_field_mask::<u64>(index, default)),
-            "i8" => fields.get_data_field_mask::<i8>(index, default as i8).to_string(),
-            "i16" => fields.get_data_field_mask::<i16>(index, default as i16).to_string(),
-            "i32" => fields.get_data_field_mask::<i32>(index, default as i32).to_string(),
-            "i64" => fields.get_data_field_mask::<i64>(index, default as i64).to_string(),
-            "f32" => fields.get_data_field_mask::<f32>(index, default as u32).to_string(),
-            _ => fields.get_data_field_mask::<f64>(index, default).to_string(),
-        };
-        Ok(format!("number {}", shown))
-    });
-    vec![line]
-}
-
-fn list(case: &Case, segments: &[&[u8]], elements: &str) -> Vec<String> {
+fn list(elements: &str, pointer: PointerReader) -> capnp::Result<String> {
     let size = match elements.trim_start_matches(&['i', 'f'][..]) {
         "void" => ElementSize::Void,
         "bool" => ElementSize::Bit,
@@ -266,45 +181,53 @@ fn list(case: &Case, segments: &[&[u8]], elements: &str) -> Vec<String> {
         "pointers" => shown_pointer(list.get_pointer_element(i)),
         _ => shown_struct(list.get_struct_element(i)),
     };
-    let line = ask(case, segments, |p| {
-        let list = p.get_list(size, None)?;
-        let first: Vec<String> = (0..list.len().min(64)).map(|i| element(&list, i)).collect();
-        let (colon, more) = (if first.is_empty() { "" } else { ":" }, if list.len() > 64 { " .." } else { "" });
-        Ok(format!("list of {}{}{}{}", list.len(), colon, runs(&first), more))
-    });
-    vec![format!("upgraded: {}", line)]
+    let list = pointer.get_list(size, None)?;
+    let mut words = vec![format!("list of {}{}", list.len(), if list.len() > 0 { ":" } else { "" })];
+    words.extend((0..list.len().min(64)).map(|i| element(&list, i)));
+    words.extend((list.len() > 64).then(|| "..".to_string()));
+    Ok(words.join(" "))
 }
 
-fn results(case: &Case, word: &str, rest: &str) -> Vec<String> {
-    let skipped = match word { "field" => 3, "list" => 1, "pack" | "unpack" => return vec![], _ => 0 };
-    let words: Vec<&str> = rest.splitn(skipped + 1, ' ').collect();
-    let written = segments_of(words[skipped]);
-    let aligned: Vec<Vec<Word>> = written.iter().map(|segment| aligned(segment)).collect();
-    let slices = aligned.iter().zip(&written).map(|(words, segment)| &Word::words_to_bytes(words)[..segment.len()]);
+// What is said of a message from which nothing was read.
+fn about_object(request: &Request, segments: &[&[u8]]) -> capnp::Result<String> {
+    let reader = Reader::new(SegmentArray::new(segments), request.options);
+    if request.call == "canonical" {
+        return Ok(match request.who {
+            "test" => (if reader.is_canonical()? { "yes" } else { "no" }).into(),
+            _ => format!("bytes {}", shown(Word::words_to_bytes(&reader.canonicalize()?))),
+        });
+    }
+    let mut pointer = reader.get_root::<Pointer>()?.0;
+    for index in &request.path {
+        pointer = pointer.get_struct(None)?.get_pointer_field(*index);
+    }
+    Ok(match request.who {
+        "null" => (if pointer.is_null() { "yes" } else { "no" }).into(),
+        "text" => format!("bytes {}", shown(pointer.get_text(None)?.as_bytes())),
+        "data" => format!("bytes {}", shown(pointer.get_data(None)?)),
+        "struct" => format!("struct {}", shown_struct(pointer.get_struct(None)?)),
+        "size" => pointer.total_size()?.word_count.to_string(),
+        "field" => field(request, pointer.get_struct(None)?),
+        _ => list(request.arguments[0], pointer)?,
+    })
+}
+
+fn results_of(request: &Request) -> String {
+    let aligned: Vec<Vec<Word>> = request.segments.iter().map(|segment| aligned(segment)).collect();
+    let slices = aligned.iter().zip(&request.segments).map(|(words, segment)| &Word::words_to_bytes(words)[..segment.len()]);
     let segments: Vec<&[u8]> = slices.collect();
-    match word {
-        "framed" | "packed" if case.has_buffer => vec![],
-        "framed" | "packed" => stream(case, word == "packed", &written[0]),
-        "flat" => flat(case, &written[0]),
-        "write" => write(&segments),
-        "pointer" => pointer(case, &segments),
-        "canonical" => canonical(case, &segments),
-        "field" => field(case, &segments, words[0], words[1].parse().unwrap(), u64::from_str_radix(words[2], 16).unwrap()),
-        _ => list(case, &segments, words[0]),
+    match (request.call, request.who) {
+        ("framed" | "packed", "lenient") if !request.has_buffer => stream(request),
+        ("flat", "lenient-words" | "lenient-fields") => flat(request, segments[0]),
+        ("write", "framed") => write(&segments),
+        ("pointer" | "canonical" | "field", _) | ("list", "upgraded") => tried(|| about_object(request, &segments)),
+        _ => String::new(),
     }
 }
 
 fn main() {
     std::panic::set_hook(Box::new(|_| {}));
-    let mut case = Case::new();
-    for line in std::io::stdin().lock().lines().map(|line| line.unwrap()).filter(|line| !line.starts_with('>')) {
-        println!("{}", line);
-        let (word, rest) = line.split_once(' ').unwrap_or((&line, ""));
-        if word.is_empty() || word == "#" || case.set(word, rest) {
-            continue;
-        }
-        for found in results(&case, word, rest) {
-            println!("> {}", found);
-        }
+    for line in std::io::stdin().lock().lines() {
+        println!("{}", results_of(&Request::parse(&line.unwrap())));
     }
 }
