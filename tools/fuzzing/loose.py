@@ -30,11 +30,10 @@ class Counted(Message):
 
 
 def result_of(lines, who, kind):
-    """The last result of one who is asked, or of all, where messages are of a kind."""
+    """The last result of one who is asked, where messages are of a kind."""
     model.Message = kind
     try:
-        results = model.results_of(lines)
-        return results.get(who, next(iter(results.values())))[-1]
+        return model.results(model.requests_of(lines)[who])[-1]
     finally:
         model.Message = Message
 
@@ -48,6 +47,12 @@ def cause_of(lines, who, here, there):
         return "C++ takes bytes that end within a table for no segments, and has no limit for a message in memory"
     if they_reject and (who == "null" or " set" in here):
         return "C++ follows a pointer before it says whether it is null"
+    if call == "write" and here.startswith("error 5 "):
+        return "C++ writes more segments than its readers take"
+    if who == "size" and here.startswith("error 21 "):
+        return "C++ counts no words of a capability"
+    if call == "list" and "deeply-nested" in there:
+        return "C++ counts otherwise against its limits"
     if call not in ("pointer", "list", "field", "canonical"):
         return None
     if who == "test":

@@ -1,5 +1,6 @@
 """Runs of capnp_show: what each is to do, and how many did something else."""
 import os
+import select
 import subprocess
 import sys
 
@@ -25,9 +26,18 @@ def run_slowly(args, text, **variables):
     return run(args, text, env={**os.environ, "LD_PRELOAD": DEVICES, **variables})
 
 
-def begin(*args):
+def begin(*args, stdin=subprocess.PIPE):
     """Begins a run, whose streams are pipes."""
-    return subprocess.Popen([PROGRAM, *args], bufsize=0, stdin=subprocess.PIPE, stdout=subprocess.PIPE, stderr=subprocess.PIPE)
+    return subprocess.Popen([PROGRAM, *args], bufsize=0, stdin=stdin, stdout=subprocess.PIPE, stderr=subprocess.PIPE)
+
+
+def next_line(process):
+    """The next line of a run, or nothing where none comes within ten seconds."""
+    return process.stdout.readline() if is_there(process.stdout, 10) else b""
+
+
+def is_there(pipe, seconds):
+    return bool(select.select([pipe], [], [], seconds)[0])
 
 
 def end(process, shown, said=b""):

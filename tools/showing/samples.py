@@ -53,6 +53,47 @@ SHARED = [words(2 << 48, 0x1A_00000005, 0x1A_00000001) + b"hi\0\0\0\0\0\0"]
 VOIDS, MOST_VOIDS = [words(0x28_00000001)], [words(0xFFFFFFF8_00000001)]
 MESSAGES = [HELLO, FAR, WIDE, STRUCTS, ONE_STRUCT, CYCLE, INVALID, [bytes(8)], [b""], [words(0x0C_00000001, 5), b"", bytes(16)], SHARED, VOIDS, MOST_VOIDS]
 
+# How a page begins and ends.
+FRONT = """<!DOCTYPE html>
+<html lang="en">
+<head>
+<meta charset="utf-8">
+<meta name="viewport" content="width=device-width">
+<title>capnp_show</title>
+<style>
+"""
+END = "</body>\n</html>\n"
+# The drawing of FAR, and the list of its objects.
+FAR_SECTION = """<section class="message" id="m0-0">
+<h2>message 0: offset 0, bytes 48, segments 2, words 4</h2>
+<div class="drawing">
+<div style="height: 88px">
+<h3>segment 0, words 2</h3>
+<table class="segment">
+<tr><th>0</th><td id="m0-0-0-0" class="pointer root" title="word 0:0, the root pointer, to object 0">\
+<a href="#m0-0-0-1">0000000000000100\
+<svg><path class="c0" d="M216 61H254m-5 -3l5 3l-5 3"/></svg></a></td>\
+<td id="m0-0-0-1" class="pointer o0 c0" title="word 0:1, pointer of object 0, to object 1">\
+<a href="#m0-0-1-1">0200000001000000\
+<svg><path class="c1" d="M388 61H395V130H247V149H254m-5 -3l5 3l-5 3"/></svg></a></td></tr>
+</table>
+</div>
+<div style="height: 88px">
+<h3>segment 1, words 2</h3>
+<table class="segment">
+<tr><th>0</th><td id="m0-0-1-0" class="landing o1 c1" title="word 1:0, landing pad of object 1">\
+010000001a000000</td><td id="m0-0-1-1" class="data o1 c1" title="word 1:1, data of object 1">\
+6869000000000000</td></tr>
+</table>
+</div>
+</div>
+<ol class="objects" start="0">
+<li class="o0 c0">root: struct, data 0, pointers 1, at 0:1</li>
+<li class="o1 c1">pointer 0: list, element byte, count 3, at 1:1, landing pad 1:0, words 1, text &quot;hi&quot;</li>
+</ol>
+</section>
+"""
+
 
 def listed(messages):
     """The framed bytes of messages in a row, and what is listed of each."""

@@ -5,20 +5,13 @@ from html import escape
 from drawing import page_of
 from nodes import sentence
 from page import wrongs_of
-from samples import ESCAPES, FAR, ONE_STRUCT, WIDE, listed, words
+from samples import END, ESCAPES, FAR, FAR_SECTION, FRONT, ONE_STRUCT, WIDE, listed, words
 
-FRONT = """<!DOCTYPE html>
-<html lang="en">
-<head>
-<meta charset="utf-8">
-<meta name="viewport" content="width=device-width">
-<title>capnp_show</title>
-<style>td { font-family: monospace } .c0 { background: #fff }</style>
+HEAD = FRONT + """td { font-family: monospace } .c0 { background: #fff }</style>
 </head>
 <body>
 <p class="legend"><span class="key-data">data</span><br>Each word is shown.</p>
 """
-END = "</body>\n</html>\n"
 NULLS = [words(3 << 48, 0, 7, 0x12_00000001) + b"a\0\0\0\0\0\0\0"]
 
 
@@ -59,13 +52,7 @@ def section(name, line, tables, objects):
 
 INVALID = "refused, since " + sentence("CapabilityRefused")
 PAGES = {
-    "far": (FAR, section("m0-0", "message 0: offset 0, bytes 48, segments 2, words 4", table(
-        0, 2, (0, cell("m0-0-0-0", "pointer root", "0000000000000100", "m0-0-0-1"),
-               cell("m0-0-0-1", "pointer o0 c0", "0200000001000000", "m0-0-1-1")),
-    ) + table(
-        1, 2, (0, cell("m0-0-1-0", "landing o1 c1", "010000001a000000"), cell("m0-0-1-1", "data o1 c1", "6869000000000000")),
-    ), ["root: struct, data 0, pointers 1, at 0:1",
-        'pointer 0: list, element byte, count 3, at 1:1, landing pad 1:0, words 1, text "hi"'])),
+    "far": (FAR, FAR_SECTION),
     "double-far": (WIDE, section("m0-0", "message 0: offset 0, bytes 64, segments 3, words 6", table(
         0, 2, (0, cell("m0-0-0-0", "pointer root", "0000000000000100", "m0-0-0-1"),
                cell("m0-0-0-1", "pointer o0 c0", "0600000002000000", "m0-0-1-1")),
@@ -169,7 +156,7 @@ MISTAKES = [
 
 
 def written(name, inside):
-    return f"{FRONT}<h1>{escape(name)}</h1>\n{inside}{END}"
+    return f"{HEAD}<h1>{escape(name)}</h1>\n{inside}{END}"
 
 
 def wanted(name, segments):

@@ -1,14 +1,13 @@
 """Runs of capnp_show over pipes, devices, a growing log and a gigabyte, and whose reads give a byte at a time, are interrupted or
 fail; what is told of the format of an input, and when; and runs over thousands of messages."""
 import os
-import select
 import subprocess
 import time
 
 from model import frame, packed_message
 from nodes import shown_of
 from runs import (
-    INTERRUPTED, PROGRAM, begin, count, end, error_line, expect, expect_shown, expect_unwritten, give, run, run_slowly, write,
+    INTERRUPTED, begin, count, end, error_line, expect, expect_shown, expect_unwritten, give, is_there, next_line, run, run_slowly, write,
 )
 from samples import FAR, HELLO, zeros
 
@@ -42,7 +41,7 @@ def try_telling(content, length, is_known):
     """Whether the format is told by a given number of bytes; of these alone nothing else is said."""
     process = begin("--detect", "--count")
     process.stdin.write(content[:length])
-    found = bool(select.select([process.stderr], [], [], 10 if is_known else 0.3)[0])
+    found = is_there(process.stderr, 10 if is_known else 0.3)
     process.stdin.write(content[length:])
     result = end(process, b"", b"" if found == is_known else f"told by {length} bytes: {found}".encode())
     expect(f"detected by {length} bytes", result, 0, "1\n", seen("framed"))
@@ -80,7 +79,7 @@ def try_outputs():
         process = begin(*args)
         for byte in HELLO_BYTES:
             process.stdin.write(bytes([byte]))
-        expect(f"a slow pipe {args}", end(process, process.stdout.readline()), 0, shown_of([], "standard input", HELLO_BYTES)[0], err)
+        expect(f"a slow pipe {args}", end(process, next_line(process)), 0, shown_of([], "standard input", HELLO_BYTES)[0], err)
 
 
 def try_growing_log():
@@ -89,12 +88,12 @@ def try_growing_log():
     with open("growing", "wb", buffering=0) as log:
         log.write(HELLO_BYTES)
         tail = subprocess.Popen(["tail", "-c", "+1", "-s", "0.1", "-f", "growing"], stdout=subprocess.PIPE)
-        process = subprocess.Popen([PROGRAM], stdin=tail.stdout, stdout=subprocess.PIPE, stderr=subprocess.PIPE)
+        process = begin(stdin=tail.stdout)
         tail.stdout.close()
-        shown = process.stdout.readline()
+        shown = next_line(process)
         log.write(content[len(HELLO_BYTES):])
         begun = time.monotonic()
-        shown += process.stdout.readline()
+        shown += next_line(process)
         late = time.monotonic() - begun
     tail.terminate()
     tail.wait()

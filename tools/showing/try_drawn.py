@@ -1,52 +1,13 @@
 """Pages of messages that are written out, in part or whole: a section, headings, arrows and links."""
 from model import frame
 from runs import count, expect_parts, run
-from samples import FAR, HELLO, list_pointer, struct_pointer, words, zeros
+from samples import END, FAR, FAR_SECTION, FRONT, HELLO, list_pointer, struct_pointer, words, zeros
 
-# The drawing of FAR, and the list of its objects.
-FAR_SECTION = """<section class="message" id="m0-0">
-<h2>message 0: offset 0, bytes 48, segments 2, words 4</h2>
-<div class="drawing">
-<div style="height: 88px">
-<h3>segment 0, words 2</h3>
-<table class="segment">
-<tr><th>0</th><td id="m0-0-0-0" class="pointer root" title="word 0:0, the root pointer, to object 0">\
-<a href="#m0-0-0-1">0000000000000100\
-<svg><path class="c0" d="M216 61H254m-5 -3l5 3l-5 3"/></svg></a></td>\
-<td id="m0-0-0-1" class="pointer o0 c0" title="word 0:1, pointer of object 0, to object 1">\
-<a href="#m0-0-1-1">0200000001000000\
-<svg><path class="c1" d="M388 61H395V130H247V149H254m-5 -3l5 3l-5 3"/></svg></a></td></tr>
-</table>
-</div>
-<div style="height: 88px">
-<h3>segment 1, words 2</h3>
-<table class="segment">
-<tr><th>0</th><td id="m0-0-1-0" class="landing o1 c1" title="word 1:0, landing pad of object 1">\
-010000001a000000</td><td id="m0-0-1-1" class="data o1 c1" title="word 1:1, data of object 1">\
-6869000000000000</td></tr>
-</table>
-</div>
-</div>
-<ol class="objects" start="0">
-<li class="o0 c0">root: struct, data 0, pointers 1, at 0:1</li>
-<li class="o1 c1">pointer 0: list, element byte, count 3, at 1:1, landing pad 1:0, words 1, text &quot;hi&quot;</li>
-</ol>
-</section>
-"""
 LARGE_SECTION = """<section class="message" id="m0-0">
 <h2>message 0: offset 0, bytes 32784, segments 1, words 4097</h2>
 <p class="large">A message of more than 4096 words is not drawn.</p>
 </section>
 """
-FRONT = """<!DOCTYPE html>
-<html lang="en">
-<head>
-<meta charset="utf-8">
-<meta name="viewport" content="width=device-width">
-<title>capnp_show</title>
-<style>
-"""
-END = "</body>\n</html>\n"
 # The heading of a file of this name: only the characters of markup have names.
 MARKED = [
     ("", ""),

@@ -23,6 +23,10 @@ LANDING = [words(2 << 48, 0x1_00000002, 0x1_00000002), words(3 << 32 | 0xFFFFFFF
 LISTS = [words(3 << 48, 0x07_00000009, 0x1F_00000009, 0x17_00000015, 5 << 2, 1 << 2 | 1 << 32, 1, 2, 3, 2 << 2 | 1 << 32, 4, 5)]
 # every kind of list, from a struct with eight pointers
 KINDS = [words(8 << 48, *((3 << 35 | code << 32 | (7 + 2 * code) << 2 | 1) for code in range(7)), 0, *range(24))]
+# 65,534 nodes below the first of three pointers, which are a list of 71 pointers to one list of 922; so those of the second and the
+# third one are the nodes 65,536 and 65,537
+NODES = [words(3 << 48, list_pointer(1, 4, 6, 71), struct_pointer(2, 997, 1, 0), struct_pointer(3, 998, 1, 0),
+               *(list_pointer(at, 75, 6, 922) for at in range(4, 75)), *(924 * [0]))]
 DRAWN = [*MESSAGES, WIDE, LANDING, STRUCTS, LISTS, KINDS, MARKUP, ESCAPES, [words(3)], OVERLAPS]
 LINK = re.compile(r'<a href="(#[^"]*)">[0-9a-f]*<svg><path class="(c[0-9])" d="M([0-9]+) ([0-9]+)([^m"]*)')
 
@@ -61,7 +65,7 @@ def try_drawings():
     expect_drawn("nesting", [CYCLE, STRUCTS, INVALID], ["--nesting", "1"], {"nesting": 1})
     expect_drawn("words", [CYCLE, FAR], ["--words", "9"], {"words": 9})
     expect_drawn("doublings", [DOUBLINGS], ["--words", "99"], {"words": 99})
-    expect_drawn("more nodes than are drawn", [DOUBLINGS, HELLO])
+    expect_drawn("more nodes than are drawn", [NODES, HELLO])
     expect_drawn("4,096 and 4,097 words", [large(4096), large(4097), HELLO, [bytes(8 * 2048), bytes(8 * 2049)]])
     messages = [HELLO, STRUCTS, [bytes(8)], [words(3)]]
     expect_drawn("hashes", messages, ["--hash"])
