@@ -8,11 +8,11 @@ try_builders() {
     # Loops over `&list` want the crate of that impl, capnp_wire, too.
     printf '%s\n' 'builders_types: capnp' 'builders: anyhow builders_types capnp capnp_wire' >> "$work/consumer/crates.txt"
 
-    "$clone/tools/compile" "$users"/{note,order,patient}.capnp "$clone/crates/capnpc_sample/schemas/addressbook.capnp" "$types" \
+    "$clone/tools/compile" "$users"/{branch,order,patient}.capnp "$clone/crates/capnpc_sample/schemas/addressbook.capnp" "$types" \
         > "$work/said" 2>&1 || fail 'the types are not written'
     write_lib "$types" 'The types of four schemas.'
     mkdir -p "$crate/src" "$crate/proofs/branches/+tree"
-    for name in main book branches changed loops notes orders patients people records; do
+    for name in main book branches changed loops orders patients; do
         cp "$users/$name" "$crate/src/$name.rt"
     done
     sed -E 's/<S: ReaderSegments>//; s/_, S>/_, OwnedSegments>/; s/ in (.*)\.iter\(\) \{/ in \&\1 {/

@@ -7,7 +7,7 @@ say_how_long() {
         [ -f "$root/crates/$2/out/$1" ] || missing+=("$2")
         shift 2
     done
-    [ ${#missing[@]} -eq 0 ] || python3 "$root/tools/installing/build_time.py" "$tool" "$root" "${missing[@]}"
+    [ ${#missing[@]} -eq 0 ] || python3 "$root/tools/installing/build_time.py" "$tool" "${missing[@]}"
 }
 
 # Has rt prove and build a crate, after which this file is in its folder `out`: build FILE CRATE RT..

@@ -1,31 +1,19 @@
-"""Says how long it takes to prove and build crates, and those below them: build_time.py TOOL ROOT CRATE..
+"""Says how long it takes to prove and build crates, and those below them: build_time.py TOOL CRATE..
 
 The seconds of processor time of each crate's proof are those of bench/gate.txt, which `tools/time gate` writes. What a
 crate below has in its folder `out` already is left out.
 """
-import os
 import re
 import sys
+from pathlib import Path
 
+sys.dont_write_bytecode = True
+sys.path.insert(0, str(Path(__file__).resolve().parent.parent))
+from prelude import ROOT, below
 
-def below(name, uses, found):
-    """The crates of the repository below one, and itself."""
-    if name in uses and name not in found:
-        found.add(name)
-        for other in uses[name]:
-            below(other, uses, found)
-    return found
-
-
-tool, root, *names = sys.argv[1:]
-with open(os.path.join(root, "crates.txt")) as file:
-    lines = [line.split(":") for line in file if ":" in line and not line.startswith("#")]
-uses = {left.split()[0]: right.split() for left, right in lines}
-with open(os.path.join(root, "bench/gate.txt")) as file:
-    seconds = dict(re.findall(r"^(\w+) +(\d+) +\d+ +\d+ +\d+$", file.read(), re.MULTILINE))
-wanted = set().union(*(below(name, uses, set()) for name in names))
-wanted = {name for name in wanted
-          if name in names or not os.path.exists(os.path.join(root, "crates", name, "out/rlib", name + ".rlib"))}
+tool, *names = sys.argv[1:]
+seconds = dict(re.findall(r"^(\w+) +(\d+) +\d+ +\d+ +\d+$", (ROOT / "bench/gate.txt").read_text(), re.MULTILINE))
+wanted = {name for name in below(*names) if name in names or not (ROOT / f"crates/{name}/out/rlib/{name}.rlib").exists()}
 minutes = sum(int(seconds.get(name, 0)) for name in wanted) / 60
 unknown = sorted(wanted - set(seconds))
 print("%s: first proves and builds %s, %d crates in all: some %d minutes of processor time%s"

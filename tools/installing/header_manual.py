@@ -1,14 +1,13 @@
-"""Writes the manual page linsjoar(3): header_manual.py ROOT
+"""Writes the manual page linsjoar(3).
 
 The page is made of crates/capnp_c/linsjoar.h. A comment with an empty line after it begins a section, if its first
 sentence is short, or is a paragraph. Another comment is the text of what is declared below it.
 """
-import os
 import re
 import sys
 
 sys.dont_write_bytecode = True
-from troff import bold, escaped
+from troff import ROOT, bold, escaped, head
 
 # A comment and the code below it up to an empty line or the next comment, either of which may be missing.
 BLOCK = re.compile(r"(?:^/\*(?P<comment>[\s\S]*?)\*/\n)?(?P<code>(?:(?!/\*).+\n)*)", re.M)
@@ -96,12 +95,5 @@ def about(header):
     return "\n".join(shown)
 
 
-[root] = sys.argv[1:]
-crate = os.path.join(root, "crates/capnp_c")
-with open(os.path.join(crate, "linsjoar.h")) as file, open(os.path.join(crate, "linsjoar_types.h")) as types:
-    name, page = page_of(file.read(), types.read())
-with open(os.path.join(root, "VERSION")) as file:
-    version = file.read().strip()
-print('.TH "LINSJOAR" 3 "" "linsjoar %s"' % version)
-print(".SH NAME\nlinsjoar \\- %s" % escaped(name[0].lower() + name[1:]))
-print("\n".join(page))
+name, page = page_of(*((ROOT / "crates/capnp_c" / header).read_text() for header in ("linsjoar.h", "linsjoar_types.h")))
+print(head("linsjoar", 3, name), *page, sep="\n")

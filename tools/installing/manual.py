@@ -1,16 +1,15 @@
-"""Writes the manual page of a built program: manual.py ROOT CRATE NAME [PROGRAM]
+"""Writes the manual page of a built program: manual.py CRATE NAME [PROGRAM]
 
 The page is made of what the program prints for `--help`; that of the plugin is of the comment at the head of its
-main.rt, and has the words and what follows them from `--help`. NAME is what it is installed as, and PROGRAM the file that is asked, if it isn't that in the
-crate's folder.
+main.rt, and has the words and what follows them from `--help`. NAME is what it is installed as, and PROGRAM the file that is asked, if it
+isn't that in the crate's folder.
 """
-import os
 import re
 import subprocess
 import sys
 
 sys.dont_write_bytecode = True
-from troff import bold, escaped
+from troff import ROOT, bold, escaped, head
 
 NAME = r"(?:(?<=\W)|^)(--?[a-zA-Z][\w-]*)"
 
@@ -74,18 +73,12 @@ def page_of_words(text):
     return section("Options", words.splitlines()) + [".PP", escaped(" ".join(rest.split()))]
 
 
-root, crate, name, *programs = sys.argv[1:]
-with open(os.path.join(root, "crates", crate, "src/main.rt")) as file:
-    source = file.read()
-with open(os.path.join(root, "VERSION")) as file:
-    version = file.read().strip()
-program = programs[0] if programs else os.path.join(root, "crates", crate, "out", crate)
+crate, name, *programs = sys.argv[1:]
+program = programs[0] if programs else ROOT / "crates" / crate / "out" / crate
 said = subprocess.run([program, "--help"], check=True, capture_output=True, text=True).stdout
 if crate == "capnpc_rattle":
-    about, page = page_of_comment(source)
+    about, page = page_of_comment((ROOT / "crates" / crate / "src/main.rt").read_text())
     page += page_of_words(said)
 else:
     about, page = page_of_help(said)
-print('.TH "%s" 1 "" "linsjoar %s"' % (escaped(name.upper()), version))
-print(".SH NAME\n%s \\- %s" % (escaped(name), escaped(about[0].lower() + about[1:])))
-print("\n".join(page))
+print(head(name, 1, about), *page, sep="\n")

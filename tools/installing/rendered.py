@@ -7,7 +7,6 @@ import sys
 import tempfile
 
 FOLDER = os.path.dirname(os.path.abspath(__file__))
-ROOT = os.path.dirname(os.path.dirname(FOLDER))
 
 
 def sections_of(crate, program):
@@ -15,8 +14,7 @@ def sections_of(crate, program):
     None on a machine that has no man."""
     if not shutil.which("man"):
         return None
-    made = subprocess.run([sys.executable, os.path.join(FOLDER, "manual.py"), ROOT, crate, crate, program],
-                          check=True, capture_output=True)
+    made = subprocess.run([sys.executable, os.path.join(FOLDER, "manual.py"), crate, crate, program], check=True, capture_output=True)
     with tempfile.NamedTemporaryFile(suffix=".1") as page:
         page.write(made.stdout)
         page.flush()

@@ -1,4 +1,7 @@
 """Text of manual pages, as troff reads it."""
+from pathlib import Path
+
+ROOT = Path(__file__).resolve().parent.parent.parent
 
 
 def escaped(text):
@@ -8,3 +11,9 @@ def escaped(text):
 
 def bold(text):
     return "\\fB" + escaped(text) + "\\fR"
+
+
+def head(name, chapter, about):
+    """The head of a page, with what it is about."""
+    return '.TH "%s" %d "" "linsjoar %s"\n.SH NAME\n%s \\- %s' % (
+        escaped(name.upper()), chapter, (ROOT / "VERSION").read_text().strip(), escaped(name), escaped(about[0].lower() + about[1:]))

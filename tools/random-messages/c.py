@@ -4,7 +4,7 @@ from c_templates import (CONSTANTS, DECLARED, HEAD, LIST_OF_LISTS, MADE_POINTERS
                          SETTER, STRUCT)
 from languages import DEPTH, MOST, Language, each
 from schemas import FLOATS, SIGNED, UNSIGNED, fields
-from values import is_pointer
+from values import FRAMED, is_pointer
 
 CODES = {1: "BIT", 8: "BYTE", 16: "TWO_BYTES", 32: "FOUR_BYTES", 64: "EIGHT_BYTES"}
 SHORT = {"Bool": "bool", "Float32": "float", "Float64": "double", "Void": "void"}
@@ -15,7 +15,7 @@ def main_text(count):
     return MAIN % {
         "declared": each(ROOT_DECLARED, count),
         "roots": each("    case %(at)d: root%(at)d(program, task, index); break;", count),
-        "constants": each(CONSTANTS, count), "most": MOST}
+        "constants": each(CONSTANTS, count), "most": MOST, "framed": FRAMED}
 
 
 def text(index, schema):

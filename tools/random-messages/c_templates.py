@@ -105,7 +105,7 @@ static void root(struct program *program, enum task task, uint8_t schema, uint8_
 
 static void show(struct program *program) {
     uint8_t schema = (uint8_t)take_number(program, 1), index = (uint8_t)take_number(program, 1);
-    size_t len = (size_t)take_number(program, 8);
+    size_t len = (size_t)take_number(program, 4);
     const uint8_t *bytes = take(program, len);
     struct linsjoar_reader reader;
     show_field(program, "message");
@@ -117,15 +117,15 @@ static void show(struct program *program) {
     root(program, SHOW, schema, index);
 }
 
-static void build(struct program *program, FILE *built) {
-    uint8_t is_copied = (uint8_t)take_number(program, 1), schema = (uint8_t)take_number(program, 1);
-    uint8_t index = (uint8_t)take_number(program, 1);
-    uint64_t len;
+static void build(struct program *program, bool is_copied, FILE *built) {
+    uint8_t schema = (uint8_t)take_number(program, 1), index = (uint8_t)take_number(program, 1);
+    uint32_t len;
     expect(linsjoar_message_begin(&program->message, NULL, 0, linsjoar_heap));
     root(program, MAKE, schema, index);
     if (is_copied)
         root(program, COPY, schema, index);
-    len = program->message_len;
+    len = (uint32_t)program->message_len;
+    fputc(%(framed)d, built);
     fputc(schema, built);
     fputc(index, built);
     fwrite(&len, sizeof len, 1, built);
@@ -133,31 +133,25 @@ static void build(struct program *program, FILE *built) {
     linsjoar_message_free(&program->message);
 }
 
-static void read_input(struct program *program, const char *path) {
-    FILE *file = fopen(path, "rb");
-    if (file == NULL)
-        exit(2);
-    program->left = input;
-    program->end = input + fread(input, 1, sizeof input, file);
-    fclose(file);
-}
-
-/* What the messages of the file `argv[1]` show, each after the numbers of its schema and of its struct, and its length, goes to
- * the file `argv[2]`; what is built by the descriptions of `argv[3]` goes to `argv[4]`, as such messages. */
+/* What is said of the framed messages that standard input describes goes to the file `argv[1]`, and the others are built into
+ * `argv[2]`. */
 int main(int argc, char **argv) {
     static struct program program;
-    FILE *built = argc > 4 ? fopen(argv[4], "wb") : NULL;
-    program.said = argc > 4 ? fopen(argv[2], "w") : NULL;
+    FILE *built = argc > 2 ? fopen(argv[2], "wb") : NULL;
+    program.said = argc > 2 ? fopen(argv[1], "w") : NULL;
     if (program.said == NULL || built == NULL)
         return 2;
 %(constants)s
-    read_input(&program, argv[1]);
-    while (program.left != program.end)
-        show(&program);
+    program.left = input;
+    program.end = input + fread(input, 1, sizeof input, stdin);
+    while (program.left != program.end) {
+        uint64_t way = take_number(&program, 1);
+        if (way == %(framed)d)
+            show(&program);
+        else
+            build(&program, way, built);
+    }
     fprintf(program.said, "\\n");
-    read_input(&program, argv[3]);
-    while (program.left != program.end)
-        build(&program, built);
     return fclose(program.said) != 0 || fclose(built) != 0;
 }
 """

@@ -1,6 +1,6 @@
 """Random calls on builders: setters, and those that select groups of unions, in any order and again and again."""
 from schemas import Group
-from values import NULL, Implied, Made, Selected, Values, groups, groups_of, is_pointer, setters
+from values import IMPLIED, NULL, SELECTED, Made, Values, groups, groups_of, is_pointer, setters
 
 
 class Calls(Values):
@@ -16,6 +16,13 @@ class Calls(Values):
         if self.chance.random() < 0.2:
             self.read_between(made, steps)
         return steps
+
+    def read_between(self, made, steps):
+        """The struct is read after some calls, and some of the fields that are set later have other values before."""
+        steps.way, steps.first = self.chance.choice([1, 2]), self.chance.randrange(len(steps) + 1)
+        later = [member for member, _ in steps[steps.first:]]
+        steps.replaced = [(field, self.null_or(field.kind, 0)) for around, field in setters(made)
+                          if field in later and not any(part.is_union for part in around) and self.chance.random() < 0.5]
 
     def set_to(self, field, depth, in_union):
         """What a field is set to. The tool prints the default of a struct or a list that is a member of a union and
@@ -48,13 +55,13 @@ class Course:
         self.begun.add(outermost)
         for union, member in zip(around, around[1:]):
             if union.is_union and self.selected.get(union) is not member:
-                yield member, Implied() if is_implied else Selected()
+                yield member, IMPLIED if is_implied else SELECTED
                 self.select(union, member)
         in_union = bool(around) and around[-1].is_union
         if in_union:
             self.select(around[-1], target)
         if isinstance(target, Group):
-            yield target, Selected()
+            yield target, SELECTED
         elif is_pointer(target.kind):
             yield target, self.values.set_to(target, depth, in_union)
         else:

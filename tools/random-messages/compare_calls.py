@@ -59,10 +59,8 @@ class Messages:
         self.has_text.append(values.is_text_same)
 
     def said_by_peer(self):
-        """What the C++ program says, which leaves the messages, each after the numbers of its schema and its struct, and its
-        length, in `peer/messages`."""
+        """What the C++ program says, and the messages that it built, as a description has them."""
         write(self.peer / "main.c++", cpp.main_text(len(self.schemas)))
-        write(self.peer / "description", self.description)
         for index, schema in enumerate(self.schemas):
             write(self.peer / ("peer%d.c++" % index), cpp.text(index, schema))
         names = ["main", *(name % index for index in range(len(self.schemas)) for name in ("peer%d", "schema%d.capnp"))]
@@ -70,19 +68,30 @@ class Messages:
         with ThreadPoolExecutor(2) as threads:
             list(threads.map(lambda name: run([*compiler, "-c", name + ".c++", "-o", name + ".o"], self.peer), names))
         run([*compiler, "-o", "peer", *(name + ".o" for name in names), *LIBRARIES], self.peer)
+        return self.said_of(self.description)
+
+    def said_of(self, description):
+        """What that program says of other messages, and those that it builds."""
+        write(self.peer / "description", description)
         run(["./peer", "description", "said", "messages"], self.peer)
-        return said(self.peer / "said")
+        return parts_of(said(self.peer / "said")), (self.peer / "messages").read_bytes()
 
     def end(self, word, wanted, different):
         constants = sum(len(schema.constants) for schema in self.schemas)
-        end(word, len(self.descriptions), self.schemas, "%d constants, %d lines" % (constants, wanted.count("\n")), different)
+        lines = sum(part.count("\n") + 1 for part in wanted)
+        end(word, len(self.descriptions), self.schemas, "%d constants, %d lines" % (constants, lines), different)
 
 
 def types(copy, chance, count, schemas, has_long_names):
     messages = Messages(copy, chance, count, schemas, has_long_names, False)
-    found = copy.said_by_types(messages.schemas, messages.description, ["builders", "print"], True, True)
-    wanted = messages.said_by_peer()
-    messages.end("types", wanted, compare(messages.names, parts_of(wanted), parts_of(found), messages.has_text))
+    copy.make_program(messages.schemas)
+    wanted, framed = messages.said_by_peer()
+    found = parts_of(copy.said_by_program(messages.description + framed))
+    # Of what the C++ program built, they say what its reader shows, and the text.
+    wanted += [part[part.index("\nshown") + 1:] for part in wanted[schemas:]]
+    for listed in messages.names, messages.has_text:
+        listed += listed[schemas:]
+    messages.end("types", wanted, compare(messages.names, wanted, found, messages.has_text))
 
 
 def headers(copy, count):
@@ -126,11 +135,10 @@ def in_c(copy, chance, count, schemas, has_long_names):
         write(made / names[index + 1], c.text(index, schema))
     run([CC, "-std=c11", "-O1", *WARNINGS, *os.environ.get("CFLAGS", "").split(), "-I%s" % HERE,
          "-I%s/crates/capnp_c" % copy.folder, "-I.", "-o", "program", *names, library()], made)
-    whole = messages.said_by_peer()
-    run(["./program", messages.peer / "messages", "said", messages.peer / "description", "built"], made)
-    run(["./peer", made / "built", "said_of_built"], messages.peer)
-    wanted, of_built = parts_of(whole), parts_of(said(messages.peer / "said_of_built"))
+    wanted, framed = messages.said_by_peer()
+    run(["./program", "said", "built"], made, framed + messages.description)
+    of_built, _ = messages.said_of((made / "built").read_bytes())
     shown = list(map(shown_alone, wanted))
     different = compare(messages.names, shown, parts_of(said(made / "said")), messages.has_text)
     different += compare(messages.names, *(list(map(built_alone, parts)) for parts in (wanted, of_built)), [True] * len(messages.names))
-    messages.end("c", "\n".join(shown), different)
+    messages.end("c", shown, different)

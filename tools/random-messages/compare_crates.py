@@ -6,10 +6,9 @@ import time
 
 from comparing import run, take_schema, tool, write
 from paths import Paths, taken_names
-from prelude import ROOT
+from prelude import below, copy_tree
 from schemas import OPAQUE
 
-LIBRARIES = "capnp_frame capnp_pack capnp_layout capnp_wire capnp_values capnp_orphans capnp_build capnp_message capnp".split()
 MAIN = """\
 //! Builds, reads and prints a struct of each type, of which nothing is set.
 #![tactic(auto)]
@@ -79,9 +78,7 @@ def wrongs(copy, crate, schemas, is_proved):
 def crates(copy, chance, count, schemas_each, proved):
     schemas = [take_schema(chance, lambda schema: is_taken(copy, index, schema), True, True) for index in range(count * schemas_each)]
     copy.write_types(len(schemas), copy.folder / "types", "builders", "print")
-    for name in LIBRARIES if proved else ():
-        if (ROOT / "crates" / name / "out").is_dir():
-            shutil.copytree(ROOT / "crates" / name / "out", copy.folder / "crates" / name / "out", symlinks=True)
+    copy_tree(copy.folder, [], below("capnp") if proved else ())
     wrong = 0
     for number in range(count):
         begun, name = time.time(), "capnp_random_%d" % number

@@ -8,6 +8,7 @@ from pathlib import Path
 
 from makers import Maker
 from paths import taken_names
+from prelude import ROOT
 from rattle import Rattle, roots
 from schemas import fields
 
@@ -58,34 +59,31 @@ class Copy:
     def __init__(self, folder):
         self.folder, self.made = folder, folder / "crates/made/src"
 
-    def rt(self, crate, stream, *words):
-        # The interpreter, which `rt try` asks first, reads no arguments.
-        run(["rt", "try", "--steps", "1", "--seconds", "3600", "--", *map(str, words)], self.folder / "crates" / crate, stream)
-
     def write_types(self, count, to, *words):
-        """Has the schema compiler write what the words ask for of this many schemas: the program of COMPILER, where that is
-        set, or the one of the copy."""
+        """Has the schema compiler write what the words ask for of this many schemas: the program of COMPILER, or else that of
+        tools/compiling/plugin."""
         request = run(["capnp", "compile", "-o-", *("schema%d.capnp" % index for index in range(count))], self.folder)
         to.mkdir(parents=True)
-        if "COMPILER" in os.environ:
-            run([os.environ["COMPILER"], to, *words], self.folder, request)
-        else:
-            self.rt("capnpc_rattle", request, to, *words)
+        compiler = os.environ.get("COMPILER") or run([ROOT / "tools/compiling/plugin"], ROOT).decode().strip()
+        run([compiler, to, *words], self.folder, request)
 
-    def said_by_types(self, schemas, description, words, *parts, options=()):
-        """What the program says that uses the types of the schema compiler; the parts are those of `Rattle.text`."""
+    def make_program(self, schemas):
+        """Writes the program that uses the types of the schema compiler."""
         here = Path(__file__).resolve().parent
         for name, file in ("main", "program"), ("shown", "shown"), ("source", "source"):
             write(self.made / (name + ".rt"), (here / file).read_text())
         with open(self.folder / "crates.txt", "a") as file:
             file.write("made: anyhow capnp capnp_frame capnp_orphans capnp_wire\n")
-        self.write_types(len(schemas), self.made / "schemas", *words)
+        self.write_types(len(schemas), self.made / "schemas", "builders", "print")
         taken = taken_names(self.folder / "crates/capnpc_rattle/src/reserved.rt")
         write(self.made / "schemas.rt", roots(len(schemas)))
         for index, schema in enumerate(schemas):
             types = (self.made / "schemas" / ("schema%d_capnp.rt" % index)).read_text()
-            write(self.made / "schemas" / ("made_%d.rt" % index), Rattle(schema, taken, types).text(index, *parts))
-        self.rt("made", description, self.folder / "said", *options)
+            write(self.made / "schemas" / ("made_%d.rt" % index), Rattle(schema, taken, types).text(index))
+
+    def said_by_program(self, description):
+        # The interpreter, which `rt try` asks first, reads no arguments.
+        run(["rt", "try", "--steps", "1", "--seconds", "3600", "--", self.folder / "said"], self.folder / "crates/made", description)
         return said(self.folder / "said")
 
 

@@ -2,7 +2,7 @@
 tool writes of them. Structs, fields and groups have names of its own (`peer`)."""
 from languages import DEPTH, MOST, Language, each
 from schemas import capital
-from values import is_pointer
+from values import FRAMED, is_pointer
 
 NUMBERS = {"Void": "capnp::Void", "Bool": "bool", "Float32": "float", "Float64": "double",
            **{"%sInt%d" % (sign, width): "%sint%d_t" % (sign.lower(), width)
@@ -15,15 +15,9 @@ namespace schema%(index)d {
 %(declared)s
 %(structs)s
 
-void say(uint8_t index, Source& source, Shown& shown) {
+void say(bool isFramed, uint8_t index, Source& source, Shown& shown) {
     switch (index) {
 %(roots)s
-    }
-}
-
-void sayBuilt(uint8_t index, Source& source, Shown& shown) {
-    switch (index) {
-%(built)s
     }
 }
 
@@ -64,10 +58,8 @@ MAIN = """\
 #include "peer.h"
 %(declared)s
 
-// The descriptions of the file `words[1]` are built, and what is said of them goes to `words[2]`, and the messages to
-// `words[3]`; without that the file has messages of another program, each after the numbers of its schema and of its
-// struct, and its length.
-int main(int count, char** words) {
+// What is said of the messages that the file `words[1]` describes goes to `words[2]`, and those that are built to `words[3]`.
+int main(int, char** words) {
     std::ifstream file(words[1], std::ios::binary);
     std::string input((std::istreambuf_iterator<char>(file)), std::istreambuf_iterator<char>());
     auto begin = reinterpret_cast<const uint8_t*>(input.data());
@@ -75,30 +67,27 @@ int main(int count, char** words) {
     Shown shown;
 %(constants)s
     while (source.left != source.end) {
-        auto isBuilt = count < 4;
-        if (!isBuilt) source.number<uint8_t>();
+        auto isFramed = source.number<uint8_t>() == %(framed)d;
         auto schema = source.number<uint8_t>();
         auto index = source.number<uint8_t>();
         shown.field("message");
-        shown.messages += {static_cast<char>(schema), static_cast<char>(index)};
+        if (!isFramed) shown.messages += {%(framed)d, static_cast<char>(schema), static_cast<char>(index)};
         switch (schema) {
 %(cases)s
         }
     }
     std::ofstream(words[2], std::ios::binary) << shown.text << '\\n';
-    if (count > 3) std::ofstream(words[3], std::ios::binary) << shown.messages;
+    std::ofstream(words[3], std::ios::binary) << shown.messages;
 }
 """
 CONSTANTS = """\
     shown.field("schema");
     shown.left = %d;
     schema%%(at)d::constants(shown);""" % MOST
-DECLARED = "namespace schema%(at)d { void say(uint8_t, Source&, Shown&); void sayBuilt(uint8_t, Source&, Shown&); " \
-    "void constants(Shown&); }"
-CASE = "        case %(at)d: (isBuilt ? schema%(at)d::sayBuilt : schema%(at)d::say)(index, source, shown); break;"
-BUILT = "        case %(number)d: return ::sayBuilt<%(type)s>(source, shown, %(depth)d, %(most)d);"
+DECLARED = "namespace schema%(at)d { void say(bool, uint8_t, Source&, Shown&); void constants(Shown&); }"
+CASE = "        case %(at)d: schema%(at)d::say(isFramed, index, source, shown); break;"
 ROOT = """\
-        case %(number)d: return ::say<%(type)s>(source, shown, %(depth)d, %(most)d, make%(number)d,
+        case %(number)d: return ::say<%(type)s>(isFramed, source, shown, %(depth)d, %(most)d, make%(number)d,
             [](Shown& shown, %(type)s::Builder made) { keep(shown, made); });"""
 STRUCT = "capnp::Orphan<%(type)s> make%(number)d(Source& source, capnp::Orphanage objects);\n" \
     "void show(Shown& shown, uint32_t depth, %(type)s::Reader read);"
@@ -106,7 +95,7 @@ STRUCT = "capnp::Orphan<%(type)s> make%(number)d(Source& source, capnp::Orphanag
 
 def main_text(count):
     """The program over this many schemas."""
-    return MAIN % {"declared": each(DECLARED, count), "constants": each(CONSTANTS, count), "cases": each(CASE, count)}
+    return MAIN % {"declared": each(DECLARED, count), "constants": each(CONSTANTS, count), "cases": each(CASE, count), "framed": FRAMED}
 
 
 def text(index, schema):
@@ -114,7 +103,7 @@ def text(index, schema):
     cpp, structs = Cpp(), schema.structs
     roots = [{"number": made.number, "type": path(made), "depth": DEPTH, "most": MOST} for made in structs]
     return HEAD % {"index": index, "declared": "\n".join(STRUCT % root for root in roots),
-                   "roots": "\n".join(ROOT % root for root in roots), "built": "\n".join(BUILT % root for root in roots),
+                   "roots": "\n".join(ROOT % root for root in roots),
                    "structs": "".join(map(cpp.struct_text, structs)), "constants": "\n".join(map(cpp.constant, schema.constants))}
 
 

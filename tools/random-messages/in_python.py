@@ -16,6 +16,7 @@ import tempfile
 from pathlib import Path
 from unittest.mock import ANY
 
+sys.path.append(str(Path(__file__).resolve().parent.parent))
 import linsjoar
 from comparing import tool
 from literals import Literals

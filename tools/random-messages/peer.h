@@ -40,7 +40,7 @@ inline capnp::Void Source::number<capnp::Void>() { return capnp::VOID; }
 
 struct Shown {
     std::string text;
-    std::string messages;  // each framed, after its length
+    std::string messages;  // each as a description has it: framed, after its length
     uint32_t left = 0;
 
     void word(const std::string& word) { text += ' ' + word; }
@@ -59,7 +59,7 @@ struct Shown {
     }
     void message(capnp::MessageBuilder& message) {
         auto words = capnp::messageToFlatArray(message);
-        uint64_t count = words.asBytes().size();
+        uint32_t count = words.asBytes().size();
         messages.append(reinterpret_cast<const char*>(&count), sizeof count);
         messages.append(reinterpret_cast<const char*>(words.begin()), count);
     }
@@ -154,9 +154,16 @@ void sayRoot(Shown& shown, uint32_t depth, uint32_t most, Reader root) {
     shown.word(kj::str(root).cStr());
 }
 
-// Builds a message, and says what its builder and its reader show.
+// Says what the reader of a message shows: of one that is framed, or of one that is built, of which its builder comes first.
 template <typename T, typename Make, typename Keep>
-void say(Source& source, Shown& shown, uint32_t depth, uint32_t most, Make make, Keep keep) {
+void say(bool isFramed, Source& source, Shown& shown, uint32_t depth, uint32_t most, Make make, Keep keep) {
+    if (isFramed) {
+        auto count = source.number<uint32_t>();
+        auto words = kj::heapArray<capnp::word>(count / sizeof(capnp::word));
+        std::memcpy(words.begin(), source.take(count), count);
+        capnp::FlatArrayMessageReader message(words, {1ull << 40, 64});
+        return sayRoot(shown, depth, most, message.getRoot<T>());
+    }
     capnp::MallocMessageBuilder message(256, capnp::AllocationStrategy::FIXED_SIZE);
     {
         auto root = make(source, message.getOrphanage());
@@ -165,14 +172,4 @@ void say(Source& source, Shown& shown, uint32_t depth, uint32_t most, Make make,
     }
     shown.message(message);
     sayRoot(shown, depth, most, message.getRoot<T>().asReader());
-}
-
-// Says what the reader of a message shows that another program built.
-template <typename T>
-void sayBuilt(Source& source, Shown& shown, uint32_t depth, uint32_t most) {
-    auto count = source.number<uint64_t>();
-    auto words = kj::heapArray<capnp::word>(count / sizeof(capnp::word));
-    std::memcpy(words.begin(), source.take(count), count);
-    capnp::FlatArrayMessageReader message(words, {1ull << 40, 64});
-    sayRoot(shown, depth, most, message.getRoot<T>());
 }

@@ -2,8 +2,7 @@
 schema compiler made: as the program in cpp.py, with the names of that."""
 from languages import DEPTH, MOST, Language, each
 from paths import Paths, either_getters
-from rattle_templates import (CALLED, CONSTANTS, HEAD, KEPT, LIST, MAKE, MAKE_ROOT, PART, READ, ROOTS, SHOW, SHOW_ROOT, SHOWN,
-                              STRUCT)
+from rattle_templates import CALLED, CONSTANTS, HEAD, KEPT, LIST, MAKE, MAKE_ROOT, PART, READ, ROOTS, SHOW, SHOW_ROOT, STRUCT
 from schemas import Field, capital, setter, snake
 from values import is_pointer
 
@@ -32,17 +31,13 @@ class Rattle(Language, Paths):
         self.schema, self.either = schema, either_getters(made)
         self.lists, self.list_code = {}, []
 
-    def text(self, index, is_built, is_shown, is_read=True):
-        """The module of a schema: whether its structs are built, what they show, and whether they are read."""
-        structs, parts = self.schema.structs, []
-        for made in structs:
-            parts += [*self.struct(made), self.kept_text(made)] if is_built else []
-            parts += self.shows(made) if is_shown else []
-        makes = [MAKE % {"number": made.number, "kept": "            kept_%d(shown, &made)?;" % made.number * is_shown}
-                 for made in structs if is_built]
-        shows = [SHOW % {"number": made.number, "path": self.path(made), "shown": SHOWN % {
-            "number": made.number, "depth": DEPTH, "most": MOST} * is_shown} for made in structs if is_read]
-        constants = [self.constant(made) for made in self.schema.constants if is_shown and made.kind != ("number", "Void")]
+    def text(self, index):
+        """The module of a schema."""
+        structs = self.schema.structs
+        parts = [part for made in structs for part in [*self.struct(made), self.kept_text(made), *self.shows(made)]]
+        makes = [MAKE % {"number": made.number} for made in structs]
+        shows = [SHOW % {"number": made.number, "path": self.path(made), "depth": DEPTH, "most": MOST} for made in structs]
+        constants = [self.constant(made) for made in self.schema.constants if made.kind != ("number", "Void")]
         by_struct = {"number": "index", "index": ""}
         return "".join([
             HEAD % {"module": "schema%d_capnp" % index}, CALLED % {**MAKE_ROOT, **by_struct, "arms": "\n".join(makes)},

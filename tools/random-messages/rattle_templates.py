@@ -43,21 +43,19 @@ pub fn show_constants(shown: &mut Shown) -> Result<()> {
 MAKE = """\
         %(number)d => {
             let made = struct_%(number)d(source, objects)?;
-%(kept)s
+            kept_%(number)d(shown, &made)?;
             made.add_root(objects)
         }"""
 SHOW = """\
         %(number)d => {
             let root: %(path)s::Reader<'_, S> = message.get_root()?;
-%(shown)s
+            shown.field("shown")?;
+            shown.left = %(most)d;
+            show_%(number)d(shown, %(depth)d, &root)?;
             let text = root.to_text(shown.alloc, 64)?;
             shown.field("text")?;
             shown.word(text.as_str())
         }"""
-SHOWN = """\
-            shown.field("shown")?;
-            shown.left = %(most)d;
-            show_%(number)d(shown, %(depth)d, &root)?;"""
 ROOTS = """\
 //! The types of some schemas, what builds structs of them, and what says what they show.
 use crate::shown::Shown;

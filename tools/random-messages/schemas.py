@@ -11,9 +11,8 @@ A type is a pair of what it is and of what it is of:
     ("parameter", type)     the parameter of its struct, which stands for that type wherever the struct is used
     ("interface", None)     no such field is ever set
 
-The text of the C++ tool has no any pointers, so that is given a schema that has the types in their place, and in
-that of parameters. A program in C++ has any pointers in the place of parameters, and names of its own (PEER), since
-any name may be a word of C++, or of the code that the C++ tool writes."""
+Where the C++ tool prints what the types print it is given any pointers in the place of parameters (OPAQUE). So has a program in C++,
+and names of its own (PEER), since any name may be a word of C++, or of the code that the C++ tool writes."""
 import math
 import re
 import struct
@@ -146,8 +145,7 @@ class Schema:
         self.constants = constants
 
     def text(self, mode, index=0):
-        """The schema, with any pointers (if OPAQUE or PEER, in the place of parameters, too), or with what they point
-        to in their place; if PEER, of this index, in a namespace with it."""
+        """The schema, if OPAQUE or PEER with any pointers in the place of parameters; if PEER, of this index, in a namespace with it."""
         lines = ["@0x%016x;" % self.identity, "interface Called {}"]
         if mode == PEER:
             lines += ['using Cxx = import "/capnp/c++.capnp";', '$Cxx.namespace("schema%d");' % index]
@@ -211,7 +209,7 @@ def kind_text(kind, mode):
         return "List(%s)" % kind_text(of, mode)
     if form in ("any", "parameter"):
         is_parameter = form == "parameter" and mode is True
-        return ("Parameter" if is_parameter else "AnyPointer") if mode else kind_text(of, mode)
+        return "Parameter" if is_parameter else "AnyPointer"
     return {"number": of, "text": "Text", "data": "Data", "interface": ".Called"}[form]
 
 

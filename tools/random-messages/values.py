@@ -1,12 +1,13 @@
 """Random values of a schema's types, as text and as the description that the program reads.
 
-A struct is a list of steps: a member and what it is set to, which of a group or a union are steps again. NULL is
-a pointer that is set to null, or not at all; a list is a list, a text is a `str`, data are `bytes`."""
+A struct is a list of steps: a member and what it is set to, which of a group or a union are steps again, or how it is selected. NULL
+is a pointer that is set to null, or not at all; a list is a list, a text is a `str`, data are `bytes`."""
 import struct
 
 from schemas import FLOATS, SIGNED, UNSIGNED, Field, Group, fields, shown_number, some_number
 
 NULL = object()
+FRAMED = 2  # a message that is read; one that is built is 0 (in memory that grows) or 1 (in a region)
 LETTERS = "abc XYZ\0\n\"'\\\x7f\u00e9\u4e2d\U0001f600"
 CODES = {8: "B", 16: "H", 32: "I", 64: "Q"}
 
@@ -44,16 +45,6 @@ def groups(members, around=(), in_union=False):
             yield from groups(member.members, [*around, member], member.is_union)
 
 
-def can_set(member):
-    """Whether a member of a union can be made its member by a field's setter."""
-    inner = [([], member)] if isinstance(member, Field) else fields(member.members)
-    return any(field.kind[0] != "interface" for _, field in inner)
-
-
-def has_union(group):
-    return group.is_union or any(isinstance(inner, Group) and has_union(inner) for inner in group.members)
-
-
 class Made(list):
     """The steps of a struct. It is built in one go, or (`way`) some calls are made on a builder that is written, read
     as it is (1) or as its canonical form (2), and made a builder again, on which the others are made. The first
@@ -61,92 +52,20 @@ class Made(list):
     way, first, replaced = 0, 0, ()
 
 
-class Selected(list):
-    """The steps of a group that is selected, and cleared, before they are taken."""
-    mark = 0
-
-
-class Implied(Selected):
-    """A group that a setter of one of its fields selects, where the C++ library selects it only by a call."""
-    mark = 128
+# How a group is selected: by a call that clears it, or by a setter of one of its fields, where the C++ library selects it only by
+# a call.
+SELECTED, IMPLIED = 0, 128
 
 
 class Values:
+    """Of structs a subclass says how they are made (`struct`)."""
+
     def __init__(self, chance):
         self.chance, self.left = chance, 0
-
-    def can_set(self, member):
-        return can_set(member)
 
     def root(self, made):
         self.left = self.chance.choice([100, 300, 300, 3000])  # about how many values a message has
         return self.struct(made, self.chance.randrange(6))
-
-    def struct(self, made, depth):
-        self.left -= 1
-        steps = Made(self.steps(made.members, depth, self.chance.choice([0.1, 0.5, 0.9, 1])))
-        if self.chance.random() < 0.2:
-            self.read_between(made, steps)
-        return steps
-
-    def read_between(self, made, steps):
-        calls = list(leaves(steps))
-        steps.way, steps.first = self.chance.choice([1, 2]), self.chance.randrange(len(calls) + 1)
-        later = [member for member, _ in calls[steps.first:]]
-        steps.replaced = [(field, self.null_or(field.kind, 0)) for around, field in setters(made)
-                          if field in later and not any(part.is_union for part in around) and self.chance.random() < 0.5]
-
-    def steps(self, members, depth, odds):
-        """Sets some members, in any order."""
-        found = []
-        for member in members:
-            if self.chance.random() < odds:
-                found.append((member, self.member(member, depth, odds)))
-        self.chance.shuffle(found)
-        return found
-
-    def member(self, member, depth, odds):
-        if isinstance(member, Field):
-            return self.null_or(member.kind, depth)
-        return self.union(member, depth, odds) if member.is_union else self.steps(member.members, depth, odds)
-
-    def union(self, union, depth, odds):
-        """Sets a member, or one and then another that takes its place. Where that is a group, the C++ tool clears
-        it first, so it is selected. Of a union in it the tool clears the first member alone, and the builder all."""
-        members = [member for member in union.members if isinstance(member, Group) or self.can_set(member)]
-        self.chance.shuffle(members)
-        chosen = [(member, self.selected(member, depth, odds)) for member in members[:1]]
-        if self.chance.random() < 0.2:
-            others = [member for member in members[1:] if isinstance(member, Field) or not has_union(member)]
-            for member in others[:1]:
-                is_field = isinstance(member, Field)
-                value = self.value(member.kind, depth) if is_field else Selected(self.members_of(member, depth, odds))
-                chosen.append((member, value))
-        return chosen
-
-    def selected(self, member, depth, odds):
-        """What a member of a union is set to, a group by a field of it or by being selected."""
-        if self.can_set(member) and (isinstance(member, Field) or self.chance.random() < 0.5):
-            return self.chosen(member, depth, odds)
-        return Selected(self.members_of(member, depth, odds))
-
-    def members_of(self, group, depth, odds):
-        """What a group that is selected is set to, if to anything."""
-        if group.is_union:
-            return self.union(group, depth, odds) if self.chance.random() < odds else []
-        return self.steps(group.members, depth, odds)
-
-    def chosen(self, member, depth, odds):
-        """What a member is set to by a setter: no null pointer, since the text format has none in unions, and of a
-        group one field at least."""
-        if isinstance(member, Field):
-            return self.value(member.kind, depth)
-        if member.is_union:
-            return self.union(member, depth, odds)
-        members = [inner for inner in member.members if self.can_set(inner)]
-        first = self.chance.choice(members)
-        others = self.steps([inner for inner in member.members if inner is not first], depth, odds)
-        return [(first, self.chosen(first, depth, odds)), *others]
 
     def null_or(self, kind, depth):
         if kind[0] == "interface":
@@ -183,8 +102,6 @@ class Values:
 def text_of(kind, value):
     """A value as the text format has it."""
     form, of = kind
-    if form in ("any", "parameter"):
-        return text_of(of, value)
     if form == "list":
         return "[%s]" % ", ".join(text_of(of, item) for item in value)
     if form == "struct":
@@ -238,11 +155,10 @@ def number_bytes(name, value):
 def struct_bytes(made, steps):
     """The builder from which it goes on, and the calls on that."""
     numbers = call_numbers(made)
-    calls = list(leaves(steps))
     if not steps.way:
-        return b"\0" + calls_bytes(numbers, calls)
-    before = b"\0" + calls_bytes(numbers, [*steps.replaced, *calls[:steps.first]])
-    return bytes([steps.way]) + before + calls_bytes(numbers, calls[steps.first:])
+        return b"\0" + calls_bytes(numbers, steps)
+    before = b"\0" + calls_bytes(numbers, [*steps.replaced, *steps[:steps.first]])
+    return bytes([steps.way]) + before + calls_bytes(numbers, steps[steps.first:])
 
 
 def call_numbers(made):
@@ -253,24 +169,12 @@ def call_numbers(made):
 
 def calls_bytes(numbers, calls):
     """How many calls there are, and of each its number and what it takes."""
-    calls = [call_bytes(numbers[member], member, value) for member, value in calls if member in numbers]
-    return struct.pack("<H", len(calls)) + b"".join(calls)
+    return struct.pack("<H", len(calls)) + b"".join(call_bytes(numbers[member], member, value) for member, value in calls)
 
 
 def call_bytes(number, member, value):
     if isinstance(member, Group):
-        return bytes([number | value.mark])
+        return bytes([number | value])
     if not is_pointer(member.kind):
         return bytes([number]) + bytes_of(member.kind, value)
     return bytes([number]) + (b"\0" if value is NULL else b"\1" + bytes_of(member.kind, value))
-
-
-def leaves(steps):
-    """The calls that the steps are, in their order, each with its value."""
-    for member, value in steps:
-        if isinstance(member, Field):
-            yield member, value
-            continue
-        if isinstance(value, Selected):
-            yield member, value
-        yield from leaves(value)

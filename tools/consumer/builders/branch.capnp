@@ -1,11 +1,6 @@
 @0xc4e1b7d2a3f50689;
 # What the program of tools/try-consumer builds beside an address book.
 
-struct Note {
-  id @0 :UInt32;
-  text @1 :Text;
-}
-
 struct Branch {
   value @0 :Int64;
   left @1 :Branch;
