@@ -1,4 +1,6 @@
-"""What the tools in Python share: the top of the repository, its tracked files, copies of these, and the messages of a stream."""
+"""What the tools in Python share: the top of the repository, its tracked files, copies of these, what a command says, and the messages
+of a stream."""
+import os
 import shutil
 import struct
 import subprocess
@@ -19,6 +21,14 @@ def crates():
     return {head.split()[0]: names.split() for head, _, names in lines}
 
 
+def below(*names):
+    """These crates and those of the repository below them, highest first."""
+    uses, needed = crates(), set(names)
+    for name, listed in reversed(uses.items()):
+        needed.update(listed if name in needed else ())
+    return [name for name in reversed(uses) if name in needed]
+
+
 def copy_tree(to, paths, crates=()):
     """Copies these files, and what checks here kept of these crates in out/."""
     for path in paths:
@@ -37,6 +47,13 @@ def add_crate(to, line, main):
     shutil.copy2(ROOT / main, source / "main.rt")
     with open(to / "crates.txt", "a") as file:
         file.write(line + "\n")
+
+
+def output(command, folder, **variables):
+    """The status of a command, and what it says."""
+    ran = subprocess.run(command, cwd=folder, env={**os.environ, **variables}, stdin=subprocess.DEVNULL, stdout=subprocess.PIPE,
+                         stderr=subprocess.STDOUT)
+    return ran.returncode, ran.stdout.decode(errors="replace")
 
 
 def messages_of(stream):

@@ -40,12 +40,15 @@ class Misfit(Exception):
     """Why an edit can't be made."""
 
 
-def edits_of(crate, kind):
-    """The edits of a crate, by their names."""
-    path = ROOT / "crates" / crate / kind
-    paragraphs = re.split(r"\n+(?=edit: )", path.read_text())[1:] if path.exists() else []
-    lines = [[line.split(": ", 1) for line in text.splitlines() if line and not line.startswith("#")] for text in paragraphs]
+def edits_in(path, first="edit", crate=""):
+    """The edits of a file, by their names, which the line with this key has."""
+    paragraphs = re.split(r"\n+(?=%s: )" % first, path.read_text())[1:] if path.exists() else []
+    lines = [[line.split(": ", 1) for line in text.splitlines() if line and line[0] != "#"] for text in paragraphs]
     return sorted((Edit(crate, of[0][1], of) for of in lines), key=lambda edit: edit.name)
+
+
+def edits_of(crate, kind):
+    return edits_in(ROOT / "crates" / crate / kind, crate=crate)
 
 
 def crates_with(kind):

@@ -12,7 +12,6 @@ is replaced by the next one. So is one that can make no other output, which has 
 
 It prints each change that nothing catches, and the share that is caught.
 """
-import os
 import random
 import re
 import subprocess
@@ -21,8 +20,9 @@ import tempfile
 from pathlib import Path
 
 import building
+import edits
 import rules
-from prelude import ROOT, copy_tree, tracked
+from prelude import ROOT, copy_tree, output, tracked
 
 LIMIT = 30  # seconds, for a request
 RECORDER = """\
@@ -62,10 +62,8 @@ def all_mutants(sources):
 
 def same_output():
     """The changes that can make no other output, by file, or "" for all, and the line before and after."""
-    for paragraph in (ROOT / "tools/editing/same_output.txt").read_text().split("\n\nwhy: ")[1:]:
-        file = re.search(r"^file: (.*)$", paragraph, re.M)
-        for old, new in re.findall(r"^old: (.*)\nnew: ?(.*)$", paragraph, re.M):
-            yield file[1] if file else "", old, new
+    for edit in edits.edits_in(ROOT / "tools/editing/same_output.txt", "why"):
+        yield from ((file or "", old, new) for file, old, new in edit.pairs())
 
 
 def one_a_line(mutants):
@@ -95,8 +93,7 @@ class Call:
 
 
 def run_tool(call, **variables):
-    variables = {name: str(value) for name, value in variables.items()}
-    return subprocess.run([ROOT / "tools" / call[0], *call[1:]], cwd=ROOT, env={**os.environ, **variables}, capture_output=True)
+    return output([ROOT / "tools" / call[0], *call[1:]], ROOT, **{name: str(value) for name, value in variables.items()})
 
 
 def recorded(call, program, folder):
@@ -105,9 +102,9 @@ def recorded(call, program, folder):
     recorder = calls.with_suffix(".recorder")
     recorder.write_text(RECORDER)
     recorder.chmod(0o755)
-    done = run_tool(call, COMPILER=recorder, PROGRAM=program, RECORDED=calls, RECORDED_ALONE="" if call[0] == "try-compiler" else "1")
-    if call[0] == "try-compiler" and done.returncode:
-        sys.exit("try-edits: %s fails without a change\n%s" % (" ".join(call), done.stderr.decode()))
+    status, said = run_tool(call, COMPILER=recorder, PROGRAM=program, RECORDED=calls, RECORDED_ALONE="" if call[0] == "try-compiler" else "1")
+    if call[0] == "try-compiler" and status:
+        sys.exit("try-edits: %s fails without a change\n%s" % (" ".join(call), said))
     return [Call((made / "args").read_text().split("\n")[:-1], (made / "request").read_bytes(), (made / "writes").exists())
             for made in sorted(calls.iterdir())]
 
@@ -132,7 +129,7 @@ class Judge:
             found = [call.result(mutant) for call in calls]
             if None in found:
                 return None
-            if found != clean and (tool is None or run_tool(tool, COMPILER=mutant).returncode):
+            if found != clean and (tool is None or run_tool(tool, COMPILER=mutant)[0]):
                 return " ".join(tool or ["the stored run"])
         return ""
 

@@ -31,21 +31,22 @@ def numbers(line, code):
             yield changed, " ".join(text.replace(" => ", " if %s => " % word, 1) for text, word in ((line, "!ON"), (changed, "ON")))
 
 
+def operand(code, ends, opens, closes):
+    """How long the operand is that a text begins with."""
+    depth = 0
+    for at, letter in enumerate(code):
+        if not depth and code.startswith(ends, at):
+            return at
+        depth += (letter in opens) - (letter in closes)
+        if depth < 0:
+            return at
+    return len(code)
+
+
 def extent(code, begin, end):
     """The operands around an operator: where they begin and end."""
-    depth = 0
-    while begin > 0 and (depth or not code[:begin].endswith(BEFORE)):
-        depth += (code[begin - 1] in ")]}") - (code[begin - 1] in "([{")
-        if depth < 0:
-            break
-        begin -= 1
-    depth = 0
-    while end < len(code) and (depth or not code.startswith(AFTER, end)):
-        depth += (code[end] in "([{") - (code[end] in ")]}")
-        if depth < 0:
-            break
-        end += 1
-    return begin + len(code[begin:]) - len(code[begin:].lstrip()), end
+    begin -= operand(code[:begin][::-1], tuple(word[::-1] for word in BEFORE), ")]}", "([{")
+    return begin + len(code[begin:]) - len(code[begin:].lstrip()), end + operand(code[end:], AFTER, "([{", ")]}")
 
 
 def operators(line, code):

@@ -9,7 +9,8 @@ functions do nothing, are left out.
 """
 import re
 
-from .tree import ROOT, text_of
+from .rattle import items
+from .tree import ROOT, first_difference, text_of
 
 PAGE = "docs/API.md"
 PARTS = [
@@ -20,9 +21,6 @@ PARTS = [
 LEFT_OUT = {"laws"}
 # What code names that the schema compiler writes, and no program.
 FOR_MADE_CODE = re.compile(r"constant::|upgraded::(FromStruct|OwnedStructs|StructFields|Structs)$")
-ITEM = re.compile(r"( *)pub (?:const (?=fn))?(?:unsafe )?(?:extern \"C\" )?(fn|struct|enum|trait|const|type) (\w+)")
-MEMBER = re.compile(r"    (fn) (\w+)")
-BLOCK = re.compile(r"(?:unsafe )?impl(?:<.*?>)? (.*?) \{|pub trait (\w+)")
 
 
 def first_sentence(lines):
@@ -36,6 +34,11 @@ def first_sentence(lines):
 def file_of(source, path):
     """The file of a module."""
     return source / ("lib.rt" if not path else "/".join(path) + ".rt")
+
+
+def module_of(source, file):
+    path = list(file.relative_to(source).with_suffix("").parts)
+    return [] if path == ["lib"] else path
 
 
 def is_public(source, path):
@@ -57,67 +60,21 @@ def used_in(source, path, name):
                 return path[:depth]
     private = "crate::" + "::".join(path) + "::"
     for file in sorted(source.rglob("*.rt")):
-        module = list(file.relative_to(source).with_suffix("").parts)
+        module = module_of(source, file)
         if is_public(source, module) and re.search(rf"^pub use {private}[^;]*\b{name}\b", text_of(file), re.M):
             return module
     return None
 
 
-def block_name(header):
-    """The type that an `impl` block is of, or none for the block of a trait."""
-    if " for " in header:
-        return None
-    return re.match(r"[\w:]+", header).group(0).split("::")[-1]
-
-
-def signature(lines):
-    """What a function takes and returns, of the lines that begin with its name: all before its contract and body."""
-    words = []
-    for line in lines:
-        if re.match(r"\s*(requires|ensures|decreases|ghost)\b|\s*\{", line):
-            break
-        words.append(re.sub(r"\s*(//.*|[{;])?$", "", line.strip()))
-        if line.rstrip().endswith((";", "{")):
-            break
-    text = re.sub(r"\s+", " ", " ".join(words)).strip().removeprefix("pub ")
-    return re.sub(r",? ([)>])", r"\1", re.sub(r"([(<]) ", r"\1", text)).rstrip(",")
-
-
-def items(source, file):
+def public_items(source, file):
     """The public items of a file: path, kind, first sentence, signature, whether the documentation has an example."""
-    path = list(file.relative_to(source).with_suffix("").parts)
-    path = [] if path == ["lib"] else path
-    block, trait, comment = None, False, []
-    lines = text_of(file).splitlines()
-    for number, line in enumerate(lines):
-        stripped = line.strip()
-        if stripped.startswith("#[cfg(test)]"):
-            break
-        if stripped.startswith("///"):
-            comment.append(stripped[3:].strip())
-            continue
-        if stripped.startswith("#["):
-            continue
-        opened = BLOCK.match(line)
-        if opened:
-            trait = opened.group(2) is not None
-            block = opened.group(2) if trait else block_name(opened.group(1))
-        elif line == "}":
-            block, trait = None, False
-        item = ITEM.match(line) or (trait and MEMBER.match(line))
-        if item:
-            kind, name = item.groups()[-2:]
-            inner = line.startswith("    ")
-            if not inner or block:
-                outer = block if inner else name
-                where = path if is_public(source, path) else used_in(source, path, outer)
-                if where is not None and not LEFT_OUT & set(path):
-                    own = where + ([block, name] if inner else [name])
-                    sentence = first_sentence(comment[: comment.index("") if "" in comment else None])
-                    taken = signature(lines[number:]) if kind == "fn" else None
-                    yield "::".join(own), kind, sentence, taken, "```" in comment
-        if stripped:
-            comment = []
+    path = module_of(source, file)
+    for item in items(text_of(file)) if not LEFT_OUT & set(path) else ():
+        where = path if is_public(source, path) else used_in(source, path, item.owner or item.name)
+        if where is not None and item.owner is not None:
+            sentence = first_sentence(item.comment[: item.comment.index("") if "" in item.comment else None])
+            own = "::".join(filter(None, [*where, item.owner, item.name]))
+            yield own, item.kind, sentence, item.signature if item.kind == "fn" else None, "```" in item.comment
 
 
 def leaves(text):
@@ -133,8 +90,7 @@ def passed_on(crate):
     """What a crate re-exports of others: the crate, the path there, none of a whole crate, and the path here."""
     source = ROOT / "crates" / crate / "src"
     for file in sorted(source.rglob("*.rt")):
-        path = list(file.relative_to(source).with_suffix("").parts)
-        path = [] if path == ["lib"] else path
+        path = module_of(source, file)
         if is_public(source, path) and not LEFT_OUT & set(path):
             for used in re.findall(r"^pub use (capnp_[^;]*);", text_of(file), re.M):
                 for leaf in leaves(used):
@@ -167,7 +123,7 @@ def found_items():
     for crate in [crate for _, crates in PARTS for crate in crates]:
         source = ROOT / "crates" / crate / "src"
         files = [file for file in sorted(source.rglob("*.rt")) if "tests" not in file.stem]
-        found[crate] = {item for file in files for item in items(source, file)}
+        found[crate] = {item for file in files for item in public_items(source, file)}
     for other, names, here in passed_on("capnp"):
         found["capnp"] |= take(found[other], names, here)
     return found
@@ -206,8 +162,6 @@ def check(tree):
     tree.seen(text.count("\n- "))
     has = tree.text(PAGE) if tree.has(PAGE) else ""
     if has != text:
-        lines = zip(has.split("\n") + [""], text.split("\n") + [""])
-        line = next((number for number, (old, new) in enumerate(lines, 1) if old != new), 1)
-        tree.wrong(PAGE, line, "not what the sources say: run tools/write api")
+        tree.wrong(PAGE, first_difference(has, text)[0], "not what the sources say: run tools/write api")
     for path in without_example():
         tree.wrong(PAGE, 0, f"{path} has no example in its documentation")

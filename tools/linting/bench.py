@@ -15,13 +15,9 @@ def lines_of(name):
     return [re.split(r"\s{2,}", line.strip()) for line in text.split("\n") if line.strip() and not line.startswith("#")]
 
 
-def listed(text):
-    return [] if text == "-" else text.split(",")
-
-
 def rows():
     """The rows of bench/figures.txt."""
-    return [Row(*line[:6], listed(line[6]), listed(line[7])) for line in lines_of("figures.txt")]
+    return [Row(*line[:6], *([] if text == "-" else text.split(",") for text in line[6:8])) for line in lines_of("figures.txt")]
 
 
 def better_over_ours(ours, *peers):

@@ -7,13 +7,12 @@ than those of tests, in what C and Python take of capnp_c, in tools/ and in the 
 import fnmatch
 import re
 
-from .glossary import ASIDE, suffix_of
+from .glossary import without_comments
+from .rattle import ERRORS, KIND
+from .tree import table
 
 PAGE = "docs/ARCHITECTURE.md"
-SECTION = re.compile(r"^## Where to change what$(.*?)^## ", re.M | re.S)
 QUOTED = re.compile(r"`([^`]+)`")
-ERRORS = "crates/capnp_frame/src/error.rt"
-KIND = re.compile(r"^            ErrorKind::(\w+)", re.M)
 # a file that has as many kinds in its code lists them
 MANY_KINDS = 9
 CODE = re.compile(r"crates/(?!\w+_(?:tests|examples|uses|bench|sample|classic)/)\w+/(?:src|specs)/(?!.*\btests\.rt$).*|crates/capnp_c/(?:.*\.h|python/.*)|tools/.*|conformance/model\.py")
@@ -44,14 +43,6 @@ def words_of(code):
         yield "".join(part.capitalize() for part in name.split("_")) if name.isupper() else name
 
 
-def rows(tree):
-    section = SECTION.search(tree.text(PAGE))
-    for line in section[1].split("\n") if section else ():
-        cells = [cell.strip() for cell in line.strip("|").split(" | ")]
-        if line.startswith("|") and len(cells) == 2 and not line.startswith(("|--", "| change ")):
-            yield cells
-
-
 def files_of(tree, cell):
     """The files that a row names, each as it is written and as the paths that this may be."""
     crate = folder = ""
@@ -71,7 +62,7 @@ def files_of(tree, cell):
 
 
 def check(tree):
-    kinds, changes = set(KIND.findall(tree.text(ERRORS))), dict(rows(tree))
+    kinds, changes = set(KIND.findall(tree.text(ERRORS))), dict(table(tree.text(PAGE), "Where to change what"))
     for name in SEARCHED.keys() - changes.keys():
         tree.wrong(PAGE, 0, f"it has no row `{name}`")
     named = {}
@@ -82,9 +73,7 @@ def check(tree):
             if not found:
                 tree.wrong(PAGE, 0, f"{name}: `{written}` is not in the crate or the folder that is named before it")
     for path in filter(CODE.fullmatch, tree.paths):
-        aside = ASIDE.get(suffix_of(path, tree.text(path)))
-        text = tree.text(path)
-        code = aside.sub(lambda found: "" if found[0].startswith(("//", "--", "#", "/*", '"""')) else found[0], text) if aside else text
+        code = without_comments(path, tree.text(path))
         for name, (searched, exceptions) in SEARCHED.items():
             excepted = any(fnmatch.fnmatch(path, pattern) for pattern in exceptions)
             is_named = any(path == other or path.startswith(other + "/") for other in named.get(name, ()))

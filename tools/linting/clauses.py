@@ -4,7 +4,7 @@ Product code is src/ of the crates of crates.txt, without those whose comment th
 modules under #[cfg(test)].
 
 Two clauses have the same text where they differ at most in white space, in their names, and in the names that they bind: by
-`λ x.`, by `let x =`, and by `(x y : T)` before `→` or `×`. Of n clauses with one text n share it, and n - 1 are further copies,
+`λ x.`, by `let x =`, and by `(x y : T)`. Of n clauses with one text n share it, and n - 1 are further copies,
 each counted for its own crate; crates and files are taken in the order of crates.txt and of their names. A clause that only
 applies a record of specs/ to arguments is left out, since it repeats no fact.
 
@@ -18,10 +18,9 @@ import re
 
 from prelude import ROOT
 
-from .tree import text_of
+from .tree import line_at, text_of
 
 LONG = 12
-NEWLINE = "\n"
 UNREAD = re.compile(r"""//[^\n]*|"(?:\\.|[^"\\])*"|'(?:\\[^']+|[^'\\])'""", re.DOTALL)
 CLAUSE = re.compile(r"(?<![\w.])(requires|ensures)\b\*?\s*(\w*)\s*\{")
 TEST_MODULE = re.compile(r"#\[cfg\(test\)\]\s*(?:pub(?:\(\w+\))? )?mod (\w+);")
@@ -29,10 +28,9 @@ FUNCTION = re.compile(r"(\bpub\s+)?(?:(?:const|unsafe|extern)\s+)*\bfn\s+(\w+)")
 TRAIT = re.compile(r"\bpub trait [^{]*\{")
 IMPL = re.compile(r"\bimpl\b[^{;]* for [^{;]*\{")
 RECORD = re.compile(r"^(?:pub )?record (\w+)", re.MULTILINE)
-# A name with what is selected of it, a selection of what is in brackets, a bracket, or a sign.
-WORD = re.compile(r"[\w']+(?:\.[\w']+)*|\.[\w']+|[(){}\[\].;]|[^\w\s(){}\[\].;]+")
-NAME = re.compile(r"(?!(?:λ|let|in)$)[^\W\d][\w']*")
-OPENS, CLOSES = ("(", "[", "{", "let"), (")", "]", "}", "in")
+NAME = re.compile(r"[^\W\d][\w']*")
+# What is after `λ`, after `let`, and in `(x y : T)`.
+BINDERS = re.compile(r"λ([^.]*)\.|\blet ([\w']+) =|[({]((?:[^\W\d][\w']* )+): ")
 
 PUBLIC, OF_IMPL = "public functions", "functions of a trait's impl"
 Clause = collections.namedtuple("Clause", "crate place text")
@@ -86,90 +84,29 @@ def contract(code, at):
     return first, last
 
 
-def closing(words, at):
-    """Where what is opened at `at` is closed: a bracket by its other, and `let` by `in`."""
-    depth = 1
-    while depth:
-        at += 1
-        depth += (words[at] in OPENS) - (words[at] in CLOSES)
-    return at
-
-
-def is_typed(words, at):
-    """Whether `(x y : T)` begins at `at`."""
-    names = at + 1
-    while names < len(words) and NAME.fullmatch(words[names]):
-        names += 1
-    return words[at] in ("(", "{") and names > at + 1 and words[names:names + 1] == [":"]
-
-
-def binders(words):
-    """The places of the names that are bound there, each with the place from which on it is bound."""
+def evened(said):
+    """A clause with numbers for the names that it binds, in the order in which it binds them."""
     bound = {}
-
-    def bind_group(at, end):
-        for place in range(at + 1, words.index(":", at, end) if is_typed(words, at) else end):
-            if NAME.fullmatch(words[place]):
-                bound[place] = end
-
-    for at, word in enumerate(words):
-        if word == "let":
-            bound[at + 1] = closing(words, at)
-        elif word == "λ":
-            at += 1
-            while words[at] != ".":
-                end = closing(words, at) if words[at] in OPENS else at
-                bind_group(at, end)
-                if NAME.fullmatch(words[at]):
-                    bound[at] = at
-                at = end + 1
-        elif is_typed(words, at):
-            after = end = closing(words, at)
-            while words[after + 1:] and is_typed(words, after + 1):
-                after = closing(words, after + 1)
-            if words[after + 1:after + 2] in (["→"], ["×"]):
-                bind_group(at, end)
-    return bound
+    for names in BINDERS.findall(said):
+        for name in NAME.findall(re.sub(r":[^()]*", "", "".join(names))):
+            bound.setdefault(name, f"#{len(bound)}")
+    return " ".join(bound.get(word, word) for word in re.findall(r"[\w']+|[^\w\s']", said))
 
 
-def evened(words):
-    """A clause's words, with the place of its binder for each name that is bound."""
-    bound_from = binders(words)
-    names, outer, said = {}, [], []
-    for at, word in enumerate(words):
-        if word in OPENS:
-            outer.append(dict(names))
-        elif word in CLOSES:
-            names = outer.pop()
-        elif at in bound_from:
-            word = "#"
-        elif not (words[at - 1] in ("{", ";") and words[at + 1:at + 2] == ["="]):  # no field of a record
-            first, dot, selected = word.partition(".")
-            word = names.get(first, first) + dot + selected
-        said.append(word)
-        for place, start in bound_from.items():
-            if start == at:
-                names[words[place]] = f"#{place}"
-    return " ".join(said)
-
-
-def applies(words, records):
+def applies(said, records):
     """Whether a clause is one of these records applied to arguments, and nothing else."""
-    depth = 0
-    for word in words:
-        depth += (word in OPENS) - (word in CLOSES)
-        if depth == 0 and word not in CLOSES and not re.match(r"[\w.⊤⊥]", word):
-            return False
-    return bool(words) and words[0] in records
+    whole = None
+    while whole != said:
+        whole, said = said, re.sub(r"[(\[{][^()\[\]{}]*[)\]}]", "x", said)
+    return re.fullmatch(r"[\w.'⊤⊥ ]+", said) is not None and re.match(r"[\w']*", said)[0] in records
 
 
 def clauses(crate, path, code):
-    """Each `ensures` of a file, with its words."""
+    """Each `ensures` of a file."""
     for clause in CLAUSE.finditer(code):
-        said = code[clause.end():after_block(code, clause.end()) - 1]
         if clause.group(1) == "ensures":
-            place = f"{path}:{code.count(NEWLINE, 0, clause.start()) + 1} {clause.group(2)}"
-            yield Clause(crate, place.rstrip(), " ".join(said.split())), WORD.findall(said)
+            place = f"{path}:{line_at(code, clause.start())} {clause.group(2)}"
+            yield Clause(crate, place.rstrip(), " ".join(code[clause.end():after_block(code, clause.end()) - 1].split()))
 
 
 def contracts(path, code):
@@ -181,8 +118,8 @@ def contracts(path, code):
         first, last = contract(code, function.end())
         is_public = function.group(1) or any(at in block for block in traits)
         if first and (is_public or any(at in block for block in impls)):
-            place = f"{path}:{code.count(NEWLINE, 0, at) + 1} {function.group(2)}"
-            yield code.count(NEWLINE, first, last) + 1, place, PUBLIC if is_public else OF_IMPL
+            place = f"{path}:{line_at(code, at)} {function.group(2)}"
+            yield code.count("\n", first, last) + 1, place, PUBLIC if is_public else OF_IMPL
 
 
 class Counts:
@@ -194,15 +131,15 @@ class Counts:
         self.lengths, same = {PUBLIC: [], OF_IMPL: []}, collections.defaultdict(list)
         for crate in product_crates():
             for path, text in product_files(crate).items():
-                self.lines[crate] += text.count(NEWLINE)
+                self.lines[crate] += text.count("\n")
                 # What is neither code nor clause becomes spaces, so that each place stays as it is.
                 code = UNREAD.sub(lambda said: re.sub(r"[^\n]", " ", said.group()), text)
-                for clause, words in clauses(crate, path, code):
+                for clause in clauses(crate, path, code):
                     self.found[crate] += 1
-                    if applies(words, records):
+                    if applies(clause.text, records):
                         self.left_out[crate] += 1
                     else:
-                        same[evened(words)].append(clause)
+                        same[evened(clause.text)].append(clause)
                 for length, place, kind in contracts(path, code):
                     self.lengths[kind].append((length, place))
         self.shared = sorted((copies for copies in same.values() if len(copies) > 1), key=len, reverse=True)

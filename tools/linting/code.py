@@ -5,31 +5,25 @@ and without a gap. Examples of public items are taken out of the documentation b
 """
 import re
 
+from .tree import line_at
+
 PAGES = ["docs/GUIDE.md", "README.md", "docs/COMPILER.md"]
-NAMED = re.compile(r"`([\w./-]+/src/[\w./-]+)`:?")
+PART = re.compile(r"^`([\w./-]+/src/[\w./-]+)`:?$|^```rust\n(.*?)^```$", re.M | re.S)
 
 
 def check_page(tree, page):
-    path, block, compared = None, None, 0
-    for number, line in enumerate(tree.text(page).split("\n"), 1):
-        named = NAMED.fullmatch(line)
-        if block is None and named:
-            path = named[1]
-        elif block is None and line == "```rust":
-            block, start = "", number
-        elif block is not None and line == "```":
-            compared += 1
-            if path is None or not tree.has(path):
-                tree.wrong(page, start, f"the block is of {path or 'no file'}, which is not there")
-            elif "\n" + block not in "\n" + tree.text(path):
-                tree.wrong(page, start, f"the block does not stand in {path}")
-            block = None
-        elif block is not None:
-            block += line + "\n"
-    if block is not None:
-        tree.wrong(page, start, "the block does not end")
-    if not compared:
-        tree.wrong(page, 0, "no block of code, which would be compared with its file")
+    text, path, compared = tree.text(page), None, 0
+    for found in PART.finditer(text):
+        if found[1]:
+            path = found[1]
+            continue
+        compared += 1
+        if path is None or not tree.has(path):
+            tree.wrong(page, line_at(text, found.start()), f"the block is of {path or 'no file'}, which is not there")
+        elif "\n" + found[2] not in "\n" + tree.text(path):
+            tree.wrong(page, line_at(text, found.start()), f"the block is not in {path}")
+    if not compared or len(re.findall(r"^```", text, re.M)) % 2:
+        tree.wrong(page, 0, "a block does not end, or none is there that would be compared with its file")
     tree.seen(compared)
 
 

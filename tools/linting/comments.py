@@ -38,18 +38,14 @@ def front_of(text):
     return text.split("\n## ")[0]
 
 
-def is_nested(text):
-    """Whether the page lists its headings one a line, those of the third level below those of the second."""
-    return "\n  - [" in front_of(text)
-
-
 def wrong_heading(text):
     """The first heading that the page's list of its headings lacks, or has where the page has another one, if it has a list."""
     linked = [anchor for _, anchor in LINK.findall(front_of(text))]
     if len(linked) < 3:
         return None
     levels = {anchor: level for level, _, anchor in headings_of(text) if level > 1}
-    deepest = 3 if is_nested(text) else 2
+    # a list of one heading a line has the third level below the second
+    deepest = 3 if "\n  - [" in front_of(text) else 2
     wanted = [anchor for anchor, level in levels.items() if level <= deepest or anchor in linked]
     for number in range(max(len(linked), len(wanted))):
         if linked[number : number + 1] != wanted[number : number + 1]:

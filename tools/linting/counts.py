@@ -8,24 +8,12 @@ import re
 PAGE = "docs/API.md"
 TEST = "crates/capnp_object_tests/src/calls/counts/functions.rt"
 # arenas, messages, and the views and iterators that give further objects; text, data and numbers are bytes alone
-TYPES = [
-    "any_pointer::Reader",
-    "any_pointer_list::Reader",
-    "any_struct::StructReader",
-    "arena::ReaderArena",
-    "list_list::Reader",
-    "list_list::ViewIntoIter",
-    "list_list::ViewIter",
-    "message::Reader",
-    "message::TypedReader",
-    "struct_list::Reader",
-    "traits::ListIntoIter",
-    "traits::ListIter",
-    "upgraded::ListList",
-    "upgraded::PointerList",
-    "upgraded::StructList",
-    "upgraded::Structs",
-]
+TYPES = """
+    any_pointer::Reader any_pointer_list::Reader any_struct::StructReader arena::ReaderArena list_list::Reader
+    list_list::ViewIntoIter list_list::ViewIter message::Reader message::TypedReader struct_list::Reader
+    traits::ListIntoIter traits::ListIter upgraded::ListList upgraded::PointerList upgraded::StructList
+    upgraded::Structs
+""".split()
 FUNCTION = re.compile(r"^- `((?:\w+::)+)(\w+)`, fn\b", re.M)
 CALL = re.compile(r"\b((?:\w+::)+\w+)(?:::<[^()]*>)?\(")
 

@@ -11,11 +11,10 @@ from prelude import ROOT, crates, tracked
 
 from .bench import BENCH, better_over_ours, lines_of, ratio, rows
 from .chart import THEMES, draw
-from .clauses import PUBLIC, Counts
+from .clauses import PUBLIC, UNREAD, Counts
 from .tree import line_at
 
 PLACE = re.compile(r"(<!-- figures: ([\w-]+) -->\n)((?:\|.*\n)*)")
-ASIDE = re.compile(r"""//[^\n]*|b?"(?:\\.|[^"\\])*"|'(?:\\[^']+|[^'\\])'""", re.S)
 COUNTS = "bench/counts.txt"
 
 
@@ -99,27 +98,23 @@ TABLES = {
 }
 
 
+def count(pattern, paths, is_code=False):
+    """How often a pattern is in these files, or in their code."""
+    texts = [(ROOT / path).read_text() for path in tracked("crates", "conformance") if re.fullmatch(paths, path)]
+    return sum(len(re.findall(pattern, UNREAD.sub(" ", text) if is_code else text, re.M)) for text in texts)
+
+
 def counted():
     """What the tree has, by name."""
-    files = [ROOT / path for path in tracked("crates", "conformance")]
-    parts = {path: path.relative_to(ROOT).parts for path in files}
-    sources = {path: ASIDE.sub(" ", path.read_text()) for path in files if path.suffix == ".rt" and parts[path][2] == "src"}
-    functions = {path: len(re.findall(r"\bfn\s+\w", text)) for path, text in sources.items()}
-    of_tests = {path for path in sources if parts[path][1].endswith("_tests")}
     clauses = Counts()
-
-    def edits(name):
-        return sum(len(re.findall(r"^edit: ", path.read_text(), re.M)) for path in files if path.name == name)
-
     yield "crates", len(crates())
-    yield "functions of the sources, without the crates of tests", sum(functions[path] for path in sources if path not in of_tests)
-    yield "functions of the crates of tests", sum(functions[path] for path in of_tests)
-    yield "tests", sum(len(re.findall(r"#\[test\]", text)) for text in sources.values())
-    cases = [path.read_text() for path in files if parts[path][0] == "conformance" and path.suffix == ".txt"]
-    yield "cases of `conformance/`", sum(len(re.findall(r"^case ", text, re.M)) for text in cases)
-    yield "edits in `must-fail/`, which the gate tries", sum(path.suffix == ".edit" for path in files)
-    yield "edits in `more-edits.txt`", edits("more-edits.txt")
-    yield "edits in `test-edits.txt`", edits("test-edits.txt")
+    yield "functions of the sources, without the crates of tests", count(r"\bfn\s+\w", r"crates/\w+(?<!_tests)/src/.*\.rt", True)
+    yield "functions of the crates of tests", count(r"\bfn\s+\w", r"crates/\w+_tests/src/.*\.rt", True)
+    yield "tests", count(r"#\[test\]", r"crates/\w+/src/.*\.rt", True)
+    yield "cases of `conformance/`", count(r"^case ", r"conformance/.*\.txt")
+    yield "edits in `must-fail/`, which the gate tries", count(r"\A", r".*\.edit")
+    yield "edits in `more-edits.txt`", count(r"^edit: ", r".*/more-edits\.txt")
+    yield "edits in `test-edits.txt`", count(r"^edit: ", r".*/test-edits\.txt")
     yield "`ensures` of product code", sum(clauses.found.values())
     yield "`ensures` that only apply a record", sum(clauses.left_out.values())
     yield "further copies of another `ensures`", sum(clauses.further.values())

@@ -8,10 +8,9 @@ import fnmatch
 import os
 import re
 
-from .tree import line_at
+from .tree import line_at, section, table
 
 GLOSSARY = "docs/ARCHITECTURE.md"
-SECTION = re.compile(r"^## Glossary$(.*?)^## ", re.M | re.S)
 NAME = re.compile(r"[A-Za-z_][A-Za-z0-9_]*")
 PARTS = re.compile(r"[A-Z]+(?![a-z])|[A-Z][a-z]*|[a-z]+|[0-9]+")
 # in a page no option, and no name of a tool
@@ -73,25 +72,24 @@ def phrase_of(item):
 
 
 def rows_of(tree):
-    section = SECTION.search(tree.text(GLOSSARY)) if tree.has(GLOSSARY) else None
-    for line in section[1].split("\n") if section else ():
-        cells = [cell.strip() for cell in line.strip("|").split(" | ")]
-        if line.startswith("|") and len(cells) == 4 and not line.startswith(("|--", "| word ")):
-            yield Row(cells)
+    return [Row(cells) for cells in table(tree.text(GLOSSARY), "Glossary")]
 
 
 def without_table(text):
     """The page without the rows of its table, which have what is not said; line by line as it is."""
-    section = SECTION.search(text)
-    if section is None:
-        return text
-    return text[:section.start()] + re.sub(r"^\|.*$", "", section[0], flags=re.M) + text[section.end():]
+    part = section(text, "Glossary")
+    return text.replace(part, re.sub(r"^\|.*$", "", part, flags=re.M)) if part else text
 
 
 def suffix_of(path, text):
     """The ending that says what a file is written in; of a file of tools/ without one its first line does."""
     suffix = os.path.splitext(path)[1]
     return suffix if suffix or not path.startswith("tools/") else ".rt" if text.startswith("//") else ".py"
+
+
+def without_comments(path, text):
+    aside = ASIDE.get(suffix_of(path, text))
+    return aside.sub(lambda found: "" if found[0].startswith(("//", "--", "#", "/*", '"""')) else found[0], text) if aside else text
 
 
 def code_and_prose(path, text):

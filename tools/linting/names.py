@@ -10,7 +10,7 @@ import os
 import re
 
 from .comments import headings_of
-from .glossary import ASIDE, GLOSSARY, without_table
+from .glossary import GLOSSARY, NAME, without_comments, without_table
 from .tree import ROOT, line_at
 
 OTHERS = "tools/linting/names_of_others.txt"
@@ -29,7 +29,6 @@ TOPS = ("tools/", "crates/", "docs/", "bench/", "conformance/", ".ci/")
 MENTIONED = re.compile(r"(?<![\w./-])(?:tools|bench|docs|conformance)/[\w.*/-]*[\w*]")
 IDENTIFIER = re.compile(r"[A-Za-z_]\w*(?:::[A-Za-z_]\w*)*")
 CAMEL_OR_SNAKE = re.compile(r"[A-Z][a-z0-9]+[A-Z]\w*|[a-z][a-z0-9]*[A-Z]\w*|[A-Za-z]\w*_\w+")
-WORD = re.compile(r"[A-Za-z_]\w*")
 
 
 def words_of_code(path, text):
@@ -37,10 +36,7 @@ def words_of_code(path, text):
     words = set(re.split(r"[/.]", path))
     if path.endswith(".md") or path == OTHERS:
         return words
-    if path.endswith((".rt", ".antt")):
-        aside = ASIDE[os.path.splitext(path)[1]]
-        text = aside.sub(lambda found: "" if found[0].startswith(("//", "--")) else found[0], text)
-    return words.union(WORD.findall(text))
+    return words.union(NAME.findall(without_comments(path, text) if path.endswith((".rt", ".antt")) else text))
 
 
 class Known:
@@ -138,7 +134,7 @@ def check(tree):
             continue
         text, of_page = tree.text(page), set()
         for block in BLOCK.findall(text):
-            of_page.update(WORD.findall(block))
+            of_page.update(NAME.findall(block))
         text = BLOCK.sub(lambda block: "\n" * block[0].count("\n"), text)
         check_links(tree, page, known, text)
         check_quoted(tree, page, known, without_table(text) if page == GLOSSARY else text, of_page)

@@ -5,14 +5,13 @@ is made, is left out.
 """
 import re
 
+from .sentences import MADE, WORD
 from .tree import lines_of_page
 
-MADE = {"docs/API.md"}
 MOST_WORDS = 40
 MOST_COLUMNS = 150
 CELLS = re.compile(r"(?<!\\)\|")
 QUOTED = re.compile(r"`[^`]*`")
-WORD = re.compile(r"\S*\w\S*")
 TIME = re.compile(r"(?<![\w:.,-])(?:[01]?\d|2[0-3]):[0-5]\d(?::[0-5]\d)?(?![\w:])")
 
 

@@ -1,5 +1,4 @@
-"""Sentences of more than 35 words and table cells of more than 40, and phrases that are hard to follow, in comments of .rt
-and .antt files and in pages.
+"""Sentences of more than 35 words, and phrases that are hard to follow, in comments of .rt and .antt files and in pages.
 
 A sentence ends at a full stop, and with its list item, heading or table cell; text in `..` is one word.
 """
@@ -9,7 +8,6 @@ import re
 from .glossary import GLOSSARY, phrase_of
 
 MOST_WORDS = 35
-MOST_OF_A_CELL = 40
 # files that are looked at, and those that are made
 WITH_SENTENCES = re.compile(r"^(crates/.*(?<!_capnp)\.(rt|antt)|(crates|docs|tools|conformance)/.*\.md|[A-Z]+\.md)$")
 MADE = {"docs/API.md"}

@@ -1,6 +1,7 @@
 """The tracked files as they stand in the working tree, read once for all checks, and what is found wrong in them."""
 import functools
 import re
+from itertools import zip_longest
 
 from prelude import ROOT, tracked
 
@@ -15,10 +16,10 @@ def text_of(file):
 
 
 class Tree:
-    """The tracked files by their paths, and what a check has found wrong in them."""
+    """The tracked files by their paths, the files and folders that are asked for, if any are, and what a check has found wrong."""
 
-    def __init__(self):
-        self.paths = tracked()
+    def __init__(self, wanted=()):
+        self.paths, self.wanted = tracked(), wanted
         self.folders = {"/".join(path.split("/")[:depth]) for path in self.paths for depth in range(1, path.count("/") + 1)}
         self.known = {*self.paths, *self.folders}
         self.faults = []
@@ -29,10 +30,6 @@ class Tree:
 
     def has(self, path):
         return path in self.known
-
-    def crates(self):
-        """The crates that have sources, sorted."""
-        return sorted({path.split("/")[1] for path in self.paths if re.match(r"crates/\w+/src/", path)})
 
     def sources(self, pattern):
         return [path for path in sorted(self.paths) if re.fullmatch(pattern, path)]
@@ -60,3 +57,21 @@ def lines_of_page(text):
 
 def line_at(text, place):
     return text.count("\n", 0, place) + 1
+
+
+def section(text, heading):
+    """What is below such a heading of a page, up to the next one."""
+    found = re.search(rf"^## {heading}$(.*?)^## ", text, re.M | re.S)
+    return found[1] if found else ""
+
+
+def table(text, heading):
+    """The cells of each row of the table below a heading, but for its head."""
+    rows = [line.strip("|").split(" | ") for line in section(text, heading).split("\n") if line.startswith("| ")]
+    return [[cell.strip() for cell in row] for row in rows[1:] if len(row) == len(rows[0])]
+
+
+def first_difference(old, new):
+    """The number of the first line in which texts differ, and that line of the new one."""
+    lines = enumerate(zip_longest(old.split("\n"), new.split("\n"), fillvalue=""), 1)
+    return next(((number, other) for number, (one, other) in lines if one != other), (1, ""))

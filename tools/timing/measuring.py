@@ -78,19 +78,14 @@ def of_one_more(count, call, few, many, source=None):
     return (count(call(many), source) - count(call(few), source)) / (many - few)
 
 
-def print_head(names):
-    print("| | %s | the better over ours |" % " | ".join(names))
-    print("|---|" + "---|" * (len(names) + 1))
+def print_head(names, ours=1):
+    print("| | %s |%s" % (" | ".join(names), "".join(" the better over %s |" % name for name in names[:ours])))
+    print("|---|" + "---|" * (len(names) + ours))
 
 
-def print_row(what, names, values, form, compares=True):
-    """The values by the names of programs, ours first, and the better peer's over ours."""
-    peers = [value for name, value in values.items() if name != names[0]]
-    ratio = "%.2f" % (min(peers) / values[names[0]]) if peers and compares and names[0] in values else ""
+def print_row(what, names, values, form, compares=True, ours=1):
+    """The values by the names of programs, and the better peer's over each of ours, which are the first of these names."""
+    peers = [values[name] for name in names[ours:] if name in values]
+    ratios = ["%.2f" % (min(peers) / values[name]) if peers and compares and name in values else "" for name in names[:ours]]
     cells = [form % values[name] if name in values else "" for name in names]
-    print("| %s | %s | %s |" % (what, " | ".join(cells), ratio), flush=True)
-
-
-def named_programs(words):
-    """NAME=PROGRAM .., ours first."""
-    return {name: os.path.realpath(path) for name, path in (word.split("=", 1) for word in words)}
+    print("| %s |" % " | ".join([what, *cells, *ratios]), flush=True)

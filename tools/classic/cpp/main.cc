@@ -15,9 +15,34 @@
 #include <memory>
 #include <vector>
 
-// What was passed, and each message's canonical form, framed, where it is wanted.
-struct Tally {
+// Memory for messages that are built, packed and unpacked, which is used again.
+struct Room {
+    static constexpr size_t WORDS = 1 << 16, BYTES = 1 << 19;
+    std::vector<capnp::word> built = std::vector<capnp::word>(WORDS), unpacked = std::vector<capnp::word>(WORDS);
+    std::unique_ptr<kj::byte[]> packed{new kj::byte[BYTES]};
+};
+
+// A message in a region that is used again, or on the heap.
+struct Reused : capnp::MallocMessageBuilder {
+    static constexpr bool AGAIN = true;
+    explicit Reused(Room &room) : MallocMessageBuilder(kj::arrayPtr(room.built.data(), room.built.size())) {}
+};
+
+struct Fresh : capnp::MallocMessageBuilder {
+    static constexpr bool AGAIN = false;
+    explicit Fresh(Room &) {}
+};
+
+// Requests and responses of one benchmark, and what was passed. Each message's canonical form is written, framed, where it is wanted.
+template <typename Benchmark, typename Memory> struct Exchange {
+    using Request = typename Benchmark::Request;
+    using Response = typename Benchmark::Response;
+
+    Benchmark benchmark;
+    Random random;
+    char mode; // its first letter
     bool writes;
+    Room requestRoom, responseRoom;
     uint64_t values = 0, bytes = 0, wrong = 0;
 
     template <typename Root> void write(Root message) {
@@ -29,126 +54,53 @@ struct Tally {
         }
     }
 
-    void count(capnp::MessageBuilder &message) { bytes += 8 * message.sizeInWords(); }
-
-    void add(uint64_t said, uint64_t expected) {
-        values += said;
-        wrong += said != expected;
-    }
-};
-
-// Memory for messages that are built, packed and unpacked, which is used again.
-struct Room {
-    static constexpr size_t WORDS = 1 << 16;
-    std::vector<capnp::word> built = std::vector<capnp::word>(WORDS), unpacked = std::vector<capnp::word>(WORDS);
-};
-
-struct Packed {
-    static constexpr size_t BYTES = 1 << 19;
-    std::unique_ptr<kj::byte[]> bytes{new kj::byte[BYTES]};
-};
-
-// A message in a region that is used again, or on the heap.
-struct Reused {
-    static constexpr bool AGAIN = true;
-    capnp::MallocMessageBuilder message;
-    explicit Reused(Room &room) : message(kj::arrayPtr(room.built.data(), room.built.size())) {}
-};
-
-struct Fresh {
-    static constexpr bool AGAIN = false;
-    capnp::MallocMessageBuilder message;
-    explicit Fresh(Room &) {}
-};
-
-// Requests and responses of one benchmark.
-template <typename Benchmark, typename Memory> struct Exchange {
-    using Request = typename Benchmark::Request;
-    using Response = typename Benchmark::Response;
-
-    Benchmark benchmark;
-    Random random;
-    Tally tally;
-    Room requestRoom, responseRoom;
-    Packed requestPacked, responsePacked;
-
-    Exchange(uint32_t seed, bool writes) : random(seed), tally{writes} {}
-
-    void respond(typename Request::Reader request, capnp::MessageBuilder &response) {
-        tally.write(request);
-        benchmark.respond(request, response.initRoot<Response>());
+    // Passes a message that was built, as the mode says, and hands its root on.
+    template <typename Root, typename Read> void pass(Memory &message, Room &room, Read read) {
+        bytes += 8 * message.sizeInWords();
+        if (mode == 'o') {
+            read(message.template getRoot<Root>().asReader());
+        } else if (mode == 'b') {
+            auto words = capnp::messageToFlatArray(message);
+            capnp::FlatArrayMessageReader reader(words);
+            read(reader.getRoot<Root>());
+        } else {
+            kj::ArrayOutputStream out(kj::arrayPtr(room.packed.get(), Room::BYTES));
+            capnp::writePackedMessage(out, message);
+            kj::ArrayInputStream in(out.getArray());
+            // Unpacked in the room of the message before, or in memory of its own.
+            auto place = Memory::AGAIN ? kj::arrayPtr(room.unpacked.data(), room.unpacked.size()) : kj::ArrayPtr<capnp::word>();
+            capnp::PackedMessageReader reader(in, capnp::ReaderOptions(), place);
+            read(reader.getRoot<Root>());
+        }
     }
 
-    uint64_t said(typename Response::Reader response) {
-        tally.write(response);
-        return benchmark.said(response);
-    }
-
-    void objects() {
+    void exchange() {
         Memory request(requestRoom);
-        auto expected = benchmark.request(random, request.message.template initRoot<Request>());
-        Memory response(responseRoom);
-        respond(request.message.template getRoot<Request>().asReader(), response.message);
-        finish(said(response.message.template getRoot<Response>().asReader()), expected, request, response);
-    }
-
-    void bytes() {
-        Memory request(requestRoom);
-        auto expected = benchmark.request(random, request.message.template initRoot<Request>());
-        auto requestWords = capnp::messageToFlatArray(request.message);
-        capnp::FlatArrayMessageReader requestRead(requestWords);
-        Memory response(responseRoom);
-        respond(requestRead.getRoot<Request>(), response.message);
-        auto responseWords = capnp::messageToFlatArray(response.message);
-        capnp::FlatArrayMessageReader responseRead(responseWords);
-        finish(said(responseRead.getRoot<Response>()), expected, request, response);
-    }
-
-    void packed() {
-        Memory request(requestRoom);
-        auto expected = benchmark.request(random, request.message.template initRoot<Request>());
-        kj::ArrayOutputStream requestOut(kj::arrayPtr(requestPacked.bytes.get(), Packed::BYTES));
-        capnp::writePackedMessage(requestOut, request.message);
-        kj::ArrayInputStream requestIn(requestOut.getArray());
-        capnp::PackedMessageReader requestRead(requestIn, capnp::ReaderOptions(), place(requestRoom));
-        Memory response(responseRoom);
-        respond(requestRead.getRoot<Request>(), response.message);
-        kj::ArrayOutputStream responseOut(kj::arrayPtr(responsePacked.bytes.get(), Packed::BYTES));
-        capnp::writePackedMessage(responseOut, response.message);
-        kj::ArrayInputStream responseIn(responseOut.getArray());
-        capnp::PackedMessageReader responseRead(responseIn, capnp::ReaderOptions(), place(responseRoom));
-        finish(said(responseRead.getRoot<Response>()), expected, request, response);
-    }
-
-    // Where a message is unpacked: in the room of the one before, or in memory of its own.
-    static kj::ArrayPtr<capnp::word> place(Room &room) {
-        return Memory::AGAIN ? kj::arrayPtr(room.unpacked.data(), room.unpacked.size()) : kj::ArrayPtr<capnp::word>();
-    }
-
-    void finish(uint64_t said, uint64_t expected, Memory &request, Memory &response) {
-        tally.add(said, expected);
-        tally.count(request.message);
-        tally.count(response.message);
+        auto expected = benchmark.request(random, request.template initRoot<Request>());
+        pass<Request>(request, requestRoom, [&](typename Request::Reader root) {
+            write(root);
+            Memory response(responseRoom);
+            benchmark.respond(root, response.template initRoot<Response>());
+            pass<Response>(response, responseRoom, [&](typename Response::Reader root) {
+                write(root);
+                auto said = benchmark.said(root);
+                values += said;
+                wrong += said != expected;
+            });
+        });
     }
 };
 
 template <typename Benchmark, typename Memory> static int run(char **words) {
-    Exchange<Benchmark, Memory> exchange(std::atoi(words[4]), words[6] != nullptr);
+    Exchange<Benchmark, Memory> exchange{{}, Random(std::atoi(words[4])), *words[2], words[6] != nullptr, {}, {}};
     for (long left = std::atol(words[5]); left > 0; left--) {
-        if (std::strcmp(words[2], "objects") == 0) {
-            exchange.objects();
-        } else if (std::strcmp(words[2], "bytes") == 0) {
-            exchange.bytes();
-        } else {
-            exchange.packed();
-        }
+        exchange.exchange();
     }
-    auto &tally = exchange.tally;
-    if (!tally.writes) {
-        std::printf("%s %s %s %llu %llu\n", words[1], words[2], words[3], (unsigned long long)tally.values,
-                    (unsigned long long)tally.bytes);
+    if (!exchange.writes) {
+        std::printf("%s %s %s %llu %llu\n", words[1], words[2], words[3], (unsigned long long)exchange.values,
+                    (unsigned long long)exchange.bytes);
     }
-    return tally.wrong == 0 ? 0 : 1;
+    return exchange.wrong == 0 ? 0 : 1;
 }
 
 template <typename Benchmark> static int runOver(char **words) {

@@ -25,180 +25,112 @@ pub trait Benchmark: Default {
     fn said(&self, response: StructReader<'_>) -> Result<u64>;
 }
 
-/// What was passed, and each message's canonical form, framed, where it is wanted.
-#[derive(Default)]
-struct Tally {
+/// Reads the root of a message, whose canonical form is written, framed, where it is wanted.
+fn read_root<S: ReaderSegments, T>(message: &Reader<S>, writes: bool, read: impl FnOnce(StructReader<'_>) -> Result<T>) -> Result<T> {
+    if writes {
+        let words = message.canonicalize()?;
+        let mut output = std::io::stdout().lock();
+        output.write_all(&((words.len() as u64) << 32).to_le_bytes()).unwrap();
+        output.write_all(Word::words_to_bytes(&words)).unwrap();
+    }
+    read(message.get_root::<RootReader>()?.0)
+}
+
+/// Where a message is built, and the stream that it is packed into.
+struct Place<A> {
+    allocator: A,
+    stream: Vec<u8>,
+}
+
+/// Requests and responses of one benchmark, each built in its place.
+struct Exchange<B> {
+    benchmark: B,
+    mode: u8, // its first letter
     writes: bool,
     values: u64,
     bytes: u64,
     wrong: u64,
 }
 
-impl Tally {
-    fn write<S: ReaderSegments>(&self, message: &Reader<S>) -> Result<()> {
-        if self.writes {
-            let words = message.canonicalize()?;
-            let mut output = std::io::stdout().lock();
-            output.write_all(&((words.len() as u64) << 32).to_le_bytes()).unwrap();
-            output.write_all(Word::words_to_bytes(&words)).unwrap();
+impl<B: Benchmark> Exchange<B> {
+    /// Passes a message that was built, as the mode says, and reads its root.
+    #[inline(always)]
+    fn pass<A: Allocator, T>(
+        &mut self, message: &Builder<A>, stream: &mut Vec<u8>, read: impl FnOnce(&mut Self, StructReader<'_>) -> Result<T>,
+    ) -> Result<T> {
+        let writes = self.writes;
+        self.bytes += message.get_segments_for_output().iter().map(|segment| segment.len() as u64).sum::<u64>();
+        match self.mode {
+            b'o' => {
+                if writes {
+                    let stream = serialize::write_message_to_words(message);
+                    read_root(&serialize::read_message(&mut stream.as_slice(), OPTIONS)?, writes, |_| Ok(()))?;
+                }
+                read(self, message.get_root_as_reader::<RootReader>()?.0)
+            }
+            b'b' => {
+                let stream = serialize::write_message_to_words(message);
+                let message = serialize::read_message_from_flat_slice_no_alloc(&mut stream.as_slice(), OPTIONS)?;
+                read_root(&message, writes, |root| read(self, root))
+            }
+            _ => {
+                stream.clear();
+                serialize_packed::write_message(&mut *stream, message)?;
+                let message = serialize_packed::read_message(&mut stream.as_slice(), OPTIONS)?;
+                read_root(&message, writes, |root| read(self, root))
+            }
         }
-        Ok(())
     }
 
-    fn add<A: Allocator>(&mut self, request: &Builder<A>, response: &Builder<A>, said: u64, expected: u64) {
-        for message in [request, response] {
-            self.bytes += message.get_segments_for_output().iter().map(|segment| segment.len() as u64).sum::<u64>();
-        }
-        self.values = self.values.wrapping_add(said);
-        self.wrong += (said != expected) as u64;
-    }
-}
-
-/// Where messages are built: in a region that is used again, or on the heap.
-trait Memory {
-    type Allocator<'a>: Allocator
-    where
-        Self: 'a;
-    fn new() -> Self;
-    fn allocator(&mut self) -> Self::Allocator<'_>;
-}
-
-struct Reused(ScratchSpaceHeapAllocator<'static>);
-
-impl Memory for Reused {
-    type Allocator<'a> = &'a mut ScratchSpaceHeapAllocator<'static>;
-    fn new() -> Reused {
-        let region = Box::leak(Word::allocate_zeroed_vec(1 << 16).into_boxed_slice());
-        Reused(ScratchSpaceHeapAllocator::new(Word::words_to_bytes_mut(region)))
-    }
-    fn allocator(&mut self) -> &mut ScratchSpaceHeapAllocator<'static> {
-        &mut self.0
+    fn exchange<A: Allocator>(&mut self, random: &mut Random, [one, other]: &mut [Place<A>; 2]) -> Result<()> {
+        let mut request = Builder::new(&mut one.allocator);
+        let expected = self.benchmark.request(random, request.init_root::<RootBuilder>().0.init_struct(B::REQUEST));
+        let mut response = Builder::new(&mut other.allocator);
+        self.pass(&request, &mut one.stream, |exchange, root| {
+            exchange.benchmark.respond(root, response.init_root::<RootBuilder>().0.init_struct(B::RESPONSE))?;
+            let said = exchange.pass(&response, &mut other.stream, |exchange, root| exchange.benchmark.said(root))?;
+            exchange.values = exchange.values.wrapping_add(said);
+            exchange.wrong += (said != expected) as u64;
+            Ok(())
+        })
     }
 }
 
-struct Fresh;
-
-impl Memory for Fresh {
-    type Allocator<'a> = HeapAllocator;
-    fn new() -> Fresh {
-        Fresh
-    }
-    fn allocator(&mut self) -> HeapAllocator {
-        HeapAllocator::new()
-    }
+/// Memory that is used again.
+fn region() -> ScratchSpaceHeapAllocator<'static> {
+    let words = Box::leak(Word::allocate_zeroed_vec(1 << 16).into_boxed_slice());
+    ScratchSpaceHeapAllocator::new(Word::words_to_bytes_mut(words))
 }
 
-struct Exchange<B, M> {
-    benchmark: B,
-    random: Random,
-    tally: Tally,
-    request_memory: M,
-    response_memory: M,
-    request_stream: Vec<u8>,
-    response_stream: Vec<u8>,
-}
-
-impl<B: Benchmark, M: Memory> Exchange<B, M> {
-    fn objects(&mut self) -> Result<()> {
-        let mut request = Builder::new(self.request_memory.allocator());
-        let root = request.init_root::<RootBuilder>().0.init_struct(B::REQUEST);
-        let expected = self.benchmark.request(&mut self.random, root);
-        if self.tally.writes {
-            self.tally.write(&again(&request)?)?;
-        }
-        let mut response = Builder::new(self.response_memory.allocator());
-        let root = response.init_root::<RootBuilder>().0.init_struct(B::RESPONSE);
-        self.benchmark.respond(request.get_root_as_reader::<RootReader>()?.0, root)?;
-        if self.tally.writes {
-            self.tally.write(&again(&response)?)?;
-        }
-        let said = self.benchmark.said(response.get_root_as_reader::<RootReader>()?.0)?;
-        self.tally.add(&request, &response, said, expected);
-        Ok(())
-    }
-
-    fn bytes(&mut self) -> Result<()> {
-        let mut request = Builder::new(self.request_memory.allocator());
-        let root = request.init_root::<RootBuilder>().0.init_struct(B::REQUEST);
-        let expected = self.benchmark.request(&mut self.random, root);
-        let stream = serialize::write_message_to_words(&request);
-        let read = serialize::read_message_from_flat_slice_no_alloc(&mut stream.as_slice(), OPTIONS)?;
-        self.tally.write(&read)?;
-        let mut response = Builder::new(self.response_memory.allocator());
-        let root = response.init_root::<RootBuilder>().0.init_struct(B::RESPONSE);
-        self.benchmark.respond(read.get_root::<RootReader>()?.0, root)?;
-        let stream = serialize::write_message_to_words(&response);
-        let read = serialize::read_message_from_flat_slice_no_alloc(&mut stream.as_slice(), OPTIONS)?;
-        self.tally.write(&read)?;
-        let said = self.benchmark.said(read.get_root::<RootReader>()?.0)?;
-        self.tally.add(&request, &response, said, expected);
-        Ok(())
-    }
-
-    fn packed(&mut self) -> Result<()> {
-        let mut request = Builder::new(self.request_memory.allocator());
-        let root = request.init_root::<RootBuilder>().0.init_struct(B::REQUEST);
-        let expected = self.benchmark.request(&mut self.random, root);
-        self.request_stream.clear();
-        serialize_packed::write_message(&mut self.request_stream, &request)?;
-        let read = serialize_packed::read_message(&mut self.request_stream.as_slice(), OPTIONS)?;
-        self.tally.write(&read)?;
-        let mut response = Builder::new(self.response_memory.allocator());
-        let root = response.init_root::<RootBuilder>().0.init_struct(B::RESPONSE);
-        self.benchmark.respond(read.get_root::<RootReader>()?.0, root)?;
-        self.response_stream.clear();
-        serialize_packed::write_message(&mut self.response_stream, &response)?;
-        let read = serialize_packed::read_message(&mut self.response_stream.as_slice(), OPTIONS)?;
-        self.tally.write(&read)?;
-        let said = self.benchmark.said(read.get_root::<RootReader>()?.0)?;
-        self.tally.add(&request, &response, said, expected);
-        Ok(())
-    }
-}
-
-/// A message that was built, as it is read from its bytes.
-fn again<A: Allocator>(message: &Builder<A>) -> Result<Reader<serialize::OwnedSegments>> {
-    let stream = serialize::write_message_to_words(message);
-    serialize::read_message(&mut stream.as_slice(), OPTIONS)
-}
-
-fn run<B: Benchmark, M: Memory>(words: &[String]) -> Result<Tally> {
-    let mut exchange = Exchange::<B, M> {
-        benchmark: B::default(),
-        random: Random::new(words[4].parse().unwrap()),
-        tally: Tally { writes: words.len() > 6, ..Tally::default() },
-        request_memory: M::new(),
-        response_memory: M::new(),
-        request_stream: Vec::with_capacity(1 << 19),
-        response_stream: Vec::with_capacity(1 << 19),
-    };
+fn run<B: Benchmark, A: Allocator>(words: &[String], make: fn() -> A, is_fresh: bool) {
+    let mut exchange =
+        Exchange { benchmark: B::default(), mode: words[2].as_bytes()[0], writes: words.len() > 6, values: 0, bytes: 0, wrong: 0 };
+    let mut random = Random::new(words[4].parse().unwrap());
+    let mut places = [0, 1].map(|_| Place { allocator: make(), stream: Vec::with_capacity(1 << 19) });
     for _ in 0..words[5].parse::<u32>().unwrap() {
-        match words[2].as_str() {
-            "objects" => exchange.objects()?,
-            "bytes" => exchange.bytes()?,
-            _ => exchange.packed()?,
+        if is_fresh {
+            places.iter_mut().for_each(|place| place.allocator = make());
         }
+        exchange.exchange(&mut random, &mut places).unwrap();
     }
-    Ok(exchange.tally)
+    if !exchange.writes {
+        println!("{} {} {} {} {}", words[1], words[2], words[3], exchange.values, exchange.bytes);
+    }
+    std::process::exit((exchange.wrong != 0) as i32);
 }
 
-fn run_over<B: Benchmark>(words: &[String]) -> Result<Tally> {
+fn run_over<B: Benchmark>(words: &[String]) {
     match words[3].as_str() {
-        "reused" => run::<B, Reused>(words),
-        _ => run::<B, Fresh>(words),
+        "reused" => run::<B, _>(words, region, false),
+        _ => run::<B, _>(words, HeapAllocator::new, true),
     }
 }
 
 fn main() {
     let words: Vec<String> = std::env::args().collect();
-    let tally = match words[1].as_str() {
+    match words[1].as_str() {
         "carsales" => run_over::<carsales::CarSales>(&words),
         "catrank" => run_over::<catrank::CatRank>(&words),
         _ => run_over::<eval::Eval>(&words),
     }
-    .unwrap();
-    if !tally.writes {
-        println!("{} {} {} {} {}", words[1], words[2], words[3], tally.values, tally.bytes);
-    }
-    std::process::exit((tally.wrong != 0) as i32);
 }

@@ -1,5 +1,5 @@
 // What is built from the root down, in a region that is used again, and that the library makes zero after each message: what
-// tools/library/composing composes, and what the benchmarks `orphans` of crates/capnp_bench build.
+// tools/library/src/composed composes, and what the benchmarks `orphans` of crates/capnp_bench build.
 #pragma once
 #include "messages.capnp.h"
 

@@ -1,7 +1,7 @@
-// As tools/library/main, over the C++ library and what it makes of messages.capnp. It takes the same words, and further ones, for what
+// As tools/library/src/main, over the C++ library and what it makes of messages.capnp. It takes the same words, and further ones, for what
 // other programs of ours build:
 //
-//   values SHAPE TIMES [write]                       as tools/library/composing
+//   values SHAPE TIMES [write]                       as tools/library/src/composed
 //   orphans KIND SEED COUNT TIMES [write | alone]    as crates/capnp_bench; with `alone` no message is built
 #include "built.h"
 #include "views.h"

@@ -1,4 +1,4 @@
-// Reads a whole message, as tools/library/views does: the sum of all numbers, and of the lengths and the bytes of all texts.
+// Reads a whole message, as tools/library/src/views does: the sum of all numbers, and of the lengths and the bytes of all texts.
 #pragma once
 #include "messages.capnp.h"
 

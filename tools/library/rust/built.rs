@@ -1,4 +1,4 @@
-//! What is built from the root down, in a region that is used again: what tools/library/composing composes, and what the benchmarks
+//! What is built from the root down, in a region that is used again: what tools/library/src/composed composes, and what the benchmarks
 //! `orphans` of crates/capnp_bench build.
 use crate::root::RootBuilder;
 use capnp::message::{Builder, ScratchSpaceHeapAllocator};

@@ -1,4 +1,4 @@
-//! Reads a whole message, as tools/library/views does: the sum of all numbers, and of the lengths and the bytes of all texts. These
+//! Reads a whole message, as tools/library/src/views does: the sum of all numbers, and of the lengths and the bytes of all texts. These
 //! are read as data: the crate's texts are tested as UTF-8, which ours and the C++ library's are not.
 use crate::root::structs;
 use capnp::private::layout::{ElementSize, PointerReader, PrimitiveElement, StructReader};
