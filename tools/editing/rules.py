@@ -78,7 +78,8 @@ def adds(line, code):
         yield "", "%sif !ON { %s }" % (indent, line.strip())
     found = re.match(r"( *| *[^=]+ => )((?:%s).*\))(\??)(,?)$" % ADDS, code)
     if found and code.count("(") == code.count(")") and bool(found[4]) == ("=>" in found[1]):
-        nothing = "()" if found[3] else "Ok(())"
+        fails = not found[3] and re.match(r"(?:\w+\.)+(?:push|push_str|extend_from_slice|insert)\(", found[2])
+        nothing = "Ok(())" if fails else "()"
         yield (line[:found.end(1)] + nothing + found[4],
                "%sif ON { %s } else { %s }%s" % (line[:found.end(1)], nothing, line[found.end(1):found.end(3)], found[4]))
 

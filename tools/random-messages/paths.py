@@ -9,7 +9,7 @@ def taken_names(path):
     with open(path) as file:
         text = file.read()
     lists = {name: text[text.index("const %s:" % name):].split("];")[0] for name in ("MODULES", "ENUMS", "VARIANTS")}
-    return {name: set(re.findall(r'"(\w+)"', names)) for name, names in lists.items()}
+    return {name: set(" ".join(re.findall(r'"([\w ]+)"', names)).split()) for name, names in lists.items()}
 
 
 def in_modules(text):

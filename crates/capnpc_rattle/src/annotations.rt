@@ -17,9 +17,10 @@ const NAMESPACE: u64 = 0xb9c6f99ebf805f2c;
 /// The name that one of these annotations gives, or else this one.
 pub fn name_in_code<S: ReaderSegments>(
     alloc: Global,
-    annotations: &annotation::ListReader<'_, S>,
+    annotations: capnp_frame::Result<annotation::ListReader<'_, S>>,
     name: String,
 ) -> Result<String> {
+    let annotations = annotations?;
     for annotation in annotations.iter() {
         if annotation.get_id() == NAME {
             return text_of(alloc, &annotation);
@@ -32,17 +33,18 @@ pub fn name_in_code<S: ReaderSegments>(
 /// asked for `namespace`, with `_` for each `::`.
 pub fn prefix_in_code<S: ReaderSegments>(
     alloc: Global,
-    annotations: &annotation::ListReader<'_, S>,
+    annotations: capnp_frame::Result<annotation::ListReader<'_, S>>,
     has_namespaces: bool,
 ) -> Result<String> {
     let mut prefix = String::new(alloc);
+    let annotations = annotations?;
     for annotation in annotations.iter() {
         let id = annotation.get_id();
         if id == PREFIX {
             return text_of(alloc, &annotation);
         }
         if id == NAMESPACE && has_namespaces {
-            prefix = joined(alloc, text_of(alloc, &annotation)?.as_str())?;
+            prefix = joined(alloc, &text_of(alloc, &annotation)?)?;
         }
     }
     Ok(prefix)
@@ -67,7 +69,7 @@ fn text_of<S: ReaderSegments>(
 ) -> Result<String> {
     let value = annotation.get_value()?;
     match value.which() {
-        value::Which::Text(text) => read_text(alloc, text?),
+        value::Which::Text(text) => read_text(alloc, text),
         _ => bail!("an annotation has no text"),
     }
 }

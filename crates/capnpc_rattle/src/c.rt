@@ -14,7 +14,6 @@ pub mod macros;
 pub mod names;
 pub mod numbers;
 pub mod prefixes;
-pub mod reserved;
 pub mod schema_types;
 pub mod setters;
 pub mod structs;

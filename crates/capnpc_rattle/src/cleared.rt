@@ -4,11 +4,27 @@ use crate::code::{Code, Holes};
 use crate::getters::Site;
 use crate::numbers::number_of;
 use crate::owners::{Owner, is_member};
-use crate::schema::{Base, Body, Place, Slot, Struct};
+use crate::schema::{Base, Place, Slot, Struct};
 use crate::set_words::{words_clause, words_with};
-use crate::setters::code_of;
+use crate::setters::{SET_TAG, push_tags};
 use std::alloc::{AllocError, Global};
-use std::fmt::Write;
+
+/// The lines that set the number of a union, and clear a bool, another field of the data section,
+/// and a pointer.
+#[derive(Clone, Copy)]
+pub struct ClearingLines {
+    pub tag: &'static str,
+    pub boolean: &'static str,
+    pub number: &'static str,
+    pub pointer: &'static str,
+}
+
+const CLEARING: ClearingLines = ClearingLines {
+    tag: SET_TAG,
+    boolean: "self.draft.set_data_field(@offset@, false);",
+    number: "self.draft.set_data_field::<u@width@>(@offset@, 0);",
+    pointer: "self.draft.clear_pointer(@index@);",
+};
 
 /// The fields and pointers that a group has of its struct, each once.
 #[derive(Drop)]
@@ -25,7 +41,7 @@ impl Cleared {
         if let Some(offset) = body.discriminant {
             self.add_field(16, offset)?;
         }
-        for field in body.fields.as_slice() {
+        for field in &body.fields {
             match &field.slot {
                 Slot::At(place) => self.add_place(place)?,
                 Slot::Group(group) => left.push(*group)?,
@@ -49,7 +65,7 @@ impl Cleared {
 
     // Adds a field of the data section.
     fn add_field(&mut self, width: u32, offset: u32) -> Result<(), AllocError> {
-        for (other, at) in self.fields.as_slice() {
+        for (other, at) in &self.fields {
             if *other == width && *at == offset {
                 return Ok(());
             }
@@ -60,20 +76,16 @@ impl Cleared {
 
     // Adds a pointer.
     fn add_pointer(&mut self, index: u32) -> Result<(), AllocError> {
-        for other in self.pointers.as_slice() {
-            if *other == index {
-                return Ok(());
-            }
+        if !self.pointers.contains(&index) {
+            self.pointers.push(index)?;
         }
-        self.pointers.push(index)?;
         Ok(())
     }
 
     // The words, made from these, in which the fields are zero, as a clause names them.
     fn words(&self, alloc: Global, mut words: String) -> Result<String, AllocError> {
-        for (width, offset) in self.fields.as_slice() {
-            let before = words.as_str();
-            words = format!(in alloc; "($with_field {before}\n{width} {offset} 0)")?;
+        for (width, offset) in &self.fields {
+            words = format!(in alloc; "($with_field {words}\n{width} {offset} 0)")?;
         }
         Ok(words)
     }
@@ -83,54 +95,42 @@ impl Cleared {
     fn clause(&self, alloc: Global, tags: &[(u32, u16)]) -> Result<String, AllocError> {
         let words = words_with(alloc, tags)?;
         let words = self.words(alloc, words)?;
-        words_clause(alloc, words.as_str())
+        words_clause(alloc, &words)
     }
 
     // The words of the orphans in which the pointers are null, as a clause names them.
     fn orphans(&self, alloc: Global) -> Result<String, AllocError> {
         let mut words = String::from_str(alloc, OLD_POINTERS)?;
-        for index in self.pointers.as_slice() {
-            let before = words.as_str();
-            words = format!(in alloc; "($slice_set {before} {index} 0)")?;
+        for index in &self.pointers {
+            words = format!(in alloc; "($slice_set {words} {index} 0)")?;
         }
         Ok(words)
     }
 
-    // The code that clears all fields, a line for each.
-    fn code(&self, alloc: Global) -> Result<String, AllocError> {
-        let mut lines = String::new(alloc);
-        for (width, offset) in self.fields.as_slice() {
-            push_line(&mut lines)?;
-            if *width == 1 {
-                write!(lines, "self.draft.set_data_field({offset}, false);")?;
+    /// The code that sets these numbers of unions, and then clears all fields.
+    pub fn code(&self, alloc: Global, tags: &[(u32, u16)], lines: ClearingLines) -> Code {
+        let mut code = Code::new(alloc, 0);
+        push_tags(&mut code, lines.tag, tags);
+        for (width, offset) in &self.fields {
+            let holes = Holes::new(alloc).number("width", *width);
+            let template = if *width == 1 {
+                lines.boolean
             } else {
-                write!(lines, "self.draft.set_data_field::<u{width}>({offset}, 0);")?;
-            }
+                lines.number
+            };
+            code.add(template, &holes.number("offset", *offset));
         }
-        for index in self.pointers.as_slice() {
-            push_line(&mut lines)?;
-            write!(lines, "self.draft.clear_pointer({index});")?;
+        for index in &self.pointers {
+            let holes = Holes::new(alloc).number("index", *index);
+            code.add(lines.pointer, &holes);
         }
-        Ok(lines)
+        code
     }
-
-    // The code that sets these numbers of unions, and then clears all fields.
-    fn setting(&self, alloc: Global, tags: &[(u32, u16)]) -> Result<String, AllocError> {
-        let clearing = self.code(alloc)?;
-        code_of(alloc, tags, clearing.as_str())
-    }
-}
-
-// Ends a line, if there is one.
-fn push_line(lines: &mut String) -> Result<(), AllocError> {
-    if lines.is_empty() {
-        return Ok(());
-    }
-    lines.push('\n')
 }
 
 /// The fields and pointers of the group of a site, and of the groups in it.
-pub fn cleared_by(alloc: Global, site: Site<'_>) -> Result<Cleared, AllocError> {
+pub fn cleared_by(site: Site<'_>) -> Result<Cleared, AllocError> {
+    let alloc = site.request.alloc;
     let mut cleared = Cleared {
         fields: Vec::new(alloc),
         pointers: Vec::new(alloc),
@@ -141,44 +141,25 @@ pub fn cleared_by(alloc: Global, site: Site<'_>) -> Result<Cleared, AllocError> 
         let Some(id) = left.pop() else {
             break;
         };
-        if let Some(node) = site.request.find(id)
-            && let Body::Struct(body) = &node.body
-        {
-            cleared.add_group(body, &mut left)?;
+        if let Some(group) = Site::find(site.request, id) {
+            cleared.add_group(group.body, &mut left)?;
         }
     }
     Ok(cleared)
 }
 
-/// The name of a group within its setter's name: with the names of the groups around it in front.
-pub fn group_name(alloc: Global, owner: &Owner<'_>) -> Result<String, AllocError> {
-    let prefix = owner.prefix.as_str();
-    String::from_str(alloc, prefix.strip_suffix('_').unwrap_or(prefix))
-}
-
-/// The same name as the schema has it.
-pub fn group_of<'a>(owner: &'a Owner<'_>) -> &'a str {
-    let groups = owner.groups.as_str();
-    groups.strip_suffix('.').unwrap_or(groups)
-}
-
 /// Adds the setter of a group that is a member of a union.
-pub fn push_init(
-    alloc: Global,
-    code: &mut Code,
-    site: Site<'_>,
-    owner: &Owner<'_>,
-) -> Result<(), AllocError> {
-    if !is_member(site) {
-        return Ok(());
+pub fn push_init(code: &mut Code, owner: &Owner<'_>) {
+    if is_member(owner.site)
+        && let Some(cleared) = code.kept(cleared_by(owner.site))
+    {
+        let holes = code
+            .holes()
+            .with("group", owner.group())
+            .holding("name", owner.group_name())
+            .holding("words", cleared.clause(code.alloc, &owner.tags))
+            .holding("pointers", cleared.orphans(code.alloc))
+            .code("code", &cleared.code(code.alloc, &owner.tags, CLEARING));
+        code.add(GROUP_INIT, &holes);
     }
-    let cleared = cleared_by(alloc, site)?;
-    let tags = owner.tags.as_slice();
-    let holes = Holes::new(alloc)
-        .with("group", group_of(owner))
-        .holding("name", group_name(alloc, owner))
-        .holding("words", cleared.clause(alloc, tags))
-        .holding("pointers", cleared.orphans(alloc))
-        .holding("code", cleared.setting(alloc, tags));
-    code.add(GROUP_INIT, &holes)
 }

@@ -48,24 +48,55 @@ impl Holes {
         self
     }
 
+    /// With one more value, a number.
+    pub fn number(self, name: &'static str, value: impl Into<u64>) -> Holes {
+        let value: u64 = value.into();
+        let value = format!(in self.alloc; "{value}");
+        self.holding(name, value)
+    }
+
+    /// With one more value, some code without the end of its last line.
+    pub fn code(self, name: &'static str, code: &Code) -> Holes {
+        let lines = if code.is_whole {
+            String::from_str(
+                self.alloc,
+                code.lines.strip_suffix('\n').unwrap_or(&code.lines),
+            )
+        } else {
+            Err(AllocError)
+        };
+        self.holding(name, lines)
+    }
+
+    /// A template that is filled with these, without a line's end after it. A name without a value
+    /// stays.
+    pub fn fill(&self, template: &str) -> Result<String, AllocError> {
+        let mut code = Code::new(self.alloc, 0);
+        code.add(template, self);
+        code.without_end()
+    }
+
     // The value that stands for a name.
     fn value_of(&self, name: &str) -> Option<&str> {
-        for hole in self.holes.as_slice() {
+        for hole in &self.holes {
             if hole.name == name {
-                return Some(hole.value.as_str());
+                return Some(&hole.value);
             }
         }
         None
     }
 }
 
-/// Code that is written.
+/// Code that is written. If an allocation fails for a part of it, `whole` fails, so no call that
+/// adds one has to be tested.
 #[derive(Drop)]
 pub struct Code {
-    alloc: Global,
-    pub lines: String,
+    pub alloc: Global,
+    lines: String,
     /// How many modules, and blocks of them, are open.
     pub depth: usize,
+    /// Whether there was memory for all of it.
+    is_whole: bool,
 }
 
 impl Code {
@@ -75,51 +106,101 @@ impl Code {
             alloc,
             lines: String::new(alloc),
             depth,
+            is_whole: true,
         }
+    }
+
+    /// What is added so far.
+    pub fn as_str(&self) -> &str {
+        &self.lines
+    }
+
+    /// All of it, unless an allocation failed for a part.
+    pub fn whole(self) -> Result<String, AllocError> {
+        if self.is_whole {
+            Ok(self.lines)
+        } else {
+            Err(AllocError)
+        }
+    }
+
+    /// The same without the end of the last line.
+    pub fn without_end(mut self) -> Result<String, AllocError> {
+        let _ = self.lines.pop();
+        self.whole()
+    }
+
+    /// What was made for this code; none if there was no memory for it, as the code then remembers.
+    pub fn kept<T: Drop, E: Drop>(&mut self, made: Result<T, E>) -> Option<T> {
+        self.is_whole = self.is_whole && made.is_ok();
+        made.ok()
+    }
+
+    /// A text that was made for this code; an empty one if there was no memory for it.
+    pub fn text(&mut self, made: Result<String, AllocError>) -> String {
+        let nothing = String::new(self.alloc);
+        self.kept(made).unwrap_or(nothing)
+    }
+
+    /// No values for a template yet.
+    pub fn holes(&self) -> Holes {
+        Holes::new(self.alloc)
     }
 
     /// Adds the lines of a template, in which `@name@` stands for the value of that hole. If the
     /// value has several lines, each of them begins where the line of the hole does.
-    pub fn add(&mut self, template: &str, holes: &Holes) -> Result<(), AllocError> {
+    pub fn add(&mut self, template: &str, holes: &Holes) {
+        let added = self.try_add(template, holes);
+        self.is_whole = self.is_whole && added.is_ok();
+    }
+
+    /// Adds the lines of a template with one name, in whose place this value is put.
+    pub fn add_with(&mut self, template: &str, name: &'static str, value: &str) {
+        self.add(template, &self.holes().with(name, value));
+    }
+
+    /// Adds lines without a change.
+    pub fn add_lines(&mut self, lines: &str) {
+        self.add(lines, &self.holes());
+    }
+
+    /// Adds code whose lines have their depth.
+    pub fn add_code(&mut self, code: &str) {
+        let added = self.lines.push_str(code);
+        self.is_whole = self.is_whole && added.is_ok();
+    }
+
+    /// Adds code that was made, if there was memory for it.
+    pub fn add_made(&mut self, made: Result<String, AllocError>) {
+        let made = self.text(made);
+        self.add_code(&made);
+    }
+
+    /// Adds an empty line.
+    pub fn add_gap(&mut self) {
+        self.add_code("\n");
+    }
+
+    /// Adds a docstring of some lines.
+    pub fn add_comment(&mut self, comment: &str) {
+        for line in comment.lines() {
+            let line = line.trim_end();
+            if line.is_empty() {
+                self.add_lines("///");
+            } else {
+                let holes = self.holes().holding("line", uncited(self.alloc, line));
+                self.add("/// @line@", &holes);
+            }
+        }
+    }
+
+    // Adds the lines of a template, as long as there is memory.
+    fn try_add(&mut self, template: &str, holes: &Holes) -> Result<(), AllocError> {
         if !holes.is_whole {
             return Err(AllocError);
         }
         for line in template.lines() {
             self.add_line(line, holes)?;
-        }
-        Ok(())
-    }
-
-    /// Adds the lines of a template with one name, in whose place this value is put.
-    pub fn add_with(
-        &mut self,
-        template: &str,
-        name: &'static str,
-        value: &str,
-    ) -> Result<(), AllocError> {
-        self.add(template, &Holes::new(self.alloc).with(name, value))
-    }
-
-    /// Adds lines without a change.
-    pub fn add_lines(&mut self, lines: &str) -> Result<(), AllocError> {
-        self.add(lines, &Holes::new(self.alloc))
-    }
-
-    /// Adds an empty line.
-    pub fn add_gap(&mut self) -> Result<(), AllocError> {
-        self.lines.push('\n')
-    }
-
-    /// Adds a docstring of some lines.
-    pub fn add_comment(&mut self, comment: &str) -> Result<(), AllocError> {
-        for line in comment.lines() {
-            let line = line.trim_end();
-            if line.is_empty() {
-                self.add_lines("///")?;
-            } else {
-                let line = uncited(self.alloc, line)?;
-                self.add_with("/// @line@", "line", line.as_str())?;
-            }
         }
         Ok(())
     }
@@ -179,22 +260,4 @@ pub fn joined(alloc: Global, first: &str, second: &str) -> Result<String, AllocE
     let length = first.len().saturating_add(second.len());
     let between = if length > CLAUSE_LENGTH { '\n' } else { ' ' };
     format!(in alloc; "{first}{between}{second}")
-}
-
-/// A template whose holes are filled, without a line's end after it. A hole without a value stays.
-pub fn fill(alloc: Global, template: &str, holes: &Holes) -> Result<String, AllocError> {
-    let mut code = Code::new(alloc, 0);
-    code.add(template, holes)?;
-    let _ = code.lines.pop();
-    Ok(code.lines)
-}
-
-/// A template with one name, in whose place this value is put.
-pub fn fill_with(
-    alloc: Global,
-    template: &str,
-    name: &'static str,
-    value: &str,
-) -> Result<String, AllocError> {
-    fill(alloc, template, &Holes::new(alloc).with(name, value))
 }

@@ -1,5 +1,5 @@
 //! Constants.
-use crate::code::{Code, Holes, fill_with};
+use crate::code::Code;
 use crate::imports::uncited;
 use crate::names::{constant, snake, variant};
 use crate::numbers::{literal, number_of};
@@ -33,124 +33,91 @@ pub struct StaticValue<'v> {
 }
 
 /// Adds the constants that are declared in a node.
-pub fn push_constants(
-    alloc: Global,
-    code: &mut Code,
-    request: &Request,
-    scope: &Node,
-) -> Result<(), AllocError> {
-    for id in scope.nested.as_slice() {
+pub fn push_constants(code: &mut Code, request: &Request, scope: &Node) {
+    for id in &scope.nested {
         if let Some(node) = request.find(*id)
             && let Body::Constant(of, value) = &node.body
         {
-            code.add_gap()?;
-            push_constant(alloc, code, request, node, *of, value)?;
+            code.add_gap();
+            push_constant(code, request, node, *of, value);
         }
     }
-    Ok(())
 }
 
 // Adds a constant.
-fn push_constant(
-    alloc: Global,
-    code: &mut Code,
-    request: &Request,
-    node: &Node,
-    of: Type,
-    value: &Value,
-) -> Result<(), AllocError> {
-    let name = constant(alloc, node.name.as_str())?;
-    let name = name.as_str();
-    code.add_comment(node.comment.as_str())?;
+fn push_constant(code: &mut Code, request: &Request, node: &Node, of: Type, value: &Value) {
+    let alloc = code.alloc;
+    let name = code.text(constant(alloc, &node.name));
+    code.add_comment(&node.comment);
     match value {
         Value::Bits(bits) if of.lists == 0 => match (of.base, number_of(of.base)) {
-            (Base::Enum(id), _) => push_enumerant(alloc, code, request, node, id, *bits),
+            (Base::Enum(id), _) => push_enumerant(code, request, node, id, *bits),
             (_, Some(number)) => {
-                let value = literal(alloc, number, *bits)?;
-                push_line(alloc, code, name, number.type_name, value.as_str())
+                push_line(code, &name, number.type_name, literal(alloc, number, *bits));
             }
-            _ => push_line(alloc, code, name, "()", "()"),
+            _ => push_line(code, &name, "()", String::from_str(alloc, "()")),
         },
         Value::Text(text) => {
-            let value = format!(in alloc; "{text:?}")?;
-            let value = uncited(alloc, value.as_str())?;
-            push_line(alloc, code, name, "&str", value.as_str())
+            let value = code.text(format!(in alloc; "{text:?}"));
+            push_line(code, &name, "&str", uncited(alloc, &value));
         }
         Value::Data(bytes) => {
-            let value = byte_string(alloc, bytes.as_slice())?;
-            let value = uncited(alloc, value.as_str())?;
-            push_line(alloc, code, name, "&[u8]", value.as_str())
+            let value = code.text(byte_string(alloc, bytes));
+            push_line(code, &name, "&[u8]", uncited(alloc, &value));
         }
-        Value::Object(_) => push_object(alloc, code, request, node, of, value),
-        _ => code.add_with(LEFT_OUT, "name", name),
+        Value::Object(_) => push_object(code, request, node, of, value),
+        _ => code.add_with(LEFT_OUT, "name", &name),
     }
 }
 
 // Adds a constant that is a struct or a list.
-fn push_object(
-    alloc: Global,
-    code: &mut Code,
-    request: &Request,
-    node: &Node,
-    of: Type,
-    value: &Value,
-) -> Result<(), AllocError> {
-    let name = constant(alloc, node.name.as_str())?;
-    let Some(view) = view_of(alloc, request, node.scope, of, CONSTANT)? else {
-        return code.add_with(LEFT_OUT, "name", name.as_str());
+fn push_object(code: &mut Code, request: &Request, node: &Node, of: Type, value: &Value) {
+    let name = code.text(constant(code.alloc, &node.name));
+    let Some(Some(view)) = code.kept(view_of(request, node.scope, of, CONSTANT)) else {
+        return code.add_with(LEFT_OUT, "name", &name);
     };
     let static_value = StaticValue {
-        title: format!(in alloc; "The constant `{}`.", node.name)?,
+        title: code.text(format!(in code.alloc; "The constant `{}`.", node.name)),
         name,
-        getter: snake(alloc, node.name.as_str())?,
+        getter: code.text(snake(code.alloc, &node.name)),
         view,
         value,
     };
-    push_view(alloc, code, &static_value)
+    push_view(code, &static_value);
 }
 
 /// Adds the words of a value as a `static`, the law that they are its layout, and the getter that
 /// returns a view of them.
-pub fn push_view(
-    alloc: Global,
-    code: &mut Code,
-    static_value: &StaticValue<'_>,
-) -> Result<(), AllocError> {
-    let words = words_of(alloc, static_value.value)?;
-    let name = static_value.name.as_str();
-    let holes = Holes::new(alloc)
-        .holding("signature", head_of(alloc, static_value, words.len()))
-        .with("title", static_value.title.as_str())
-        .with("name", name)
-        .holding("fact", static_value.view.fact(alloc, "pointer", "result"));
-    push_words(alloc, code, name, words.as_slice())?;
-    push_layout(alloc, code, static_value, words.len())?;
-    code.add(GET_WORDS, &holes)
+pub fn push_view(code: &mut Code, static_value: &StaticValue<'_>) {
+    let Some(words) = code.kept(words_of(code.alloc, static_value.value)) else {
+        return;
+    };
+    let view = &static_value.view;
+    let holes = code
+        .holes()
+        .holding("signature", head_of(code.alloc, static_value, words.len()))
+        .with("title", &static_value.title)
+        .with("name", &static_value.name)
+        .holding("fact", view.fact(code.alloc, "pointer", "result"));
+    push_words(code, &static_value.name, &words);
+    push_layout(code, static_value, words.len());
+    code.add(GET_WORDS, &holes);
 }
 
 // Adds the law that the words of a value, of a given number of bytes, are the layout of its tree,
 // where the words are few and the tree is known.
-fn push_layout(
-    alloc: Global,
-    code: &mut Code,
-    static_value: &StaticValue<'_>,
-    bytes: usize,
-) -> Result<(), AllocError> {
-    let tree = if bytes > MAX_BYTES {
-        None
-    } else {
-        tree_of(alloc, static_value.value)?
-    };
-    let Some(tree) = tree else {
-        return code.add_lines(NO_LAYOUT);
-    };
-    let tree = wrapped(alloc, code.depth, tree.as_str());
-    let name = static_value.name.as_str();
-    let holes = Holes::new(alloc)
-        .with("name", name)
-        .holding("law", name.to_ascii_lowercase(alloc))
-        .holding("tree", tree);
-    code.add(LAYOUT, &holes)
+fn push_layout(code: &mut Code, static_value: &StaticValue<'_>, bytes: usize) {
+    if bytes <= MAX_BYTES
+        && let Some(Some(tree)) = code.kept(tree_of(code.alloc, static_value.value))
+    {
+        let holes = code
+            .holes()
+            .with("name", &static_value.name)
+            .holding("law", static_value.name.to_ascii_lowercase(code.alloc))
+            .holding("tree", wrapped(code.alloc, code.depth, &tree));
+        return code.add(LAYOUT, &holes);
+    }
+    code.add_lines(NO_LAYOUT);
 }
 
 // The head of the getter that returns a view of a given number of bytes.
@@ -159,60 +126,39 @@ fn head_of(
     static_value: &StaticValue<'_>,
     bytes: usize,
 ) -> Result<String, AllocError> {
-    let getter = static_value.getter.as_str();
-    let type_name = view_type(alloc, &static_value.view, bytes)?;
-    format!(in alloc; "pub fn get_{getter}() -> {type_name}")
+    let getter = &static_value.getter;
+    let type_name = static_value.view.sized_type(alloc, bytes)?;
+    format!(in alloc; "pub fn get_{getter}() -> $Result<{type_name}>")
 }
 
-// The type of what the getter of a view of a given number of bytes returns.
-fn view_type(alloc: Global, view: &View, bytes: usize) -> Result<String, AllocError> {
-    let type_name = view.result_type(alloc)?;
-    let size = format!(in alloc; "{bytes}")?;
-    fill_with(alloc, type_name.as_str(), "size", size.as_str())
-}
-
-// Adds the line of a constant.
-fn push_line(
-    alloc: Global,
-    code: &mut Code,
-    name: &str,
-    type_name: &str,
-    value: &str,
-) -> Result<(), AllocError> {
-    let line = format!(in alloc; "pub const {name}: {type_name} = {value};")?;
-    code.add_with("@line@", "line", line.as_str())
+// Adds the line of a constant, by how its value is written.
+fn push_line(code: &mut Code, name: &str, type_name: &str, value: Result<String, AllocError>) {
+    let holes = code
+        .holes()
+        .with("name", name)
+        .with("type", type_name)
+        .holding("value", value);
+    code.add("pub const @name@: @type@ = @value@;", &holes);
 }
 
 // Adds a constant that is an enumerant.
-fn push_enumerant(
-    alloc: Global,
-    code: &mut Code,
-    request: &Request,
-    node: &Node,
-    id: u64,
-    bits: u64,
-) -> Result<(), AllocError> {
-    let name = constant(alloc, node.name.as_str())?;
-    let path = path_to(alloc, request, node.scope, id)?;
+fn push_enumerant(code: &mut Code, request: &Request, node: &Node, id: u64, bits: u64) {
+    let name = code.text(constant(code.alloc, &node.name));
+    let path = code.text(path_to(request, node.scope, id));
     let value = match enumerant_of(request, id, bits) {
         Some(enumerant) => {
-            let variant = variant(alloc, enumerant)?;
-            format!(in alloc; "{path}::{variant}")?
+            let variant = code.text(variant(code.alloc, enumerant));
+            format!(in code.alloc; "{path}::{variant}")
         }
-        None => format!(in alloc; "{path}::NotInSchema({bits})")?,
+        None => format!(in code.alloc; "{path}::NotInSchema({bits})"),
     };
-    push_line(alloc, code, name.as_str(), path.as_str(), value.as_str())
+    push_line(code, &name, &path, value);
 }
 
 /// The name of the enumerant of this number.
 pub fn enumerant_of(request: &Request, id: u64, number: u64) -> Option<&str> {
-    match &request.find(id)?.body {
-        Body::Enum(names) => match names.get((number % 65536) as usize) {
-            Some(name) => Some(name.as_str()),
-            None => None,
-        },
-        _ => None,
-    }
+    let name = request.enumerants_of(id).get((number % 65536) as usize)?;
+    Some(name)
 }
 
 // Bytes as they are written in code.
@@ -220,7 +166,7 @@ fn byte_string(alloc: Global, bytes: &[u8]) -> Result<String, AllocError> {
     let mut literal = String::from_str(alloc, "b\"")?;
     for byte in bytes {
         let escaped = byte.escape_ascii().to_string(alloc)?;
-        literal.push_str(escaped.as_str())?;
+        literal.push_str(&escaped)?;
     }
     literal.push('"')?;
     Ok(literal)

@@ -1,10 +1,10 @@
 //! Defaults of pointers.
-use crate::code::{Code, Holes, fill, fill_with};
+use crate::code::{Code, Holes};
 use crate::constants::{StaticValue, push_view};
 use crate::getters::{Shown, Site};
 use crate::names::{default_name, snake};
 use crate::paths::path_to;
-use crate::schema::{Base, Field, Place, Slot, Struct, Value};
+use crate::schema::{Base, Field, Place, Slot, Value};
 use crate::templates::{
     DEFAULT_BODY, DEFAULT_DATA_BODY, DEFAULT_DATA_FACT, DEFAULT_FACT, OR_DEFAULT_BODY,
     OR_DEFAULT_FACT,
@@ -37,45 +37,45 @@ pub fn has_default(place: &Place) -> bool {
 
 /// What the getter of a pointer that has a default returns.
 pub fn shown_default(
-    alloc: Global,
     site: Site<'_>,
     field: &Field,
     place: &Place,
 ) -> Result<Option<Shown>, AllocError> {
     let (request, id) = (site.request, site.node.id);
-    let (Some(stored), Some(default)) = (
-        view_of(alloc, request, id, place.of, MESSAGE)?,
-        view_of(alloc, request, id, place.of, CONSTANT)?,
-    ) else {
-        return Ok(None);
-    };
-    let views = Views { stored, default };
-    let holes = holes_of(alloc, field, place, "@value@", &views);
-    if is_plain(place.of) {
-        return shown_one(alloc, &views, &holes, DEFAULT_FACT, DEFAULT_BODY);
-    }
-    match place.of.base {
-        Base::Struct(of) if place.of.lists == 0 && sets_no_pointers(&place.default) => {
-            let holes = holes.holding("path", path_to(alloc, request, id, of));
-            shown_one(alloc, &views, &holes, DEFAULT_DATA_FACT, DEFAULT_DATA_BODY)
-        }
-        _ => shown_either(alloc, field, place, &views),
+    let stored = view_of(request, id, place.of, MESSAGE)?;
+    let default = view_of(request, id, place.of, CONSTANT)?;
+    match (stored, default) {
+        (Some(stored), Some(default)) => shown_by(site, field, place, &Views { stored, default }),
+        _ => Ok(None),
     }
 }
 
-// What is returned, by these templates, if one type has the views of the message and of the default.
-fn shown_one(
-    alloc: Global,
+// What is returned: one of these views, of one type where both have that, or of two.
+fn shown_by(
+    site: Site<'_>,
+    field: &Field,
+    place: &Place,
     views: &Views,
-    holes: &Holes,
-    fact: &str,
-    body: &str,
 ) -> Result<Option<Shown>, AllocError> {
-    let fact = fill(alloc, fact, holes);
+    let alloc = site.request.alloc;
+    let is_data = place.of.lists == 0 && sets_no_pointers(&place.default);
+    let holes = holes_of(alloc, field, place, "@value@", views);
+    let (holes, fact, body) = match place.of.base {
+        _ if is_plain(place.of) => (holes, DEFAULT_FACT, DEFAULT_BODY),
+        Base::Struct(of) if is_data => {
+            let path = path_to(site.request, site.node.id, of);
+            (
+                holes.holding("path", path),
+                DEFAULT_DATA_FACT,
+                DEFAULT_DATA_BODY,
+            )
+        }
+        _ => return shown_either(alloc, field, place, views),
+    };
     Shown::new(
         views.stored.result_type(alloc),
-        fact,
-        fill(alloc, body, holes),
+        holes.fill(fact),
+        holes.fill(body),
     )
 }
 
@@ -89,77 +89,55 @@ fn shown_either(
     let holes = holes_of(alloc, field, place, "view", views);
     Shown::new(
         either_type(alloc, place, views),
-        fill(alloc, OR_DEFAULT_FACT, &holes),
-        fill(alloc, OR_DEFAULT_BODY, &holes),
+        holes.fill(OR_DEFAULT_FACT),
+        holes.fill(OR_DEFAULT_BODY),
     )
 }
 
 // What is in the clause and in the code of the getter, which returns a view by this name.
 fn holes_of(alloc: Global, field: &Field, place: &Place, view: &str, views: &Views) -> Holes {
     Holes::new(alloc)
-        .holding("offset", format!(in alloc; "{}", place.offset))
-        .holding("default", default_name(alloc, field.name.as_str()))
-        .holding("name", snake(alloc, field.name.as_str()))
+        .number("offset", place.offset)
+        .holding("default", default_name(alloc, &field.name))
+        .holding("name", snake(alloc, &field.name))
         .holding("stored", views.stored.fact(alloc, "pointer", view))
         .holding("fact", views.default.fact(alloc, "pointer", view))
 }
 
-// The type of a view of the message, or of the default.
+// The type of a view of the message, or of the default, with the number of the bytes of its words.
 fn either_type(alloc: Global, place: &Place, views: &Views) -> Result<String, AllocError> {
-    let default = sized_type(alloc, &views.default, place)?;
-    let (stored, default) = (views.stored.type_name.as_str(), default.as_str());
+    let words = words_of(alloc, &place.default)?;
+    let default = views.default.sized_type(alloc, words.len())?;
+    let stored = &views.stored.type_name;
     format!(in alloc; "$OrDefault<{stored}, {default}>")
 }
 
-// The type of a view of a default, with the number of the bytes of its words.
-fn sized_type(alloc: Global, view: &View, place: &Place) -> Result<String, AllocError> {
-    let words = words_of(alloc, &place.default)?;
-    let size = format!(in alloc; "{}", words.len())?;
-    fill_with(alloc, view.type_name.as_str(), "size", size.as_str())
-}
-
 /// Adds the defaults of a struct's pointers.
-pub fn push_defaults(
-    alloc: Global,
-    code: &mut Code,
-    site: Site<'_>,
-    body: &Struct,
-) -> Result<(), AllocError> {
-    for field in body.fields.as_slice() {
+pub fn push_defaults(code: &mut Code, site: Site<'_>) {
+    for field in &site.body.fields {
         if let Slot::At(place) = &field.slot
             && has_default(place)
         {
-            push_default(alloc, code, site, field, place)?;
+            push_default(code, site, field, place);
         }
     }
-    Ok(())
 }
 
 // Adds the default of a pointer: its words, and the getter that returns a view of them.
-fn push_default(
-    alloc: Global,
-    code: &mut Code,
-    site: Site<'_>,
-    field: &Field,
-    place: &Place,
-) -> Result<(), AllocError> {
-    let Some(view) = view_of(alloc, site.request, site.node.id, place.of, CONSTANT)? else {
-        return Ok(());
+fn push_default(code: &mut Code, site: Site<'_>, field: &Field, place: &Place) {
+    let found = view_of(site.request, site.node.id, place.of, CONSTANT);
+    let Some(Some(view)) = code.kept(found) else {
+        return;
     };
+    let name = &field.name;
+    let getter = code.text(snake(code.alloc, name));
     let static_value = StaticValue {
-        title: format!(in alloc; "The default of the field `{}`.", field.name)?,
-        name: default_name(alloc, field.name.as_str())?,
-        getter: getter_name(alloc, field)?,
+        title: code.text(format!(in code.alloc; "The default of the field `{name}`.")),
+        name: code.text(default_name(code.alloc, name)),
+        getter: code.text(format!(in code.alloc; "{getter}_default")),
         view,
         value: &place.default,
     };
-    code.add_gap()?;
-    push_view(alloc, code, &static_value)
-}
-
-// The name of the getter of a field's default, without its `get_`.
-fn getter_name(alloc: Global, field: &Field) -> Result<String, AllocError> {
-    let mut name = snake(alloc, field.name.as_str())?;
-    name.push_str("_default")?;
-    Ok(name)
+    code.add_gap();
+    push_view(code, &static_value);
 }

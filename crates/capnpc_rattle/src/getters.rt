@@ -1,12 +1,12 @@
 //! What getters return, and what clauses say of it.
-use crate::code::{Holes, fill, fill_with, joined};
+use crate::code::{Holes, joined};
 use crate::defaults::{has_default, shown_default};
-use crate::enums::{cases_of, enum_name};
+use crate::enums::{READ_CASES, enum_name, lines_of};
 use crate::names::module;
 use crate::numbers::Stored;
-use crate::schema::{Base, Body, Field, Node, Place, Request, Slot};
+use crate::schema::{Base, Body, Field, Node, Place, Request, Slot, Struct};
 use crate::templates::{ANY_POINTER_BODY, ANY_POINTER_FACT, ENUM_FACT, GROUP_BODY, VIEW_BODY};
-use crate::views::{MESSAGE, View, view_of};
+use crate::views::{MESSAGE, view_of};
 use std::alloc::{AllocError, Global};
 
 /// The struct or group whose fields are written.
@@ -14,28 +14,26 @@ use std::alloc::{AllocError, Global};
 pub struct Site<'r> {
     pub request: &'r Request,
     pub node: &'r Node,
+    pub body: &'r Struct,
 }
 
 impl<'r> Site<'r> {
-    /// Whether it is a group.
-    pub fn is_group(&self) -> bool {
-        match &self.node.body {
-            Body::Struct(body) => body.is_group,
-            _ => false,
-        }
-    }
-
-    /// Where the number of its union is, if it has one.
-    pub fn discriminant(&self) -> Option<u32> {
-        match &self.node.body {
-            Body::Struct(body) => body.discriminant,
+    /// The struct or group of this number.
+    pub fn find(request: &'r Request, id: u64) -> Option<Site<'r>> {
+        let node = request.find(id)?;
+        match &node.body {
+            Body::Struct(body) => Some(Site {
+                request,
+                node,
+                body,
+            }),
             _ => None,
         }
     }
 
     /// The struct of the fields, as a clause names it.
     pub fn fields(&self) -> &'static str {
-        if self.is_group() {
+        if self.body.is_group {
             "$struct_of S.segments self.now.fields.now"
         } else {
             "$struct_of S.segments self.now.fields"
@@ -44,7 +42,7 @@ impl<'r> Site<'r> {
 
     /// How long the reader of a group in it may be used.
     pub fn borrow(&self) -> &'static str {
-        if self.is_group() { "'b" } else { "'_" }
+        if self.body.is_group { "'b" } else { "'_" }
     }
 }
 
@@ -72,124 +70,121 @@ impl Shown {
             body: body?,
         }))
     }
+
+    /// The type, for a borrow of this lifetime.
+    pub fn type_for(&self, alloc: Global, borrow: &str) -> Result<String, AllocError> {
+        Holes::new(alloc)
+            .with("borrow", borrow)
+            .fill(&self.type_name)
+    }
+
+    /// What a clause says of it by this name.
+    pub fn fact_of(&self, alloc: Global, value: &str) -> Result<String, AllocError> {
+        Holes::new(alloc).with("value", value).fill(&self.fact)
+    }
 }
 
 /// What the getter of a field returns; `None` for `Void`, and for what is left out.
-pub fn shown_of(alloc: Global, site: Site<'_>, field: &Field) -> Result<Option<Shown>, AllocError> {
+pub fn shown_of(site: Site<'_>, field: &Field) -> Result<Option<Shown>, AllocError> {
     match &field.slot {
         Slot::Group(id) => match site.request.find(*id) {
-            Some(group) => shown_group(alloc, site, group),
+            Some(group) => shown_group(site, group),
             None => Ok(None),
         },
         Slot::At(place) => match Stored::at_place(place) {
-            Some(stored) => shown_number(alloc, site, &stored),
-            None => shown_pointer(alloc, site, field, place),
+            Some(stored) => shown_number(site, &stored),
+            None => shown_pointer(site, field, place),
         },
         Slot::Unknown => Ok(None),
     }
 }
 
 // A group, whose reader borrows the struct.
-fn shown_group(alloc: Global, site: Site<'_>, group: &Node) -> Result<Option<Shown>, AllocError> {
-    let name = module(alloc, group.name.as_str())?;
-    let name = name.as_str();
-    let fields = if site.is_group() {
-        "self.fields"
-    } else {
-        "&self.fields"
-    };
-    let holes = Holes::new(alloc).with("name", name).with("fields", fields);
+fn shown_group(site: Site<'_>, group: &Node) -> Result<Option<Shown>, AllocError> {
+    let alloc = site.request.alloc;
+    let is_group = site.body.is_group;
+    let holes = Holes::new(alloc)
+        .holding("name", module(alloc, &group.name))
+        .with(
+            "fields",
+            if is_group {
+                "self.fields"
+            } else {
+                "&self.fields"
+            },
+        );
     Shown::new(
-        fill_with(alloc, "@name@::Reader<@borrow@, 'a, S>", "name", name),
+        holes.fill("@name@::Reader<@borrow@, 'a, S>"),
         String::from_str(alloc, "$struct_of S.segments @value@.fields.now $≡ fields"),
-        fill(alloc, GROUP_BODY, &holes),
+        holes.fill(GROUP_BODY),
     )
 }
 
 // A number, a bool or an enum.
-fn shown_number(
-    alloc: Global,
-    site: Site<'_>,
-    stored: &Stored,
-) -> Result<Option<Shown>, AllocError> {
-    let value = stored.clause(alloc)?;
+fn shown_number(site: Site<'_>, stored: &Stored) -> Result<Option<Shown>, AllocError> {
+    let alloc = site.request.alloc;
     if let Base::Enum(id) = stored.base {
-        return shown_enum(alloc, site, stored, id, value);
+        return shown_enum(site, stored, id);
     }
+    let value = stored.clause(alloc)?;
     Shown::new(
         String::from_str(alloc, stored.number.type_name),
-        joined(alloc, "@value@ $≡", value.as_str()),
+        joined(alloc, "@value@ $≡", &value),
         stored.call(alloc),
     )
 }
 
-// An enum; a clause names its number in this way.
-fn shown_enum(
-    alloc: Global,
-    site: Site<'_>,
-    stored: &Stored,
-    id: u64,
-    bits: String,
-) -> Result<Option<Shown>, AllocError> {
-    let name = enum_name(alloc, site, id)?;
+// An enum; a clause names its number.
+fn shown_enum(site: Site<'_>, stored: &Stored, id: u64) -> Result<Option<Shown>, AllocError> {
+    let alloc = site.request.alloc;
+    let name = enum_name(site, id)?;
+    let cases = lines_of(alloc, &name, site.request.enumerants_of(id), READ_CASES);
     let holes = Holes::new(alloc)
-        .holding("bits", Ok(bits))
-        .holding("cases", cases_of(alloc, site.request, id, name.as_str()));
-    let fact = fill(alloc, ENUM_FACT, &holes);
-    let body = enum_body(alloc, stored, name.as_str());
+        .holding("bits", stored.clause(alloc))
+        .holding("cases", cases)
+        .with("name", &name)
+        .holding("call", stored.call(alloc));
+    let fact = holes.fill(ENUM_FACT);
+    let body = holes.fill("@name@::from_number(@call@)");
     Shown::new(Ok(name), fact, body)
-}
-
-// The code that returns an enum of this name.
-fn enum_body(alloc: Global, stored: &Stored, name: &str) -> Result<String, AllocError> {
-    let call = stored.call(alloc)?;
-    let call = call.as_str();
-    format!(in alloc; "{name}::from_number({call})")
 }
 
 // A pointer.
 fn shown_pointer(
-    alloc: Global,
     site: Site<'_>,
     field: &Field,
     place: &Place,
 ) -> Result<Option<Shown>, AllocError> {
     if place.of.lists == 0 && place.of.base == Base::AnyPointer {
-        return shown_any_pointer(alloc, place.offset);
+        return shown_any_pointer(site.request.alloc, place.offset);
     }
     if has_default(place) {
-        return shown_default(alloc, site, field, place);
+        return shown_default(site, field, place);
     }
-    shown_stored(alloc, site, place)
-}
-
-// A pointer that has no default.
-fn shown_stored(alloc: Global, site: Site<'_>, place: &Place) -> Result<Option<Shown>, AllocError> {
-    match view_of(alloc, site.request, site.node.id, place.of, MESSAGE)? {
-        Some(view) => shown_view(alloc, place, &view),
-        None => Ok(None),
-    }
+    shown_view(site, place)
 }
 
 // A pointer that may point to anything, by its number among the pointers.
 fn shown_any_pointer(alloc: Global, offset: u32) -> Result<Option<Shown>, AllocError> {
-    let offset = format!(in alloc; "{offset}")?;
-    let offset = offset.as_str();
+    let holes = Holes::new(alloc).number("offset", offset);
     Shown::new(
         String::from_str(alloc, "$any_pointer::Reader<'a, S>"),
-        fill_with(alloc, ANY_POINTER_FACT, "offset", offset),
-        fill_with(alloc, ANY_POINTER_BODY, "offset", offset),
+        holes.fill(ANY_POINTER_FACT),
+        holes.fill(ANY_POINTER_BODY),
     )
 }
 
-// A view of what a pointer points to.
-fn shown_view(alloc: Global, place: &Place, view: &View) -> Result<Option<Shown>, AllocError> {
-    let offset = format!(in alloc; "{}", place.offset)?;
-    let offset = offset.as_str();
+// A view of what a pointer that has no default points to.
+fn shown_view(site: Site<'_>, place: &Place) -> Result<Option<Shown>, AllocError> {
+    let alloc = site.request.alloc;
+    let Some(view) = view_of(site.request, site.node.id, place.of, MESSAGE)? else {
+        return Ok(None);
+    };
+    let offset = place.offset;
     let pointer = format!(in alloc; "($pointer_in fields {offset})")?;
     Shown::new(
         view.result_type(alloc),
-        view.fact(alloc, pointer.as_str(), "@value@"),
-        fill_with(alloc, VIEW_BODY, "offset", offset),
+        view.fact(alloc, &pointer, "@value@"),
+        Holes::new(alloc).number("offset", offset).fill(VIEW_BODY),
     )
 }

@@ -11,7 +11,6 @@
 #![tactic(auto)]
 
 mod annotations;
-mod builder_getters;
 mod builder_templates;
 mod builders;
 mod c;
@@ -21,7 +20,6 @@ mod code;
 mod command;
 mod constants;
 mod defaults;
-mod enum_numbers;
 mod enums;
 mod fields;
 mod file;
@@ -32,11 +30,8 @@ mod input;
 mod names;
 mod numbers;
 mod output;
-mod owned_types;
 mod owners;
 mod paths;
-mod pointer_names;
-mod pointer_setters;
 mod print_templates;
 mod printing;
 mod request;
@@ -63,7 +58,6 @@ use crate::schema_capnp::code_generator_request;
 use crate::wanted::Wanted;
 use anyhow::{Context, Result};
 use capnp_frame::serialize::OwnedSegments;
-use std::alloc::Global;
 use std::env;
 use std::io::IsTerminal;
 use std::process::ExitCode;
@@ -87,10 +81,10 @@ fn run(rt: &HostRuntime) -> Result<ExitCode> {
         Err(_) => String::new(alloc),
     };
     let arguments = arguments.get(1..).unwrap_or(&[]);
-    let words = words_of(alloc, arguments, variable.as_str())?;
-    match task_of(arguments, words.as_slice()) {
+    let words = words_of(alloc, arguments, &variable)?;
+    match task_of(arguments, &words) {
         Task::Print(output) => print!(rt; "{output}")?,
-        Task::Write(folder, wanted) => write_into(alloc, rt, folder, wanted, words.as_slice())?,
+        Task::Write(folder, wanted) => write_into(rt, folder, wanted, &words)?,
         Task::Reject(word) => {
             eprint!(rt; "capnpc-rattle: unknown word `{word}`\n{USAGE}")?;
             return Ok(ExitCode::from(2));
@@ -100,34 +94,28 @@ fn run(rt: &HostRuntime) -> Result<ExitCode> {
 }
 
 // Reads the request, and writes what it asks for.
-fn write_into(
-    alloc: Global,
-    rt: &HostRuntime,
-    folder: &str,
-    wanted: Wanted,
-    words: &[&str],
-) -> Result<()> {
+fn write_into(rt: &HostRuntime, folder: &str, wanted: Wanted, words: &[&str]) -> Result<()> {
     if rt.stdin().is_terminal() {
         eprint!(rt; "{WAITING}")?;
     }
-    let mut request = request_from(alloc, rt, wanted)?;
-    put_prefixes(alloc, &mut request, words)?;
-    let outputs = outputs_of(alloc, &request)?;
+    let mut request = request_from(rt, wanted)?;
+    put_prefixes(&mut request, words)?;
+    let outputs = outputs_of(&request)?;
     if folder == "-" {
-        print_outputs(rt, outputs.as_slice())
+        print_outputs(rt, &outputs)
     } else {
-        write_outputs(alloc, rt, folder, outputs.as_slice())
+        write_outputs(request.alloc, rt, folder, &outputs)
     }
 }
 
 // Reads the request from standard input.
-fn request_from(alloc: Global, rt: &HostRuntime, wanted: Wanted) -> Result<Request> {
-    let message = input::read_message(alloc, &mut rt.stdin())?;
+fn request_from(rt: &HostRuntime, wanted: Wanted) -> Result<Request> {
+    let message = input::read_message(rt.alloc(), &mut rt.stdin())?;
     let root: code_generator_request::Reader<'_, OwnedSegments> = message
         .get_root()
         .and_then(|root| root.get_as())
         .context("standard input is no request of the schema compiler")?;
-    request::read_request(alloc, &root, wanted).context(
+    request::read_request(rt.alloc(), &root, wanted).context(
         "standard input is no request of the schema compiler",
     )
 }
@@ -135,8 +123,7 @@ fn request_from(alloc: Global, rt: &HostRuntime, wanted: Wanted) -> Result<Reque
 // Prints what is asked for.
 fn print_outputs(rt: &HostRuntime, outputs: &[Output]) -> Result<()> {
     for output in outputs {
-        let code = output.code.as_str();
-        print!(rt; "{code}")?;
+        print!(rt; "{}", output.code)?;
     }
     Ok(())
 }

@@ -30,7 +30,7 @@ pub fn camel(alloc: Global, name: &str) -> Result<String, AllocError> {
 /// The name of the module of a struct, a group or an interface.
 pub fn module(alloc: Global, name: &str) -> Result<String, AllocError> {
     let mut identifier = snake(alloc, name)?;
-    if is_taken_module(identifier.as_str()) {
+    if is_taken_module(&identifier) {
         identifier.push('_')?;
     }
     Ok(identifier)
@@ -39,7 +39,7 @@ pub fn module(alloc: Global, name: &str) -> Result<String, AllocError> {
 /// The name of an enum.
 pub fn enum_type(alloc: Global, name: &str) -> Result<String, AllocError> {
     let mut identifier = camel(alloc, name)?;
-    if is_taken_enum(identifier.as_str()) {
+    if is_taken_enum(&identifier) {
         identifier.push('_')?;
     }
     Ok(identifier)
@@ -48,7 +48,7 @@ pub fn enum_type(alloc: Global, name: &str) -> Result<String, AllocError> {
 /// The name of a variant, of an enumerant or of a member of a union.
 pub fn variant(alloc: Global, name: &str) -> Result<String, AllocError> {
     let mut identifier = camel(alloc, name)?;
-    if is_taken_variant(identifier.as_str()) {
+    if is_taken_variant(&identifier) {
         identifier.push('_')?;
     }
     Ok(identifier)
@@ -57,7 +57,7 @@ pub fn variant(alloc: Global, name: &str) -> Result<String, AllocError> {
 /// The name of a constant: `DEEP_BLUE` of `deepBlue`.
 pub fn constant(alloc: Global, name: &str) -> Result<String, AllocError> {
     let mut identifier = snake(alloc, name)?.to_ascii_uppercase(alloc)?;
-    if is_taken_constant(identifier.as_str()) {
+    if is_taken_constant(&identifier) {
         identifier.push('_')?;
     }
     Ok(identifier)

@@ -1,5 +1,5 @@
 //! Numbers, bools and enums of the data section.
-use crate::code::{Holes, fill};
+use crate::code::Holes;
 use crate::schema::{Base, Place, Value};
 use crate::templates::FLOAT_BODY;
 use std::alloc::{AllocError, Global};
@@ -70,7 +70,10 @@ impl Stored {
                 base,
                 number,
                 offset: place.offset,
-                default: default_bits(&place.default),
+                default: match &place.default {
+                    Value::Bits(bits) => *bits,
+                    _ => 0,
+                },
             }),
             _ => None,
         }
@@ -78,9 +81,7 @@ impl Stored {
 
     /// What a clause says of its value: the value of its bits, XORed with the bits of the default.
     pub fn clause(&self, alloc: Global) -> Result<String, AllocError> {
-        let width = self.number.width;
-        let offset = self.offset;
-        let default = self.default;
+        let (width, offset, default) = (self.number.width, self.offset, self.default);
         let is_whole = matches!(self.number.kind, NumberKind::Unsigned | NumberKind::Bool);
         let bits = if default != 0 {
             format!(in alloc; "($bit_xor ($field fields.words {width} {offset}) {default})")?
@@ -89,10 +90,9 @@ impl Stored {
         } else {
             format!(in alloc; "($field fields.words {width} {offset})")?
         };
-        let bits = bits.as_str();
         match self.number.kind {
             NumberKind::Bool => format!(in alloc; "({bits} $== 1)"),
-            NumberKind::Unsigned => String::from_str(alloc, bits),
+            NumberKind::Unsigned => Ok(bits),
             NumberKind::Signed => format!(in alloc; "$cast_signed $w{width} {bits}"),
             NumberKind::Float => format!(in alloc; "$from_bits $binary{width} {bits}"),
         }
@@ -108,7 +108,6 @@ impl Stored {
             return self.float_call(alloc);
         }
         let default = literal(alloc, self.number, self.default)?;
-        let default = default.as_str();
         format!(in alloc; "self.fields.get_data_field_mask({offset}, {default})")
     }
 
@@ -121,18 +120,10 @@ impl Stored {
         };
         let holes = Holes::new(alloc)
             .with("bits", bits)
-            .holding("offset", format!(in alloc; "{}", self.offset))
-            .holding("default", format!(in alloc; "{}", self.default))
+            .number("offset", self.offset)
+            .number("default", self.default)
             .with("all", all);
-        fill(alloc, FLOAT_BODY, &holes)
-    }
-}
-
-// The bits of a default that is a number; 0 for any other.
-fn default_bits(default: &Value) -> u64 {
-    match default {
-        Value::Bits(bits) => *bits,
-        _ => 0,
+        holes.fill(FLOAT_BODY)
     }
 }
 

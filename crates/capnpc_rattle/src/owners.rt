@@ -1,17 +1,15 @@
 //! The struct to which the fields of groups belong.
 use crate::getters::Site;
 use crate::names::snake;
-use crate::schema::{Body, Field, Node, Slot, Struct};
-use std::alloc::{AllocError, Global};
-
-/// The most groups that may be nested.
-const MAX_DEPTH: u32 = 64;
+use crate::schema::{Base, Field, MAX_DEPTH, Slot};
+use std::alloc::AllocError;
 
 /// The struct to which the fields of a site belong, as the site's setters name it.
 #[derive(Drop)]
 pub struct Owner<'r> {
-    pub node: &'r Node,
-    pub body: &'r Struct,
+    pub site: Site<'r>,
+    /// The node of the struct.
+    pub id: u64,
     /// The names of the groups down to the site, each with a `.` after it, as the schema has them.
     pub groups: String,
     /// The same as a part of a setter's name, each with a `_` after it.
@@ -24,97 +22,106 @@ pub struct Owner<'r> {
 }
 
 /// The struct to which the fields of a site belong.
-pub fn owner_of<'r>(alloc: Global, site: Site<'r>) -> Result<Option<Owner<'r>>, AllocError> {
-    let mut node = site.node;
-    let mut names: Vec<String> = Vec::new(alloc);
-    let mut tags: Vec<(u32, u16)> = Vec::new(alloc);
+pub fn owner_of<'r>(site: Site<'r>) -> Result<Option<Owner<'r>>, AllocError> {
+    let alloc = site.request.alloc;
+    let mut owner = Owner {
+        site,
+        id: site.node.id,
+        groups: String::new(alloc),
+        prefix: String::new(alloc),
+        path: String::new(alloc),
+        tags: Vec::new(alloc),
+    };
+    let mut group = site;
     for _ in 0..MAX_DEPTH {
-        let Body::Struct(body) = &node.body else {
-            return Ok(None);
-        };
-        if !body.is_group {
-            tags.reverse();
-            names.reverse();
-            return Ok(Some(owner_by(alloc, node, body, names.as_slice(), tags)?));
+        if !group.body.is_group {
+            owner.id = group.node.id;
+            owner.tags.reverse();
+            return Ok(Some(owner));
         }
-        let Some((parent, field, discriminant)) = parent_of(site, node) else {
-            return Ok(None);
+        let Some((parent, field)) = parent_of(group) else {
+            break;
         };
-        names.push(String::from_str(alloc, field.name.as_str())?)?;
-        if let Some(offset) = discriminant
-            && let Some(number) = field.member
-        {
-            tags.push((offset, number))?;
-        }
-        node = parent;
+        owner.add_group(parent, field)?;
+        group = parent;
     }
     Ok(None)
 }
 
 /// Whether a group is a member of a union.
 pub fn is_member(site: Site<'_>) -> bool {
-    match parent_of(site, site.node) {
-        Some((_, field, Some(_))) => field.member.is_some(),
-        _ => false,
+    match parent_of(site) {
+        Some((parent, field)) => parent.body.discriminant.is_some() && field.member.is_some(),
+        None => false,
     }
 }
 
-// A struct, by the names of the groups down to a site, the outermost first, and the numbers of
-// unions.
-fn owner_by<'r>(
-    alloc: Global,
-    node: &'r Node,
-    body: &'r Struct,
-    names: &[String],
-    tags: Vec<(u32, u16)>,
-) -> Result<Owner<'r>, AllocError> {
-    Ok(Owner {
-        node,
-        body,
-        groups: groups_of(alloc, names)?,
-        prefix: prefix_of(alloc, names)?,
-        path: path_out(alloc, names.len())?,
-        tags,
-    })
-}
-
-// The node that a group is a field of, that field, and where the number of the node's union is.
-fn parent_of<'r>(site: Site<'r>, group: &'r Node) -> Option<(&'r Node, &'r Field, Option<u32>)> {
-    let parent = site.request.find(group.scope)?;
-    let Body::Struct(body) = &parent.body else {
-        return None;
-    };
-    for field in body.fields.as_slice() {
+/// What a group is a field of, and that field.
+pub fn parent_of<'r>(group: Site<'r>) -> Option<(Site<'r>, &'r Field)> {
+    let parent = Site::find(group.request, group.node.scope)?;
+    for field in &parent.body.fields {
         if let Slot::Group(id) = field.slot
-            && id == group.id
+            && id == group.node.id
         {
-            return Some((parent, field, body.discriminant));
+            return Some((parent, field));
         }
     }
     None
 }
 
-// The names of groups, the outermost first.
-fn groups_of(alloc: Global, names: &[String]) -> Result<String, AllocError> {
-    let mut groups = String::new(alloc);
-    for name in names {
-        groups.push_str(name.as_str())?;
-        groups.push('.')?;
+impl<'r> Owner<'r> {
+    // Adds the next group on the way to the struct, which is this field of its parent.
+    fn add_group(&mut self, parent: Site<'_>, field: &Field) -> Result<(), AllocError> {
+        let alloc = parent.request.alloc;
+        let name = snake(alloc, &field.name)?;
+        self.groups = format!(in alloc; "{}.{}", field.name, self.groups)?;
+        self.prefix = format!(in alloc; "{}_{}", name, self.prefix)?;
+        self.path.push_str("super::")?;
+        if let Some(offset) = parent.body.discriminant
+            && let Some(number) = field.member
+        {
+            self.tags.push((offset, number))?;
+        }
+        Ok(())
     }
-    Ok(groups)
-}
 
-// The names of groups as a part of a name.
-fn prefix_of(alloc: Global, names: &[String]) -> Result<String, AllocError> {
-    let mut prefix = String::new(alloc);
-    for name in names {
-        prefix.push_str(snake(alloc, name.as_str())?.as_str())?;
-        prefix.push('_')?;
+    /// Whether a field has a setter: an interface has none, and neither has `Void` outside a union.
+    pub fn has_setter(&self, field: &Field) -> bool {
+        let Slot::At(place) = &field.slot else {
+            return false;
+        };
+        if place.of.lists == 0 && place.of.base == Base::Void {
+            let is_member = self.site.body.discriminant.is_some() && field.member.is_some();
+            return is_member || !self.tags.is_empty();
+        }
+        place.of.base != Base::Interface
     }
-    Ok(prefix)
-}
 
-// The path out of the modules of this many groups.
-fn path_out(alloc: Global, count: usize) -> Result<String, AllocError> {
-    "super::".repeat(alloc, count)
+    /// The numbers of unions that are set with a field: the numbers of the groups around it, and
+    /// its own.
+    pub fn tags_of(&self, field: &Field) -> Result<Vec<(u32, u16)>, AllocError> {
+        let mut tags = Vec::from_slice(self.site.request.alloc, &self.tags)?;
+        if let (Some(offset), Some(number)) = (self.site.body.discriminant, field.member) {
+            tags.push((offset, number))?;
+        }
+        Ok(tags)
+    }
+
+    /// The name of a field within its struct: with the names of the groups around it in front.
+    pub fn field_name(&self, field: &Field) -> Result<String, AllocError> {
+        let alloc = self.site.request.alloc;
+        let name = snake(alloc, &field.name)?;
+        format!(in alloc; "{}{}", self.prefix, name)
+    }
+
+    /// The name of the site's group within its setter's name, in the same way.
+    pub fn group_name(&self) -> Result<String, AllocError> {
+        let name = self.prefix.strip_suffix('_').unwrap_or(&self.prefix);
+        String::from_str(self.site.request.alloc, name)
+    }
+
+    /// The same name as the schema has it.
+    pub fn group(&self) -> &str {
+        self.groups.strip_suffix('.').unwrap_or(&self.groups)
+    }
 }

@@ -1,118 +1,96 @@
 //! How the structs of a file are printed: the table of their types, and a method of each.
-use crate::code::{Code, Holes};
+use crate::code::Code;
+use crate::getters::Site;
 use crate::imports::uncited;
 use crate::paths::path_to;
 use crate::print_templates::{ENUM, FIELD, METHOD, MODULE, STRUCT, TABLE};
-use crate::schema::{Base, Body, Field, Place, Request, Slot, Value};
+use crate::schema::{Base, Field, Place, Request, Slot, Value};
 use crate::structs::close_module;
 use crate::type_table::{TypeTable, number_in};
 use std::alloc::{AllocError, Global};
 use std::fmt::Write;
 
 /// Adds the module by which the structs of a file are printed, if it declares any.
-pub fn push_printing(
-    alloc: Global,
-    code: &mut Code,
-    request: &Request,
-    file: u64,
-) -> Result<(), AllocError> {
-    let table = TypeTable::of_file(alloc, request, file)?;
+pub fn push_printing(code: &mut Code, request: &Request, file: u64) {
+    let Some(table) = code.kept(TypeTable::of_file(request, file)) else {
+        return;
+    };
     if table.own == 0 {
-        return Ok(());
+        return;
     }
-    code.add_lines(MODULE)?;
+    code.add_lines(MODULE);
     code.depth = code.depth.saturating_add(1);
-    let holes = Holes::new(alloc)
-        .holding("structs", structs_of(alloc, request, &table))
-        .holding("enums", enums_of(alloc, request, &table));
-    code.add(TABLE, &holes)?;
-    push_methods(alloc, code, request, file, &table)?;
-    close_module(code)
+    let holes = code
+        .holes()
+        .code("structs", &structs_of(request, &table))
+        .code("enums", &enums_of(request, &table));
+    code.add(TABLE, &holes);
+    push_methods(
+        code,
+        request,
+        file,
+        table.structs.get(..table.own).unwrap_or(&[]),
+    );
+    close_module(code);
 }
 
-// Adds the method of each struct that the file declares.
-fn push_methods(
-    alloc: Global,
-    code: &mut Code,
-    request: &Request,
-    file: u64,
-    table: &TypeTable,
-) -> Result<(), AllocError> {
-    let own = table.structs.get(..table.own).unwrap_or(&[]);
-    let mut number: u32 = 0;
-    for id in own {
-        let holes = Holes::new(alloc)
-            .holding("path", path_to(alloc, request, file, *id))
-            .holding("number", format!(in alloc; "{number}"));
-        code.add(METHOD, &holes)?;
-        number = number.saturating_add(1);
+// Adds the method of each of the structs that the file declares.
+fn push_methods(code: &mut Code, request: &Request, file: u64, structs: &[u64]) {
+    for (number, id) in structs.iter().enumerate() {
+        let holes = code
+            .holes()
+            .holding("path", path_to(request, file, *id))
+            .number("number", number as u64);
+        code.add(METHOD, &holes);
     }
-    Ok(())
 }
 
 // The lines of the structs.
-fn structs_of(alloc: Global, request: &Request, table: &TypeTable) -> Result<String, AllocError> {
-    let mut code = Code::new(alloc, 0);
-    for id in table.structs.as_slice() {
-        push_struct(alloc, &mut code, request, table, *id)?;
+fn structs_of(request: &Request, table: &TypeTable) -> Code {
+    let mut code = Code::new(request.alloc, 0);
+    for id in &table.structs {
+        if let Some(site) = Site::find(request, *id) {
+            push_struct(&mut code, site, table);
+        }
     }
-    let _ = code.lines.pop();
-    Ok(code.lines)
+    code
 }
 
 // Adds the lines of a struct.
-fn push_struct(
-    alloc: Global,
-    code: &mut Code,
-    request: &Request,
-    table: &TypeTable,
-    id: u64,
-) -> Result<(), AllocError> {
-    let Some(node) = request.find(id) else {
-        return Ok(());
-    };
-    let Body::Struct(body) = &node.body else {
-        return Ok(());
-    };
-    let mut fields = Code::new(alloc, 0);
-    for (field, name) in body.fields.iter().zip(node.member_names.as_slice()) {
-        push_field(alloc, &mut fields, table, field, name.as_str())?;
+fn push_struct(code: &mut Code, site: Site<'_>, table: &TypeTable) {
+    let mut fields = Code::new(code.alloc, 0);
+    for (field, name) in site.body.fields.iter().zip(&site.node.member_names) {
+        push_field(&mut fields, table, field, name);
     }
-    let holes = Holes::new(alloc)
-        .with("name", node.name.as_str())
-        .holding("discriminant", optional(alloc, body.discriminant))
-        .with("fields", fields.lines.trim_end());
-    code.add(STRUCT, &holes)
+    let body = site.body;
+    let holes = code
+        .holes()
+        .with("name", &site.node.name)
+        .holding("discriminant", optional(code.alloc, body.discriminant))
+        .code("fields", &fields);
+    code.add(STRUCT, &holes);
 }
 
 // Adds the line of a field, which is shown by this name.
-fn push_field(
-    alloc: Global,
-    code: &mut Code,
-    table: &TypeTable,
-    field: &Field,
-    name: &str,
-) -> Result<(), AllocError> {
+fn push_field(code: &mut Code, table: &TypeTable, field: &Field, name: &str) {
+    let alloc = code.alloc;
     let (lists, base, offset) = match &field.slot {
-        Slot::At(place) => (place.of.lists, base_of(alloc, table, place)?, place.offset),
-        Slot::Group(id) => (
-            0,
-            numbered(alloc, "Group", table.structs.as_slice(), *id)?,
-            0,
-        ),
-        Slot::Unknown => return Ok(()),
+        Slot::At(place) => (place.of.lists, base_of(alloc, table, place), place.offset),
+        Slot::Group(id) => (0, numbered(alloc, "Group", &table.structs, *id), 0),
+        Slot::Unknown => return,
     };
-    let holes = Holes::new(alloc)
+    let holes = code
+        .holes()
         .with("name", name)
         .holding(
             "member",
             optional(alloc, field.member.map(|member| member as u32)),
         )
-        .holding("lists", format!(in alloc; "{lists}"))
-        .with("base", base.as_str())
-        .holding("offset", format!(in alloc; "{offset}"))
+        .number("lists", lists)
+        .holding("base", base)
+        .number("offset", offset)
         .holding("default", default_of(alloc, &field.slot));
-    code.add(FIELD, &holes)
+    code.add(FIELD, &holes);
 }
 
 // A number that may be missing.
@@ -142,8 +120,8 @@ fn base_of(alloc: Global, table: &TypeTable, place: &Place) -> Result<String, Al
         Base::Data => "Data",
         Base::Interface => "Interface",
         Base::AnyPointer => "AnyPointer",
-        Base::Enum(id) => return numbered(alloc, "Enum", table.enums.as_slice(), id),
-        Base::Struct(id) => return numbered(alloc, "Struct", table.structs.as_slice(), id),
+        Base::Enum(id) => return numbered(alloc, "Enum", &table.enums, id),
+        Base::Struct(id) => return numbered(alloc, "Struct", &table.structs, id),
     };
     String::from_str(alloc, name)
 }
@@ -163,9 +141,9 @@ fn default_of(alloc: Global, slot: &Slot) -> Result<String, AllocError> {
         Value::Bits(bits) => format!(in alloc; "Bits({bits})"),
         Value::Text(text) => {
             let text = format!(in alloc; "Text({text:?})")?;
-            uncited(alloc, text.as_str())
+            uncited(alloc, &text)
         }
-        Value::Data(bytes) => data_default(alloc, bytes.as_slice()),
+        Value::Data(bytes) => data_default(alloc, bytes),
         Value::Object(_) | Value::Null => String::from_str(alloc, "Bits(0)"),
     }
 }
@@ -183,22 +161,17 @@ fn data_default(alloc: Global, bytes: &[u8]) -> Result<String, AllocError> {
 }
 
 // The lines of the enums.
-fn enums_of(alloc: Global, request: &Request, table: &TypeTable) -> Result<String, AllocError> {
-    let mut code = Code::new(alloc, 0);
-    for id in table.enums.as_slice() {
-        let holes = Holes::new(alloc).holding("names", names_of(alloc, shown_names(request, *id)));
-        code.add(ENUM, &holes)?;
+fn enums_of(request: &Request, table: &TypeTable) -> Code {
+    let mut code = Code::new(request.alloc, 0);
+    for id in &table.enums {
+        let names: &[String] = match request.find(*id) {
+            Some(node) => &node.member_names,
+            None => &[],
+        };
+        let holes = code.holes().holding("names", names_of(code.alloc, names));
+        code.add(ENUM, &holes);
     }
-    let _ = code.lines.pop();
-    Ok(code.lines)
-}
-
-// The names by which the enumerants of a node are shown.
-fn shown_names(request: &Request, id: u64) -> &[String] {
-    match request.find(id) {
-        Some(node) => node.member_names.as_slice(),
-        None => &[],
-    }
+    code
 }
 
 // Names, within quotation marks.

@@ -1,6 +1,10 @@
 //! A schema, as a request to generate code has it (`schema.capnp` of Cap'n Proto), as far as the
 //! compiler needs it.
 use crate::wanted::Wanted;
+use std::alloc::Global;
+
+/// The most declarations that may be nested; the schema compiler accepts no more.
+pub const MAX_DEPTH: u32 = 64;
 
 /// A declaration.
 #[derive(Drop)]
@@ -23,6 +27,16 @@ pub struct Node {
     /// The names of these as the schema has them, in the same order.
     pub nested_names: Vec<String>,
     pub body: Body,
+}
+
+impl Node {
+    /// The comment of the field or enumerant at this index.
+    pub fn member_comment(&self, index: usize) -> &str {
+        match self.member_comments.get(index) {
+            Some(comment) => comment,
+            None => "",
+        }
+    }
 }
 
 /// What a node declares.
@@ -90,6 +104,16 @@ pub struct Type {
     pub base: Base,
 }
 
+impl Type {
+    /// How many lists of pointers there are around the innermost type.
+    pub fn pointer_lists(&self) -> u32 {
+        match self.base {
+            Base::Text | Base::Data | Base::AnyPointer => self.lists,
+            _ => self.lists.saturating_sub(1),
+        }
+    }
+}
+
 /// A type that is no list.
 #[derive(Clone, Copy, PartialEq, Eq)]
 pub enum Base {
@@ -148,6 +172,7 @@ pub struct RequestedFile {
 /// A request to generate code.
 #[derive(Drop)]
 pub struct Request {
+    pub alloc: Global,
     pub nodes: Vec<Node>,
     pub files: Vec<RequestedFile>,
     pub wanted: Wanted,
@@ -156,7 +181,7 @@ pub struct Request {
 impl Request {
     /// The node of this number.
     pub fn find(&self, id: u64) -> Option<&Node> {
-        for node in self.nodes.as_slice() {
+        for node in &self.nodes {
             if node.id == id {
                 return Some(node);
             }
@@ -164,16 +189,39 @@ impl Request {
         None
     }
 
+    /// The names of the enumerants of a node.
+    pub fn enumerants_of(&self, id: u64) -> &[String] {
+        if let Some(node) = self.find(id)
+            && let Body::Enum(names) = &node.body
+        {
+            return names;
+        }
+        &[]
+    }
+
+    /// The file in which a node is declared; 0 if that is not in the request.
+    pub fn file_of(&self, id: u64) -> u64 {
+        let mut next = id;
+        for _ in 0..MAX_DEPTH {
+            let Some(node) = self.find(next) else {
+                break;
+            };
+            if let Body::File = &node.body {
+                return next;
+            }
+            next = node.scope;
+        }
+        0
+    }
+
     /// The name of a file, as it was asked for or as it was declared.
     pub fn file_name(&self, id: u64) -> Option<&str> {
-        for file in self.files.as_slice() {
+        for file in &self.files {
             if file.id == id {
-                return Some(file.name.as_str());
+                return Some(&file.name);
             }
         }
-        match self.find(id) {
-            Some(node) => Some(node.name.as_str()),
-            None => None,
-        }
+        let node = self.find(id)?;
+        Some(&node.name)
     }
 }

@@ -1,15 +1,18 @@
-//! The setters of fields in the data section.
-use crate::builder_templates::{NUMBER_SETTER, VOID_SETTER};
+//! The setters of fields.
+use crate::builder_templates::{NUMBER_SETTER, POINTER_SETTER, STAYS, VOID_SETTER};
 use crate::code::{Code, Holes};
 use crate::enums::enum_name;
 use crate::getters::Site;
-use crate::names::snake;
 use crate::numbers::{NumberKind, Stored, literal, number_of};
 use crate::owners::Owner;
-use crate::schema::{Base, Field, Slot};
+use crate::paths::path_to;
+use crate::schema::{Base, Field, Slot, Type};
 use crate::set_words::{number_clause, words_clause, words_with};
+use crate::views::in_lists;
 use std::alloc::{AllocError, Global};
-use std::fmt::Write;
+
+/// How the number of a union is set.
+pub const SET_TAG: &str = "self.draft.set_data_field::<u16>(@offset@, @number@);";
 
 /// Whether a field is in the data section, or of type `Void`.
 pub fn is_data(field: &Field) -> bool {
@@ -22,143 +25,144 @@ pub fn is_data(field: &Field) -> bool {
     }
 }
 
-/// Whether a field has a setter: an interface has none, and neither has `Void` outside a union.
-pub fn has_setter(owner: &Owner<'_>, site: Site<'_>, field: &Field) -> bool {
-    let Slot::At(place) = &field.slot else {
-        return false;
-    };
-    if is_data(field) && place.of.base == Base::Void {
-        return !owner.tags.is_empty() || (site.discriminant().is_some() && field.member.is_some());
-    }
-    place.of.base != Base::Interface
+// The code that sets these numbers of unions, and then sets a field with this call.
+fn code_of(alloc: Global, tags: &[(u32, u16)], call: &str) -> Result<String, AllocError> {
+    let mut code = Code::new(alloc, 0);
+    push_tags(&mut code, SET_TAG, tags);
+    code.add_lines(call);
+    code.without_end()
 }
 
-/// The numbers of unions that are set with a field: the numbers of the groups around it, and its
-/// own.
-pub fn tags_of(
-    alloc: Global,
-    owner: &Owner<'_>,
-    site: Site<'_>,
-    field: &Field,
-) -> Result<Vec<(u32, u16)>, AllocError> {
-    let mut tags = Vec::from_slice(alloc, owner.tags.as_slice())?;
-    if let Some(offset) = site.discriminant()
-        && let Some(number) = field.member
-    {
-        tags.push((offset, number))?;
-    }
-    Ok(tags)
-}
-
-/// The code that sets these numbers, a line for each, and then sets a field with this call.
-pub fn code_of(alloc: Global, tags: &[(u32, u16)], call: &str) -> Result<String, AllocError> {
-    let mut lines = String::new(alloc);
+/// Adds the code that sets these numbers of unions, a line of this template for each.
+pub fn push_tags(code: &mut Code, template: &str, tags: &[(u32, u16)]) {
     for (offset, number) in tags {
-        if !lines.is_empty() {
-            lines.push('\n')?;
-        }
-        write!(
-            lines,
-            "self.draft.set_data_field::<u16>({offset}, {number});"
-        )?;
+        let holes = code.holes().number("offset", *offset);
+        code.add(template, &holes.number("number", *number));
     }
-    if !lines.is_empty() && !call.is_empty() {
-        lines.push('\n')?;
-    }
-    lines.push_str(call)?;
-    Ok(lines)
 }
 
-/// Adds what the schema says of a field that is set; its name if that is nothing.
-pub fn push_comment(code: &mut Code, field: &Field, comment: &str) -> Result<(), AllocError> {
-    if !code.lines.is_empty() {
-        code.add_gap()?;
+/// Adds the setter of a field, if it has one.
+pub fn push_setter(code: &mut Code, owner: &Owner<'_>, field: &Field, comment: &str) {
+    let Slot::At(place) = &field.slot else {
+        return;
+    };
+    if !owner.has_setter(field) {
+        return;
+    }
+    push_comment(code, field, comment);
+    let Some(tags) = code.kept(owner.tags_of(field)) else {
+        return;
+    };
+    let holes = code.holes().holding("name", owner.field_name(field));
+    match Stored::at_place(place) {
+        Some(stored) => push_number_setter(code, owner.site, &stored, holes, &tags),
+        None if is_data(field) => {
+            let words = code.text(words_with(code.alloc, &tags));
+            let holes = holes
+                .holding("clause", words_clause(code.alloc, &words))
+                .holding("code", code_of(code.alloc, &tags, ""));
+            code.add(VOID_SETTER, &holes);
+        }
+        None => {
+            let holes = with_type(holes, owner.site, place.of);
+            push_pointer_setter(code, place.offset, holes, &tags);
+        }
+    }
+}
+
+// Adds what the schema says of a field that is set; its name if that is nothing.
+fn push_comment(code: &mut Code, field: &Field, comment: &str) {
+    if !code.as_str().is_empty() {
+        code.add_gap();
     }
     if comment.is_empty() {
-        code.add_with("/// Sets the field `@name@`.", "name", field.name.as_str())
+        code.add_with("/// Sets the field `@name@`.", "name", &field.name);
     } else {
-        code.add_with("/// Sets the field `@name@`:", "name", field.name.as_str())?;
-        code.add_comment(comment)
+        code.add_with("/// Sets the field `@name@`:", "name", &field.name);
+        code.add_comment(comment);
     }
-}
-
-/// The name of a field within its struct: with the names of the groups around it in front.
-pub fn field_name(alloc: Global, owner: &Owner<'_>, field: &Field) -> Result<String, AllocError> {
-    let mut name = String::from_str(alloc, owner.prefix.as_str())?;
-    name.push_str(snake(alloc, field.name.as_str())?.as_str())?;
-    Ok(name)
-}
-
-/// Adds the setter of a field in the data section; of `Void`, if it is a member of a union.
-pub fn push_data_setter(
-    alloc: Global,
-    code: &mut Code,
-    site: Site<'_>,
-    owner: &Owner<'_>,
-    field: &Field,
-    comment: &str,
-) -> Result<(), AllocError> {
-    let Slot::At(place) = &field.slot else {
-        return Ok(());
-    };
-    if !has_setter(owner, site, field) {
-        return Ok(());
-    }
-    push_comment(code, field, comment)?;
-    let tags = tags_of(alloc, owner, site, field)?;
-    let name = field_name(alloc, owner, field)?;
-    match Stored::at_place(place) {
-        Some(stored) => push_number_setter(
-            alloc,
-            code,
-            site,
-            &stored,
-            name.as_str(),
-            tags.as_slice(),
-        ),
-        None => push_void_setter(alloc, code, name.as_str(), tags.as_slice()),
-    }
-}
-
-// Adds the setter of `Void` that is a member of a union.
-fn push_void_setter(
-    alloc: Global,
-    code: &mut Code,
-    name: &str,
-    tags: &[(u32, u16)],
-) -> Result<(), AllocError> {
-    let words = words_with(alloc, tags)?;
-    let holes = Holes::new(alloc)
-        .with("name", name)
-        .holding("clause", words_clause(alloc, words.as_str()))
-        .holding("code", code_of(alloc, tags, ""));
-    code.add(VOID_SETTER, &holes)
 }
 
 // Adds the setter of a number, a bool or an enum.
 fn push_number_setter(
-    alloc: Global,
     code: &mut Code,
     site: Site<'_>,
     stored: &Stored,
-    name: &str,
+    holes: Holes,
     tags: &[(u32, u16)],
-) -> Result<(), AllocError> {
-    let words = words_with(alloc, tags)?;
-    let call = call_of(alloc, stored)?;
-    let holes = Holes::new(alloc)
-        .with("name", name)
-        .holding("type", type_of(alloc, site, stored))
-        .holding("clause", number_clause(alloc, site, stored, words.as_str()))
-        .holding("code", code_of(alloc, tags, call.as_str()));
-    code.add(NUMBER_SETTER, &holes)
+) {
+    let words = code.text(words_with(code.alloc, tags));
+    let call = code.text(call_of(code.alloc, stored));
+    let holes = holes
+        .holding("type", type_of(site, stored))
+        .holding("clause", number_clause(site, stored, &words))
+        .holding("code", code_of(code.alloc, tags, &call));
+    code.add(NUMBER_SETTER, &holes);
+}
+
+// Adds the setter of a pointer.
+fn push_pointer_setter(code: &mut Code, offset: u32, holes: Holes, tags: &[(u32, u16)]) {
+    let words = code.text(words_with(code.alloc, tags));
+    let call = code.text(format!(in code.alloc; "self.draft.adopt({offset}, value);"));
+    let holes = holes
+        .number("offset", offset)
+        .holding("clause", words_clause(code.alloc, &words))
+        .holding("code", code_of(code.alloc, tags, &call));
+    code.add_lines(STAYS);
+    code.add(POINTER_SETTER, &holes);
+}
+
+// The holes, with the type of what a pointer is set to. If that may be any type, it is a parameter
+// of the setter.
+fn with_type(holes: Holes, site: Site<'_>, of: Type) -> Holes {
+    if of.lists == 0 && of.base == Base::AnyPointer {
+        return holes.with("generic", "<T>").with("owned", "T");
+    }
+    holes
+        .with("generic", "")
+        .holding("owned", owned_type(site, of))
+}
+
+// The type of the orphans that a pointer of this type may point to, as the module of a site names
+// it. It is not called for interfaces, which have no setters.
+fn owned_type(site: Site<'_>, of: Type) -> Result<String, AllocError> {
+    let list = "$capnp_wire::list_list::Owned<";
+    in_lists(
+        site.request.alloc,
+        list,
+        of.pointer_lists(),
+        inner_type(site, of),
+    )
+}
+
+// The type within the lists of pointers: the type of the base, or of a list of structs or of
+// numbers.
+fn inner_type(site: Site<'_>, of: Type) -> Result<String, AllocError> {
+    let alloc = site.request.alloc;
+    match of.base {
+        Base::Text => String::from_str(alloc, "$text::Owned"),
+        Base::Data => String::from_str(alloc, "$capnp_wire::data::Owned"),
+        Base::AnyPointer | Base::Interface => String::from_str(alloc, "$any_pointer::Owned"),
+        Base::Struct(id) => {
+            let path = path_to(site.request, site.node.id, id)?;
+            let owned = if of.lists == 0 { "Owned" } else { "OwnedList" };
+            format!(in alloc; "{path}::{owned}")
+        }
+        _ => {
+            let element = match number_of(of.base) {
+                Some(number) => number.type_name,
+                None => "()",
+            };
+            format!(in alloc; "$capnp_wire::primitive_list::Owned<{element}>")
+        }
+    }
 }
 
 // The type of a number, a bool or an enum.
-fn type_of(alloc: Global, site: Site<'_>, stored: &Stored) -> Result<String, AllocError> {
+fn type_of(site: Site<'_>, stored: &Stored) -> Result<String, AllocError> {
     match stored.base {
-        Base::Enum(id) => enum_name(alloc, site, id),
-        _ => String::from_str(alloc, stored.number.type_name),
+        Base::Enum(id) => enum_name(site, id),
+        _ => String::from_str(site.request.alloc, stored.number.type_name),
     }
 }
 
@@ -176,7 +180,6 @@ fn call_of(alloc: Global, stored: &Stored) -> Result<String, AllocError> {
         return float_call(alloc, stored);
     }
     let default = literal(alloc, stored.number, stored.default)?;
-    let default = default.as_str();
     format!(in alloc; "self.draft.set_data_field_mask({offset}, {value}, {default});")
 }
 

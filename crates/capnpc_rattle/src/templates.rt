@@ -79,6 +79,25 @@ elim @value@ [
 @cases@
 ]";
 
+/// What a clause says of a view of a text.
+pub const TEXT_FACT: &str = "$IsTextView @pointer@ @result@";
+
+/// What a clause says of a view of data.
+pub const DATA_FACT: &str = "$IsDataView @pointer@ @result@";
+
+/// What a clause says of a view of a struct.
+pub const STRUCT_FACT: &str = "$IsStructView @pointer@
+(λ view. $struct_of @segments_of@ view.fields) @result@";
+
+/// What a clause says of a view of a list of structs.
+pub const STRUCTS_FACT: &str = "$IsStructsView @segments_of@ @pointer@ @result@";
+
+/// What a clause says of a view of a list of pointers.
+pub const POINTERS_FACT: &str = "let pointer = @pointer@ in
+$IsViewBy pointer $TakesFirstPointers $FirstPointersFormError
+(λ view. $IsUpgradedPointers pointer
+($upgraded_pointers_of @segments_of@ view.pointers)) @result@";
+
 /// What a clause says of a view of a list of numbers.
 pub const NUMBERS_FACT: &str = "let pointer = @pointer@ in
 $IsViewBy pointer ($TakesFields @code@) ($FieldsFormError @code@)

@@ -1,5 +1,6 @@
 //! Trees of values that pointers point to, as clauses have them: terms of `Trees` of `capnp_wire`,
 //! in the names by which `importable.rt` has its constructors.
+use crate::code::Code;
 use anyhow::Result;
 use capnp_frame::message::ReaderSegments;
 use capnp_wire::any_object::Numbers;
@@ -202,29 +203,29 @@ pub fn tree_of_bytes(alloc: Global, bytes: &[u8], is_text: bool) -> Result<Strin
 /// it is cited.
 pub fn wrapped(alloc: Global, depth: usize, term: &str) -> Result<String, AllocError> {
     let width = WIDTH.saturating_sub(depth.saturating_mul(4).saturating_add(12));
-    let mut written = String::new(alloc);
+    let mut written = Code::new(alloc, 0);
     let mut column: usize = 0;
     for word in term.split(' ') {
         let letters = word.chars().count();
         if column.saturating_add(letters) > width && word != "∷" {
-            written.push('\n')?;
+            written.add_code("\n");
             column = 0;
-        } else if !written.is_empty() {
-            written.push(' ')?;
+        } else if !written.as_str().is_empty() {
+            written.add_code(" ");
         }
-        push_cited(&mut written, word)?;
+        push_cited(&mut written, word);
         column = column.saturating_add(letters).saturating_add(1);
     }
-    Ok(written)
+    written.whole()
 }
 
 // Adds a word of a term, whose name or operator is cited.
-fn push_cited(written: &mut String, word: &str) -> Result<(), AllocError> {
+fn push_cited(written: &mut Code, word: &str) {
     let name = word.trim_start_matches('(');
     let brackets = word.len().saturating_sub(name.len());
-    written.push_str(word.get(..brackets).unwrap_or(""))?;
+    written.add_code(word.get(..brackets).unwrap_or(""));
     if !name.is_empty() && !name.starts_with(|letter: char| letter.is_ascii_digit()) {
-        written.push('$')?;
+        written.add_code("$");
     }
-    written.push_str(name)
+    written.add_code(name);
 }

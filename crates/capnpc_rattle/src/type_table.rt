@@ -1,7 +1,9 @@
 //! The types of the structs of a file and of their fields, at any depth, each by its number in a
 //! table.
-use crate::schema::{Base, Body, Field, Node, Request, Slot};
-use std::alloc::{AllocError, Global};
+use crate::c::declared::declared_in;
+use crate::getters::Site;
+use crate::schema::{Base, Body, Field, Request, Slot};
+use std::alloc::AllocError;
 
 /// The types of a table, by their nodes.
 #[derive(Drop)]
@@ -15,13 +17,13 @@ pub struct TypeTable {
 
 impl TypeTable {
     /// The types of a file.
-    pub fn of_file(alloc: Global, request: &Request, file: u64) -> Result<TypeTable, AllocError> {
-        let structs = structs_in(alloc, request, file)?;
+    pub fn of_file(request: &Request, file: u64) -> Result<TypeTable, AllocError> {
+        let structs = structs_in(request, file)?;
         let own = structs.len();
         let mut table = TypeTable {
             structs,
             own,
-            enums: Vec::new(alloc),
+            enums: Vec::new(request.alloc),
         };
         let mut index: usize = 0;
         for _ in 0..u64::MAX {
@@ -29,20 +31,17 @@ impl TypeTable {
                 break;
             };
             index = index.saturating_add(1);
-            table.add_fields(request, id)?;
+            if let Some(site) = Site::find(request, id) {
+                table.add_fields(site)?;
+            }
         }
         Ok(table)
     }
 
     // Adds the types of a struct's fields.
-    fn add_fields(&mut self, request: &Request, id: u64) -> Result<(), AllocError> {
-        let Some(node) = request.find(id) else {
-            return Ok(());
-        };
-        if let Body::Struct(body) = &node.body {
-            for field in body.fields.as_slice() {
-                self.add_type(field)?;
-            }
+    fn add_fields(&mut self, site: Site<'_>) -> Result<(), AllocError> {
+        for field in &site.body.fields {
+            self.add_type(field)?;
         }
         Ok(())
     }
@@ -62,8 +61,8 @@ impl TypeTable {
 }
 
 /// The number of a node among others; the number after the last one where it is not there.
-pub fn number_in(nodes: &[u64], id: u64) -> usize {
-    let mut number: usize = 0;
+pub fn number_in(nodes: &[u64], id: u64) -> u64 {
+    let mut number: u64 = 0;
     for other in nodes {
         if *other == id {
             break;
@@ -82,28 +81,14 @@ fn add(nodes: &mut Vec<u64>, id: u64) -> Result<(), AllocError> {
 }
 
 // The structs that are declared in a node and in the nodes within it, in the order of the file.
-fn structs_in(alloc: Global, request: &Request, id: u64) -> Result<Vec<u64>, AllocError> {
-    let mut found = Vec::new(alloc);
-    let mut left: Vec<u64> = Vec::new(alloc);
-    left.push(id)?;
-    for _ in 0..u64::MAX {
-        let Some(id) = left.pop() else {
-            break;
-        };
-        if let Some(node) = request.find(id) {
-            if let Body::Struct(_) = &node.body {
-                found.push(id)?;
-            }
-            push_nested(&mut left, node)?;
+fn structs_in(request: &Request, id: u64) -> Result<Vec<u64>, AllocError> {
+    let mut found = Vec::new(request.alloc);
+    for node in &declared_in(request, id)? {
+        if let Body::Struct(body) = &node.body
+            && !body.is_group
+        {
+            found.push(node.id)?;
         }
     }
     Ok(found)
-}
-
-// Adds the nodes that are declared in a node to those that are left, the first on top.
-fn push_nested(left: &mut Vec<u64>, node: &Node) -> Result<(), AllocError> {
-    for id in node.nested.iter().rev() {
-        left.push(*id)?;
-    }
-    Ok(())
 }

@@ -41,7 +41,7 @@ fn element_of<'a, S: ReaderSegments>(
     read: &type_::Reader<'a, S>,
 ) -> Result<Option<type_::Reader<'a, S>>> {
     match read.which() {
-        type_::Which::List(list) => Ok(Some(list.get_element_type()?)),
+        type_::Which::List(element) => Ok(Some(element?)),
         _ => Ok(None),
     }
 }
@@ -63,8 +63,8 @@ fn read_base<S: ReaderSegments>(read: &type_::Reader<'_, S>) -> Base {
         type_::Which::Float64 => Base::Float64,
         type_::Which::Text => Base::Text,
         type_::Which::Data => Base::Data,
-        type_::Which::Enum(group) => Base::Enum(group.get_type_id()),
-        type_::Which::Struct(group) => Base::Struct(group.get_type_id()),
+        type_::Which::Enum(id) => Base::Enum(id),
+        type_::Which::Struct(id) => Base::Struct(id),
         type_::Which::AnyPointer(group) => match group.which() {
             type_::any_pointer_::Which::Unconstrained(kind) => match kind.which() {
                 type_::any_pointer_::unconstrained::Which::Capability => Base::Interface,
@@ -72,7 +72,7 @@ fn read_base<S: ReaderSegments>(read: &type_::Reader<'_, S>) -> Base {
             },
             _ => Base::AnyPointer,
         },
-        type_::Which::List(_) | type_::Which::Interface(_) | type_::Which::NotInSchema(_) => {
+        type_::Which::List(_) | type_::Which::Interface | type_::Which::NotInSchema(_) => {
             Base::Interface
         }
     }
@@ -92,7 +92,7 @@ pub fn read_value<S: ReaderSegments>(alloc: Global, read: &value::Reader<'_, S>)
         value::Which::Uint64(number) => Value::Bits(number),
         value::Which::Float32(number) => Value::Bits(f32_to_bits_with_nan(number) as u64),
         value::Which::Float64(number) => Value::Bits(f64_to_bits_with_nan(number)),
-        value::Which::Text(text) if read.has_text() => Value::Text(read_text(alloc, text?)?),
+        value::Which::Text(text) if read.has_text() => Value::Text(read_text(alloc, text)?),
         value::Which::Data(bytes) if read.has_data() => {
             Value::Data(Vec::from_slice(alloc, bytes?)?)
         }

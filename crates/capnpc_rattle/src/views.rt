@@ -1,9 +1,11 @@
 //! The views of what pointers point to, for each type.
-use crate::code::{Holes, fill};
+use crate::code::{Code, Holes};
 use crate::numbers::number_of;
 use crate::paths::path_to;
 use crate::schema::{Base, Request, Type};
-use crate::templates::NUMBERS_FACT;
+use crate::templates::{
+    DATA_FACT, NUMBERS_FACT, POINTERS_FACT, STRUCT_FACT, STRUCTS_FACT, TEXT_FACT,
+};
 use std::alloc::{AllocError, Global};
 
 /// What a view borrows from, as a type and a clause name it.
@@ -45,39 +47,43 @@ impl View {
         format!(in alloc; "$Result<{}>", self.type_name)
     }
 
+    /// Its type, if it is of words of this many bytes.
+    pub fn sized_type(&self, alloc: Global, bytes: usize) -> Result<String, AllocError> {
+        Holes::new(alloc)
+            .number("size", bytes as u64)
+            .fill(&self.type_name)
+    }
+
     /// What a clause says of a result by this name, of what this pointer points to.
     pub fn fact(&self, alloc: Global, pointer: &str, name: &str) -> Result<String, AllocError> {
         let holes = Holes::new(alloc)
             .with("pointer", pointer)
             .with("result", name);
-        fill(alloc, self.fact.as_str(), &holes)
+        holes.fill(&self.fact)
     }
 }
 
 /// The view of a type at a site, of what a lender has. It is `None` for what has no view: numbers
 /// by themselves, interfaces, and any pointer by itself, whose getter never fails.
 pub fn view_of(
-    alloc: Global,
     request: &Request,
     site: u64,
     of: Type,
     lender: Lender,
 ) -> Result<Option<View>, AllocError> {
-    let found = match of.lists {
-        0 => single(alloc, request, site, of.base)?,
-        1 => list(alloc, request, site, of.base)?,
-        _ => list_of_lists(alloc, request, site, of)?,
-    };
-    let Some(view) = found else {
+    let alloc = request.alloc;
+    let Some((innermost, fact)) = templates_of(of) else {
         return Ok(None);
     };
-    let holes = Holes::new(alloc)
+    let holes = element_holes(request, site, of.base)
         .with("lifetime", lender.lifetime)
         .with("segments", lender.segments)
         .with("segments_of", lender.segments_of);
+    let list = holes.fill("$upgraded::ListList<@lifetime@, @segments@, ")?;
+    let innermost = holes.fill(innermost);
     Ok(Some(View {
-        type_name: fill(alloc, view.type_name.as_str(), &holes)?,
-        fact: fill(alloc, view.fact.as_str(), &holes)?,
+        type_name: in_lists(alloc, &list, of.pointer_lists(), innermost)?,
+        fact: holes.fill(fact)?,
     }))
 }
 
@@ -90,123 +96,61 @@ pub fn is_plain(of: Type) -> bool {
     }
 }
 
-// A view by its type, and by what a clause says of it.
-fn view_from(alloc: Global, type_name: &str, fact: &str) -> Result<Option<View>, AllocError> {
-    Ok(Some(View {
-        type_name: String::from_str(alloc, type_name)?,
-        fact: String::from_str(alloc, fact)?,
-    }))
-}
-
-// The view of a type that is no list.
-fn single(
-    alloc: Global,
-    request: &Request,
-    site: u64,
-    base: Base,
-) -> Result<Option<View>, AllocError> {
-    match base {
-        Base::Text => view_from(
-            alloc,
-            "$text::Reader<@lifetime@>",
-            "$IsTextView @pointer@ @result@",
+// The templates of a view: of the type within all lists of pointers, and of what a clause says.
+fn templates_of(of: Type) -> Option<(&'static str, &'static str)> {
+    let (innermost, fact) = match of.base {
+        Base::Text => ("$text::Reader<@lifetime@>", TEXT_FACT),
+        Base::Data => ("&@lifetime@ [u8]", DATA_FACT),
+        Base::Struct(_) if of.lists == 0 => {
+            ("@path@::Reader<@lifetime@, @segments@>", STRUCT_FACT)
+        }
+        Base::Struct(_) => ("@path@::ListReader<@lifetime@, @segments@>", STRUCTS_FACT),
+        _ if of.lists == 0 => return None,
+        Base::Interface => return None,
+        Base::AnyPointer => (
+            "$any_pointer::Reader<@lifetime@, @segments@>",
+            POINTERS_FACT,
         ),
-        Base::Data => view_from(alloc, "&@lifetime@ [u8]", "$IsDataView @pointer@ @result@"),
-        Base::Struct(id) => {
-            let path = path_to(alloc, request, site, id)?;
-            let name = format!(in alloc; "{path}::Reader<@lifetime@, @segments@>")?;
-            view_from(
-                alloc,
-                name.as_str(),
-                "$IsStructView @pointer@
-(λ view. $struct_of @segments_of@ view.fields) @result@",
-            )
-        }
-        _ => Ok(None),
-    }
+        Base::Enum(_) => ("$upgraded::EnumList<@lifetime@, @path@>", NUMBERS_FACT),
+        _ => ("$upgraded::NumberList<@lifetime@, @number@>", NUMBERS_FACT),
+    };
+    let has_lists = of.pointer_lists() > 0;
+    Some((innermost, if has_lists { POINTERS_FACT } else { fact }))
 }
 
-// The view of a list of a type that is no list.
-fn list(
+/// A type within this many lists of pointers, by what comes before the elements of a list.
+pub fn in_lists(
     alloc: Global,
-    request: &Request,
-    site: u64,
-    base: Base,
-) -> Result<Option<View>, AllocError> {
+    list: &str,
+    count: u32,
+    innermost: Result<String, AllocError>,
+) -> Result<String, AllocError> {
+    let mut type_name = Code::new(alloc, 0);
+    for _ in 0..count {
+        type_name.add_code(list);
+    }
+    type_name.add_made(innermost);
+    for _ in 0..count {
+        type_name.add_code(">");
+    }
+    type_name.whole()
+}
+
+// What the templates have of the innermost elements: a message holds an enum's values as numbers of
+// 16 bits.
+fn element_holes(request: &Request, site: u64, base: Base) -> Holes {
+    let (number, code) = match number_of(base) {
+        Some(number) => (number.type_name, number.code),
+        None => ("()", 0),
+    };
+    let holes = Holes::new(request.alloc)
+        .with("number", number)
+        .number("code", code);
     match base {
-        Base::Void => list_of_numbers(alloc, "()", 0),
-        Base::Enum(id) => list_of_enums(alloc, request, site, id),
-        Base::Struct(id) => {
-            let path = path_to(alloc, request, site, id)?;
-            let name = format!(in alloc; "{path}::ListReader<@lifetime@, @segments@>")?;
-            view_from(
-                alloc,
-                name.as_str(),
-                "$IsStructsView @segments_of@ @pointer@ @result@",
-            )
-        }
-        Base::AnyPointer => list_of_pointers(alloc, "$any_pointer::Reader<@lifetime@, @segments@>"),
-        Base::Text => list_of_pointers(alloc, "$text::Reader<@lifetime@>"),
-        Base::Data => list_of_pointers(alloc, "&@lifetime@ [u8]"),
-        _ => match number_of(base) {
-            Some(number) => list_of_numbers(alloc, number.type_name, number.code),
-            None => Ok(None),
-        },
+        Base::Enum(id) => holes
+            .holding("path", path_to(request, site, id))
+            .with("value", "view.numbers"),
+        Base::Struct(id) => holes.holding("path", path_to(request, site, id)),
+        _ => holes.with("value", "view"),
     }
-}
-
-// The view of a list of lists, from the view of the innermost list outwards.
-fn list_of_lists(
-    alloc: Global,
-    request: &Request,
-    site: u64,
-    of: Type,
-) -> Result<Option<View>, AllocError> {
-    let mut found = list(alloc, request, site, of.base)?;
-    for _ in 1..of.lists {
-        let Some(inner) = found else {
-            return Ok(None);
-        };
-        found = list_of_pointers(alloc, inner.type_name.as_str())?;
-    }
-    Ok(found)
-}
-
-// The view of a list of numbers.
-fn list_of_numbers(alloc: Global, element: &str, code: u32) -> Result<Option<View>, AllocError> {
-    let name = format!(in alloc; "$upgraded::NumberList<@lifetime@, {element}>")?;
-    let holes = Holes::new(alloc)
-        .with("value", "view")
-        .holding("code", format!(in alloc; "{code}"));
-    let fact = fill(alloc, NUMBERS_FACT, &holes)?;
-    view_from(alloc, name.as_str(), fact.as_str())
-}
-
-// The view of a list of an enum's values, which a message holds as numbers of 16 bits.
-fn list_of_enums(
-    alloc: Global,
-    request: &Request,
-    site: u64,
-    id: u64,
-) -> Result<Option<View>, AllocError> {
-    let path = path_to(alloc, request, site, id)?;
-    let name = format!(in alloc; "$upgraded::EnumList<@lifetime@, {path}>")?;
-    let holes = Holes::new(alloc)
-        .with("value", "view.numbers")
-        .with("code", "3");
-    let fact = fill(alloc, NUMBERS_FACT, &holes)?;
-    view_from(alloc, name.as_str(), fact.as_str())
-}
-
-// The view of a list of pointers.
-fn list_of_pointers(alloc: Global, element: &str) -> Result<Option<View>, AllocError> {
-    let name = format!(in alloc; "$upgraded::ListList<@lifetime@, @segments@, {element}>")?;
-    view_from(
-        alloc,
-        name.as_str(),
-        "let pointer = @pointer@ in
-$IsViewBy pointer $TakesFirstPointers $FirstPointersFormError
-(λ view. $IsUpgradedPointers pointer
-($upgraded_pointers_of @segments_of@ view.pointers)) @result@",
-    )
 }

@@ -1,5 +1,5 @@
 //! The words of constants and of defaults that pointers point to.
-use crate::code::{Code, Holes};
+use crate::code::Code;
 use crate::schema::Value;
 use crate::templates::WORDS;
 use crate::trees::tree_of_bytes;
@@ -11,8 +11,8 @@ use std::fmt::Write;
 pub fn words_of(alloc: Global, value: &Value) -> Result<Vec<u8>, AllocError> {
     match value {
         Value::Text(text) => list_of_bytes(alloc, text.as_bytes(), true),
-        Value::Data(bytes) => list_of_bytes(alloc, bytes.as_slice(), false),
-        Value::Object(object) => Vec::from_slice(alloc, object.words.as_slice()),
+        Value::Data(bytes) => list_of_bytes(alloc, bytes, false),
+        Value::Object(object) => Vec::from_slice(alloc, &object.words),
         Value::Bits(_) | Value::Null => Vec::from_slice(alloc, &[0; 8]),
     }
 }
@@ -21,9 +21,9 @@ pub fn words_of(alloc: Global, value: &Value) -> Result<Vec<u8>, AllocError> {
 pub fn tree_of(alloc: Global, value: &Value) -> Result<Option<String>, AllocError> {
     match value {
         Value::Text(text) => Ok(Some(tree_of_bytes(alloc, text.as_bytes(), true)?)),
-        Value::Data(bytes) => Ok(Some(tree_of_bytes(alloc, bytes.as_slice(), false)?)),
+        Value::Data(bytes) => Ok(Some(tree_of_bytes(alloc, bytes, false)?)),
         Value::Object(object) => match &object.tree {
-            Some(tree) => Ok(Some(String::from_str(alloc, tree.as_str())?)),
+            Some(tree) => Ok(Some(String::from_str(alloc, tree)?)),
             None => Ok(None),
         },
         Value::Bits(_) | Value::Null => Ok(None),
@@ -36,7 +36,7 @@ pub fn sets_no_pointers(value: &Value) -> bool {
     let Value::Object(object) = value else {
         return false;
     };
-    let words = object.words.as_slice();
+    let words = &object.words;
     let (Some(low), Some(high)) = (words.get(4), words.get(5)) else {
         return false;
     };
@@ -71,17 +71,13 @@ fn list_of_bytes(alloc: Global, bytes: &[u8], is_text: bool) -> Result<Vec<u8>, 
 }
 
 /// Adds words as a `static` of this name.
-pub fn push_words(
-    alloc: Global,
-    code: &mut Code,
-    name: &str,
-    words: &[u8],
-) -> Result<(), AllocError> {
-    let holes = Holes::new(alloc)
+pub fn push_words(code: &mut Code, name: &str, words: &[u8]) {
+    let holes = code
+        .holes()
         .with("name", name)
-        .holding("size", format!(in alloc; "{}", words.len()))
-        .holding("lines", lines_of(alloc, words));
-    code.add(WORDS, &holes)
+        .number("size", words.len() as u64)
+        .holding("lines", lines_of(code.alloc, words));
+    code.add(WORDS, &holes);
 }
 
 /// The bytes of words as code has them, a line for each word.

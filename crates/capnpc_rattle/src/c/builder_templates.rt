@@ -1,4 +1,5 @@
 //! Templates of what builds structs, with `@name@` for what differs.
+use crate::cleared::ClearingLines;
 
 /// What a struct is before it is added to a message, and some of them that are collected.
 pub const DRAFT: &str = "struct @name@_draft {
@@ -111,3 +112,16 @@ static inline void @prefix@_init(struct @struct@_draft *draft) {
     @code@
 }
 ";
+
+/// How a group is selected where another member of its union is set.
+pub const SELECT_GROUP: &str = "if (linsjoar_draft_u16(draft->words, @offset@) != @number@)
+    @name@_init(draft);
+";
+
+/// How a group is selected and cleared.
+pub const CLEARING: ClearingLines = ClearingLines {
+    tag: "linsjoar_set_u16(draft->words, @offset@, @number@);",
+    boolean: "linsjoar_set_bool(draft->words, @offset@, 0);",
+    number: "linsjoar_set_u@width@(draft->words, @offset@, 0);",
+    pointer: "draft->orphans[@index@] = LINSJOAR_NULL_ORPHAN;",
+};

@@ -3,17 +3,24 @@ use crate::code::Code;
 use std::alloc::{AllocError, Global};
 
 /// Adds a comment, if there is one.
-pub fn push_comment(alloc: Global, code: &mut Code, comment: &str) -> Result<(), AllocError> {
+pub fn push_comment(code: &mut Code, comment: &str) {
+    let written = code.text(commented(code.alloc, comment));
+    if !written.is_empty() {
+        code.add_with("@comment@", "comment", &written);
+    }
+}
+
+// The lines of a comment as C has them.
+fn commented(alloc: Global, comment: &str) -> Result<String, AllocError> {
     let mut written = String::new(alloc);
     for line in comment.lines() {
         written.push_str(if written.is_empty() { "/* " } else { "\n * " })?;
         push_line(&mut written, line.trim_end())?;
     }
-    if written.is_empty() {
-        return Ok(());
+    if !written.is_empty() {
+        written.push_str(" */")?;
     }
-    written.push_str(" */")?;
-    code.add_with("@comment@", "comment", written.as_str())
+    Ok(written)
 }
 
 // Adds a line of a comment, in which nothing ends the comment or begins another one.

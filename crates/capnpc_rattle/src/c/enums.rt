@@ -2,108 +2,73 @@
 use crate::c::builder_templates::ADD_ENUMS;
 use crate::c::comments::push_comment;
 use crate::c::names::{enum_tag, type_name};
-use crate::c::templates::{ENUM, ENUM_LIST, ENUMERATOR, LEFT_OUT_ENUM};
-use crate::code::{Code, Holes};
+use crate::c::templates::{ENUM, ENUM_LIST, LEFT_OUT_ENUM};
+use crate::code::Code;
 use crate::schema::{Node, Request, Struct};
-use std::alloc::{AllocError, Global};
 
 /// Adds an enum by the names of its enumerants.
-pub fn push_enum(
-    alloc: Global,
-    code: &mut Code,
-    request: &Request,
-    node: &Node,
-    names: &[String],
-) -> Result<(), AllocError> {
+pub fn push_enum(code: &mut Code, request: &Request, node: &Node, names: &[String]) {
+    code.add_gap();
     if names.is_empty() {
-        return code.add_with(LEFT_OUT_ENUM, "name", node.name.as_str());
+        return code.add_with(LEFT_OUT_ENUM, "name", &node.name);
     }
-    let prefix = type_name(alloc, request, node.id)?;
-    let prefix = prefix.as_str();
-    let mut inner = Code::new(alloc, 1);
-    let mut number: usize = 0;
-    for name in names {
-        if let Some(comment) = node.member_comments.get(number) {
-            push_comment(alloc, &mut inner, comment.as_str())?;
-        }
-        push_enumerator(alloc, &mut inner, prefix, name.as_str(), number)?;
-        number = number.saturating_add(1);
+    let prefix = code.text(type_name(request, node.id));
+    let mut inner = Code::new(code.alloc, 1);
+    for (number, name) in names.iter().enumerate() {
+        push_comment(&mut inner, node.member_comment(number));
+        push_enumerator(&mut inner, &prefix, name, number as u64);
     }
-    let tag = enum_tag(alloc, request, node.id)?;
-    let tag = tag.as_str();
-    push_comment(alloc, code, node.comment.as_str())?;
-    push_lines(alloc, code, tag, prefix, inner.lines.as_str(), names.len())?;
-    let holes = Holes::new(alloc).with("tag", tag).with("prefix", prefix);
-    code.add(ENUM_LIST, &holes)?;
+    let tag = code.text(enum_tag(request, node.id));
+    push_comment(code, &node.comment);
+    push_lines(code, &tag, &prefix, &inner, names.len() as u64);
+    let holes = code.holes().with("tag", &tag).with("prefix", &prefix);
+    code.add(ENUM_LIST, &holes);
     if request.wanted.builders {
-        code.add(ADD_ENUMS, &holes)?;
+        code.add(ADD_ENUMS, &holes);
     }
-    Ok(())
 }
 
-/// Adds the enum of the members of a union, if a struct or a group has one.
-pub fn push_members(
-    alloc: Global,
-    code: &mut Code,
-    request: &Request,
-    node: &Node,
-    body: &Struct,
-) -> Result<(), AllocError> {
-    if body.discriminant.is_none() {
-        return Ok(());
-    }
-    let name = type_name(alloc, request, node.id)?;
-    let name = name.as_str();
-    let tag = format!(in alloc; "{name}_which")?;
-    let tag = tag.as_str();
-    let mut inner = Code::new(alloc, 1);
-    let mut count: usize = 0;
-    for field in body.fields.as_slice() {
+/// Adds the enum of the members of the union in a struct or a group of this name.
+pub fn push_members(code: &mut Code, name: &str, body: &Struct) {
+    let tag = code.text(format!(in code.alloc; "{name}_which"));
+    let mut inner = Code::new(code.alloc, 1);
+    let mut count: u64 = 0;
+    for field in &body.fields {
         if let Some(number) = field.member {
             count = count.saturating_add(1);
-            let field = field.name.as_str();
-            push_enumerator(alloc, &mut inner, tag, field, number as usize)?;
+            push_enumerator(&mut inner, &tag, &field.name, number as u64);
         }
     }
-    code.add_gap()?;
-    code.add_with("/* The members of the union in @name@. */", "name", name)?;
-    push_lines(alloc, code, tag, tag, inner.lines.as_str(), count)
+    code.add_gap();
+    code.add_with("/* The members of the union in @name@. */", "name", name);
+    push_lines(code, &tag, &tag, &inner, count);
 }
 
 // Adds an enum of this tag and prefix, by the lines of its enumerators and how many they are.
-fn push_lines(
-    alloc: Global,
-    code: &mut Code,
-    tag: &str,
-    prefix: &str,
-    lines: &str,
-    count: usize,
-) -> Result<(), AllocError> {
-    let lines = lines.strip_suffix('\n').unwrap_or(lines);
-    let unknown = format!(in alloc; "{prefix}_notInSchema")?;
-    let unknown = unknown.as_str();
+fn push_lines(code: &mut Code, tag: &str, prefix: &str, lines: &Code, count: u64) {
+    let unknown = code.text(format!(in code.alloc; "{prefix}_notInSchema"));
     // A schema may have an enumerant of this name.
-    let mark = if lines.contains(unknown) { "_" } else { "" };
-    let holes = Holes::new(alloc)
+    let mark = if lines.as_str().contains(unknown.as_str()) {
+        "_"
+    } else {
+        ""
+    };
+    let holes = code
+        .holes()
         .with("tag", tag)
         .with("prefix", prefix)
-        .holding("unknown", format!(in alloc; "{unknown}{mark}"))
-        .with("lines", lines)
-        .holding("count", format!(in alloc; "{count}"));
-    code.add(ENUM, &holes)
+        .holding("unknown", format!(in code.alloc; "{unknown}{mark}"))
+        .code("lines", lines)
+        .number("count", count);
+    code.add(ENUM, &holes);
 }
 
 // Adds an enumerator.
-fn push_enumerator(
-    alloc: Global,
-    code: &mut Code,
-    prefix: &str,
-    name: &str,
-    number: usize,
-) -> Result<(), AllocError> {
-    let holes = Holes::new(alloc)
+fn push_enumerator(code: &mut Code, prefix: &str, name: &str, number: u64) {
+    let holes = code
+        .holes()
         .with("prefix", prefix)
         .with("name", name)
-        .holding("number", format!(in alloc; "{number}"));
-    code.add(ENUMERATOR, &holes)
+        .number("number", number);
+    code.add("@prefix@_@name@ = @number@,", &holes);
 }

@@ -5,185 +5,134 @@ use crate::c::names::{enum_tag, type_name};
 use crate::c::numbers::{READ, number_type, read_number};
 use crate::c::schema_types::schema_type;
 use crate::c::templates::{GET_ANY, GET_NUMBER, GET_POINTER, HAS, LEFT_OUT, POINTER, POINTER_OR};
-use crate::c::views::{has_enumerants, view_name, view_of};
-use crate::code::{Code, Holes, fill};
+use crate::c::views::{has_enumerants, read_call, view_name};
+use crate::code::{Code, Holes};
 use crate::defaults::has_default;
+use crate::getters::Site;
 use crate::numbers::Stored;
-use crate::schema::{Base, Field, Place, Request, Slot};
-use std::alloc::{AllocError, Global};
+use crate::schema::{Base, Field, Place, Slot};
 
-/// The names that the functions of a struct's or a group's fields begin with.
+/// A struct or a group whose functions are written, and the names that these begin with.
 #[derive(Drop)]
-pub struct Scope {
+pub struct Scope<'r> {
+    pub site: Site<'r>,
     /// The name of the struct or the group.
     pub prefix: String,
     /// The name of the struct.
     pub owner: String,
 }
 
-impl Scope {
+impl<'r> Scope<'r> {
+    /// What a template has of it.
+    pub fn holes(&self) -> Holes {
+        Holes::new(self.site.request.alloc)
+            .with("prefix", &self.prefix)
+            .with("struct", &self.owner)
+    }
+
     /// What a template has of a field.
-    pub fn holes(&self, alloc: Global, field: &Field) -> Holes {
-        Holes::new(alloc)
-            .with("prefix", self.prefix.as_str())
-            .with("struct", self.owner.as_str())
-            .with("field", field.name.as_str())
+    pub fn field_holes(&self, field: &Field) -> Holes {
+        self.holes().with("field", &field.name)
     }
-}
 
-/// A form in which C has a number: an enum has two.
-#[derive(Drop)]
-pub struct Form {
-    pub type_name: String,
-    /// What is around the code that reads it.
-    pub before: String,
-    pub after: &'static str,
-    /// What follows the name of the field.
-    pub suffix: &'static str,
-}
-
-/// The forms of a number.
-pub fn forms_of(
-    alloc: Global,
-    request: &Request,
-    stored: &Stored,
-) -> Result<Vec<Form>, AllocError> {
-    let mut forms: Vec<Form> = Vec::new(alloc);
-    let mut suffix = "";
-    if let Base::Enum(id) = stored.base
-        && has_enumerants(request, id)
-    {
-        let (tag, name) = (
-            enum_tag(alloc, request, id)?,
-            type_name(alloc, request, id)?,
-        );
-        let (tag, name) = (tag.as_str(), name.as_str());
-        forms.push(Form {
-            type_name: format!(in alloc; "enum {tag}")?,
-            before: format!(in alloc; "{name}_of_number(")?,
-            after: ")",
-            suffix,
-        })?;
-        suffix = "_number";
-    }
-    forms.push(Form {
-        type_name: String::from_str(alloc, number_type(stored.number))?,
-        before: String::new(alloc),
-        after: "",
-        suffix,
-    })?;
-    Ok(forms)
-}
-
-impl Form {
-    /// What a template has of this form of a number.
-    pub fn holes(&self, alloc: Global, holes: Holes, read: &str) -> Holes {
-        let (before, after) = (self.before.as_str(), self.after);
-        holes
-            .with("type", self.type_name.as_str())
-            .with("suffix", self.suffix)
-            .holding("value", format!(in alloc; "{before}{read}{after}"))
+    /// Adds a template of a number in each form in which C has it, an enum in two: by the code that
+    /// reads it, and the code that sets it.
+    pub fn push_forms(
+        &self,
+        code: &mut Code,
+        template: &str,
+        field: &Field,
+        stored: &Stored,
+        read: &str,
+        set: &Code,
+    ) {
+        let request = self.site.request;
+        let mut suffix = "";
+        if let Base::Enum(id) = stored.base
+            && has_enumerants(request, id)
+        {
+            let tag = code.text(enum_tag(request, id));
+            let name = code.text(type_name(request, id));
+            let holes = self
+                .field_holes(field)
+                .holding("type", format!(in code.alloc; "enum {tag}"))
+                .with("suffix", suffix)
+                .holding("value", format!(in code.alloc; "{name}_of_number({read})"))
+                .code("code", set);
+            code.add(template, &holes);
+            suffix = "_number";
+        }
+        let holes = self
+            .field_holes(field)
+            .with("type", number_type(stored.number))
+            .with("suffix", suffix)
+            .with("value", read)
+            .code("code", set);
+        code.add(template, &holes);
     }
 }
 
 /// Adds the getter of a field, with what the schema says of it, and for a pointer what says whether
 /// it is set. A group has none: its fields have.
-pub fn push_getter(
-    alloc: Global,
-    code: &mut Code,
-    request: &Request,
-    scope: &Scope,
-    field: &Field,
-    comment: &str,
-) -> Result<(), AllocError> {
+pub fn push_getter(code: &mut Code, scope: &Scope<'_>, field: &Field, comment: &str) {
     let Slot::At(place) = &field.slot else {
-        return Ok(());
+        return;
     };
-    if place.of.lists == 0 && place.of.base == Base::Void {
-        return Ok(());
+    match place.of.base {
+        Base::Void if place.of.lists == 0 => return,
+        Base::Interface => return code.add_with(LEFT_OUT, "field", &field.name),
+        _ => code.add_gap(),
     }
-    if place.of.base == Base::Interface {
-        return code.add_with(LEFT_OUT, "field", field.name.as_str());
-    }
-    code.add_gap()?;
-    let pointer = match view_of(alloc, request, place.of)? {
-        Some(view) => Some((view, pointer_of(alloc, code, scope, field, place)?)),
-        None => None,
-    };
-    push_description(alloc, code, request, field, place, comment)?;
     if let Some(stored) = Stored::at_place(place) {
-        return push_number(alloc, code, request, scope, field, &stored);
+        push_description(code, scope, field, place, comment);
+        let read = code.text(read_number(code.alloc, READ, &stored));
+        let set = Code::new(code.alloc, 0);
+        return scope.push_forms(code, GET_NUMBER, field, &stored, &read, &set);
     }
-    let holes = scope
-        .holes(alloc, field)
-        .holding("offset", format!(in alloc; "{}", place.offset))
-        .holding("view", view_name(alloc, request, place.of));
-    let holes = match &pointer {
-        Some((view, pointer)) => holes
-            .with("pointer", pointer.as_str())
-            .with("call", view.call.as_str()),
-        None => holes,
-    };
-    code.add(
-        if pointer.is_some() {
-            GET_POINTER
-        } else {
-            GET_ANY
-        },
-        &holes,
-    )?;
-    code.add(HAS, &holes)
+    let (prefix, name) = (scope.prefix.as_str(), field.name.as_str());
+    let words = code.text(format!(in code.alloc; "{prefix}_{name}_default"));
+    if has_default(place) {
+        push_words(code, &words, &place.default);
+    }
+    push_description(code, scope, field, place, comment);
+    push_pointer(code, scope, field, place, &words);
 }
 
 // Adds what the schema says of a field: its name, its type and its comment.
 fn push_description(
-    alloc: Global,
     code: &mut Code,
-    request: &Request,
+    scope: &Scope<'_>,
     field: &Field,
     place: &Place,
     comment: &str,
-) -> Result<(), AllocError> {
-    let (name, of) = (field.name.as_str(), schema_type(alloc, request, place.of)?);
-    let of = of.as_str();
-    let described = format!(in alloc; "{name} :{of}\n{comment}")?;
-    push_comment(alloc, code, described.as_str())
+) {
+    let of = code.text(schema_type(scope.site.request, place.of));
+    let name = field.name.as_str();
+    let described = code.text(format!(in code.alloc; "{name} :{of}\n{comment}"));
+    push_comment(code, &described);
 }
 
-// Adds the getters of a number.
-fn push_number(
-    alloc: Global,
-    code: &mut Code,
-    request: &Request,
-    scope: &Scope,
-    field: &Field,
-    stored: &Stored,
-) -> Result<(), AllocError> {
-    let read = read_number(alloc, READ, stored)?;
-    let forms = forms_of(alloc, request, stored)?;
-    for form in forms.as_slice() {
-        let holes = form.holes(alloc, scope.holes(alloc, field), read.as_str());
-        code.add(GET_NUMBER, &holes)?;
+// Adds the getter of a pointer, whose default, if it has one, has words of this name.
+fn push_pointer(code: &mut Code, scope: &Scope<'_>, field: &Field, place: &Place, words: &str) {
+    let holes = scope
+        .field_holes(field)
+        .number("offset", place.offset)
+        .holding("view", view_name(scope.site.request, place.of))
+        .with("words", words);
+    match code.kept(read_call(code.alloc, place.of)) {
+        Some(Some(call)) => {
+            let pointer = holes.fill(if has_default(place) {
+                POINTER_OR
+            } else {
+                POINTER
+            });
+            let holes = holes.holding("pointer", pointer).with("call", &call);
+            code.add(GET_POINTER, &holes);
+            code.add(HAS, &holes);
+        }
+        _ => {
+            code.add(GET_ANY, &holes);
+            code.add(HAS, &holes);
+        }
     }
-    Ok(())
-}
-
-// The code of a field's pointer, after the words of its default, if it has one, are added.
-fn pointer_of(
-    alloc: Global,
-    code: &mut Code,
-    scope: &Scope,
-    field: &Field,
-    place: &Place,
-) -> Result<String, AllocError> {
-    let (prefix, name) = (scope.prefix.as_str(), field.name.as_str());
-    let words = format!(in alloc; "{prefix}_{name}_default")?;
-    let holes = Holes::new(alloc)
-        .holding("offset", format!(in alloc; "{}", place.offset))
-        .with("words", words.as_str());
-    if !has_default(place) {
-        return fill(alloc, POINTER, &holes);
-    }
-    push_words(alloc, code, words.as_str(), &place.default)?;
-    fill(alloc, POINTER_OR, &holes)
 }

@@ -1,102 +1,77 @@
 //! The header of a file.
 use crate::c::constants::push_constant;
 use crate::c::declared::declared_in;
-use crate::c::enums::{push_enum, push_members};
+use crate::c::enums::push_enum;
 use crate::c::included::included_by;
 use crate::c::list_lists::push_lists_of_lists;
 use crate::c::structs::{push_struct, push_types};
-use crate::c::templates::{END, HEAD, INCLUDE, LEFT_OUT_INTERFACE};
+use crate::c::templates::{END, HEAD, LEFT_OUT_INTERFACE};
 use crate::code::{Code, Holes};
+use crate::getters::Site;
 use crate::names::{base_name, file_module};
-use crate::schema::{Body, Request};
-use std::alloc::{AllocError, Global};
+use crate::schema::{Body, Node, Request};
+use std::alloc::AllocError;
 
 /// The header of a file: its types come first, then the headers of the files whose types its own
 /// have, and then what reads them.
-pub fn header_of(alloc: Global, request: &Request, file: u64) -> Result<String, AllocError> {
+pub fn header_of(request: &Request, file: u64) -> Result<String, AllocError> {
+    let nodes = declared_in(request, file)?;
+    let files = included_by(request, file)?;
+    let mut code = Code::new(request.alloc, 0);
+    code.add(HEAD, &head_holes(request, file));
+    for node in &nodes {
+        push_types_of(&mut code, request, node);
+    }
+    push_includes(&mut code, request, &files);
+    push_lists_of_lists(&mut code, request, &nodes);
+    for node in &nodes {
+        push_code_of(&mut code, request, node);
+    }
+    code.add_lines(END);
+    code.whole()
+}
+
+// The name of a file, and the name that says that its header was read.
+fn head_holes(request: &Request, file: u64) -> Holes {
     let name = request.file_name(file).unwrap_or("");
-    let module = file_module(alloc, name)?;
-    let nodes = declared_in(alloc, request, file)?;
-    let holes = Holes::new(alloc)
+    Holes::new(request.alloc)
         .with("file", base_name(name))
-        .holding("guard", guard_of(alloc, module.as_str(), file));
-    let mut code = Code::new(alloc, 0);
-    code.add(HEAD, &holes)?;
-    for id in nodes.as_slice() {
-        push_types_of(alloc, &mut code, request, *id)?;
-    }
-    push_includes(alloc, &mut code, request, file)?;
-    push_lists_of_lists(alloc, &mut code, request, nodes.as_slice())?;
-    for id in nodes.as_slice() {
-        push_code_of(alloc, &mut code, request, *id)?;
-    }
-    code.add_lines(END)?;
-    Ok(code.lines)
+        .holding("guard", guard_of(request, name, file))
 }
 
 // The name that says that a header was read.
-fn guard_of(alloc: Global, module: &str, file: u64) -> Result<String, AllocError> {
-    let module = module.to_ascii_uppercase(alloc)?;
-    format!(in alloc; "LINSJOAR_{module}_{file:x}_H")
+fn guard_of(request: &Request, name: &str, file: u64) -> Result<String, AllocError> {
+    let module = file_module(request.alloc, name)?.to_ascii_uppercase(request.alloc)?;
+    format!(in request.alloc; "LINSJOAR_{module}_{file:x}_H")
 }
 
 // Adds the types of a node.
-fn push_types_of(
-    alloc: Global,
-    code: &mut Code,
-    request: &Request,
-    id: u64,
-) -> Result<(), AllocError> {
-    let Some(node) = request.find(id) else {
-        return Ok(());
-    };
+fn push_types_of(code: &mut Code, request: &Request, node: &Node) {
     match &node.body {
-        Body::Struct(body) => {
-            if !body.is_group {
-                push_types(alloc, code, request, node, body)?;
-            }
-            push_members(alloc, code, request, node, body)
-        }
-        Body::Enum(names) => {
-            code.add_gap()?;
-            push_enum(alloc, code, request, node, names.as_slice())
-        }
-        Body::Interface => code.add_with(LEFT_OUT_INTERFACE, "name", node.name.as_str()),
-        Body::Constant(_, _) | Body::File | Body::Other => Ok(()),
+        Body::Struct(body) => push_types(code, request, node, body),
+        Body::Enum(names) => push_enum(code, request, node, names),
+        Body::Interface => code.add_with(LEFT_OUT_INTERFACE, "name", &node.name),
+        Body::Constant(_, _) | Body::File | Body::Other => {}
     }
 }
 
 // Adds what reads a node.
-fn push_code_of(
-    alloc: Global,
-    code: &mut Code,
-    request: &Request,
-    id: u64,
-) -> Result<(), AllocError> {
-    let Some(node) = request.find(id) else {
-        return Ok(());
-    };
-    match &node.body {
-        Body::Struct(body) => push_struct(alloc, code, request, node, body),
-        Body::Constant(of, value) => push_constant(alloc, code, request, node, *of, value),
-        _ => Ok(()),
+fn push_code_of(code: &mut Code, request: &Request, node: &Node) {
+    if let Body::Constant(of, value) = &node.body {
+        push_constant(code, request, node, *of, value);
+    } else if let Some(site) = Site::find(request, node.id) {
+        push_struct(code, site);
     }
 }
 
-// Adds the headers of the files that declare the types of what a file has.
-fn push_includes(
-    alloc: Global,
-    code: &mut Code,
-    request: &Request,
-    file: u64,
-) -> Result<(), AllocError> {
-    let files = included_by(alloc, request, file)?;
+// Adds the headers of these files, except for the first, which is the file itself. They come after
+// its types, since each may need the other.
+fn push_includes(code: &mut Code, request: &Request, files: &[u64]) {
     for other in files.get(1..).unwrap_or(&[]) {
         if let Some(name) = request.file_name(*other) {
-            code.add_gap()?;
-            let module = file_module(alloc, name)?;
-            code.add_with(INCLUDE, "name", module.as_str())?;
+            let module = code.text(file_module(code.alloc, name));
+            code.add_gap();
+            code.add_with("#include \"@name@.h\"", "name", &module);
         }
     }
-    Ok(())
 }

@@ -42,75 +42,75 @@ pub const DRAFT: Source = Source {
 
 /// The code that reads a number.
 pub fn read_number(alloc: Global, source: Source, stored: &Stored) -> Result<String, AllocError> {
-    let (calls, words) = (source.calls, source.words);
-    let offset = stored.offset;
-    let default = stored.default;
+    let (calls, words, offset) = (source.calls, source.words, stored.offset);
     if stored.number.kind == NumberKind::Bool {
-        let sign = if default == 0 { "" } else { "!" };
+        let sign = if stored.default == 0 { "" } else { "!" };
         return format!(in alloc; "{sign}{calls}_bool({words}, {offset})");
     }
     let width = stored.number.width;
+    let mask = mask_of(alloc, stored)?;
+    let bits = format!(in alloc; "{calls}_u{width}({words}, {offset}){mask}")?;
+    value_of(alloc, stored, bits)
+}
+
+// The bits of a default, with which a number is XORed; nothing where they are zero.
+fn mask_of(alloc: Global, stored: &Stored) -> Result<String, AllocError> {
+    let (width, default) = (stored.number.width, stored.default);
     if default == 0 {
-        let bits = format!(in alloc; "{calls}_u{width}({words}, {offset})")?;
-        return of_bits(alloc, stored.number, bits.as_str());
+        return Ok(String::new(alloc));
     }
-    let bits = format!(in alloc; "{calls}_u{width}({words}, {offset}) ^ UINT{width}_C({default})")?;
-    match stored.number.kind {
-        NumberKind::Float => of_bits(alloc, stored.number, bits.as_str()),
-        _ => {
-            let (type_name, bits) = (number_type(stored.number), bits.as_str());
-            format!(in alloc; "({type_name})({bits})")
-        }
-    }
+    format!(in alloc; " ^ UINT{width}_C({default})")
 }
 
 // The code of a number by its bits.
-fn of_bits(alloc: Global, number: Number, bits: &str) -> Result<String, AllocError> {
-    match (number.kind, number.width) {
-        (NumberKind::Float, 32) => format!(in alloc; "linsjoar_float_of_bits({bits})"),
-        (NumberKind::Float, _) => format!(in alloc; "linsjoar_double_of_bits({bits})"),
-        (NumberKind::Signed, _) => {
-            let type_name = number_type(number);
-            format!(in alloc; "({type_name}){bits}")
+fn value_of(alloc: Global, stored: &Stored, bits: String) -> Result<String, AllocError> {
+    let type_name = number_type(stored.number);
+    match stored.number.kind {
+        NumberKind::Float if stored.number.width == 32 => {
+            format!(in alloc; "linsjoar_float_of_bits({bits})")
         }
-        _ => String::from_str(alloc, bits),
+        NumberKind::Float => format!(in alloc; "linsjoar_double_of_bits({bits})"),
+        _ if stored.default != 0 => format!(in alloc; "({type_name})({bits})"),
+        NumberKind::Signed => format!(in alloc; "({type_name}){bits}"),
+        _ => Ok(bits),
     }
 }
 
 /// The code that sets a number of `draft` to `value`.
 pub fn set_number(alloc: Global, stored: &Stored) -> Result<String, AllocError> {
-    let offset = stored.offset;
-    let default = stored.default;
-    let width = stored.number.width;
+    let (offset, width) = (stored.offset, stored.number.width);
     if stored.number.kind == NumberKind::Bool {
-        let sign = if default == 0 { "" } else { "!" };
+        let sign = if stored.default == 0 { "" } else { "!" };
         return format!(in alloc; "linsjoar_set_bool(draft->words, {offset}, {sign}value);");
     }
+    let bits = bits_of(alloc, stored)?;
+    format!(in alloc; "linsjoar_set_u{width}(draft->words, {offset}, (uint{width}_t){bits});")
+}
+
+// The bits of `value`, XORed with the bits of the default.
+fn bits_of(alloc: Global, stored: &Stored) -> Result<String, AllocError> {
+    let width = stored.number.width;
     let bits = match stored.number.kind {
         NumberKind::Float if width == 32 => "linsjoar_bits_of_float(value)",
         NumberKind::Float => "linsjoar_bits_of_double(value)",
         _ => "value",
     };
-    if default == 0 {
-        return format!(in alloc;
-            "linsjoar_set_u{width}(draft->words, {offset}, (uint{width}_t){bits});"
-        );
+    if stored.default == 0 {
+        return String::from_str(alloc, bits);
     }
-    format!(in alloc;
-        "linsjoar_set_u{width}(draft->words, {offset}, (uint{width}_t)((uint{width}_t){bits} ^ UINT{width}_C({default})));"
-    )
+    let mask = mask_of(alloc, stored)?;
+    format!(in alloc; "((uint{width}_t){bits}{mask})")
 }
 
 /// A number as it is written in C, by its bits.
 pub fn number_literal(alloc: Global, number: Number, bits: u64) -> Result<String, AllocError> {
     let plain = literal(alloc, number, bits)?;
-    let plain = plain.as_str();
     match (number.kind, number.width) {
         (NumberKind::Unsigned, 32) => format!(in alloc; "UINT32_C({plain})"),
         (NumberKind::Unsigned, 64) => format!(in alloc; "UINT64_C({plain})"),
-        (NumberKind::Signed, 64) => wide_literal(alloc, plain),
-        (NumberKind::Float, width) => float_literal(alloc, width, plain),
-        _ => String::from_str(alloc, plain),
+        (NumberKind::Signed, 64) => wide_literal(alloc, &plain),
+        (NumberKind::Float, width) => float_literal(alloc, width, &plain),
+        _ => Ok(plain),
     }
 }
 

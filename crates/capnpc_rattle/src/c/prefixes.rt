@@ -3,29 +3,28 @@ use crate::checked::expect_name;
 use crate::names::base_name;
 use crate::schema::{Body, Request};
 use anyhow::{Result, bail};
-use std::alloc::Global;
 
 /// Gives files their prefixes, by the words `prefix=FILE:NAME` among some.
-pub fn put_prefixes(alloc: Global, request: &mut Request, words: &[&str]) -> Result<()> {
+pub fn put_prefixes(request: &mut Request, words: &[&str]) -> Result<()> {
     for word in words {
         if let Some(given) = word.strip_prefix("prefix=") {
             let Some((file, name)) = given.rsplit_once(':') else {
                 bail!("`{word}` is no `prefix=FILE:NAME`");
             };
             expect_name(name)?;
-            put_prefix(alloc, request, file, name)?;
+            put_prefix(request, file, name)?;
         }
     }
     Ok(())
 }
 
 // Gives a file its prefix, by the file's path or the last part of it.
-fn put_prefix(alloc: Global, request: &mut Request, file: &str, name: &str) -> Result<()> {
+fn put_prefix(request: &mut Request, file: &str, name: &str) -> Result<()> {
     for node in request.nodes.as_mut_slice() {
         if let Body::File = &node.body
-            && (node.name.as_str() == file || base_name(node.name.as_str()) == file)
+            && (node.name.as_str() == file || base_name(&node.name) == file)
         {
-            node.prefix = String::from_str(alloc, name)?;
+            node.prefix = String::from_str(request.alloc, name)?;
             return Ok(());
         }
     }

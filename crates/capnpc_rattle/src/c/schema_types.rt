@@ -1,16 +1,13 @@
 //! Types as a schema has them, for comments.
-use crate::c::names::MAX_DEPTH;
+use crate::paths::nodes_to;
 use crate::schema::{Base, Body, Request, Type};
-use std::alloc::{AllocError, Global};
+use std::alloc::AllocError;
 
 /// A type as a schema has it: `List(Person.PhoneNumber)`.
-pub fn schema_type(alloc: Global, request: &Request, of: Type) -> Result<String, AllocError> {
-    let mut written = String::new(alloc);
-    for _ in 0..of.lists {
-        written.push_str("List(")?;
-    }
+pub fn schema_type(request: &Request, of: Type) -> Result<String, AllocError> {
+    let mut written = "List(".repeat(request.alloc, of.lists as usize)?;
     match of.base {
-        Base::Struct(id) | Base::Enum(id) => push_path(alloc, &mut written, request, id)?,
+        Base::Struct(id) | Base::Enum(id) => push_path(&mut written, request, id)?,
         _ => written.push_str(base_type(of.base))?,
     }
     for _ in 0..of.lists {
@@ -20,30 +17,16 @@ pub fn schema_type(alloc: Global, request: &Request, of: Type) -> Result<String,
 }
 
 // Adds the names of a node and of what is around it, with `.` between them, as the schema has them.
-fn push_path(
-    alloc: Global,
-    written: &mut String,
-    request: &Request,
-    id: u64,
-) -> Result<(), AllocError> {
-    let mut path = String::new(alloc);
-    let mut next = id;
-    for _ in 0..MAX_DEPTH {
-        let Some(node) = request.find(next) else {
-            break;
-        };
-        if let Body::File = &node.body {
-            break;
+fn push_path(written: &mut String, request: &Request, id: u64) -> Result<(), AllocError> {
+    let mut between = "";
+    for node in &nodes_to(request, id)? {
+        if !matches!(&node.body, Body::File) {
+            written.push_str(between)?;
+            written.push_str(&node.name)?;
+            between = ".";
         }
-        let (name, inner) = (node.name.as_str(), path.as_str());
-        path = if inner.is_empty() {
-            String::from_str(alloc, name)?
-        } else {
-            format!(in alloc; "{name}.{inner}")?
-        };
-        next = node.scope;
     }
-    written.push_str(path.as_str())
+    Ok(())
 }
 
 // The name of a type that is no struct and no enum.

@@ -2,101 +2,72 @@
 use crate::c::builder_templates::DRAFT_WHICH;
 use crate::c::builders::{push_adding, push_draft};
 use crate::c::comments::push_comment;
+use crate::c::enums::push_members;
 use crate::c::getters::{Scope, push_getter};
 use crate::c::names::type_name;
 use crate::c::setters::push_setters;
 use crate::c::templates::{READ, READERS, WHICH};
-use crate::code::{Code, Holes};
+use crate::code::Code;
 use crate::getters::Site;
-use crate::owners::owner_of;
+use crate::owners::{Owner, owner_of};
 use crate::schema::{Node, Request, Struct};
-use std::alloc::{AllocError, Global};
 
-/// Adds the types of a struct that is no group.
-pub fn push_types(
-    alloc: Global,
-    code: &mut Code,
-    request: &Request,
-    node: &Node,
-    body: &Struct,
-) -> Result<(), AllocError> {
-    let name = type_name(alloc, request, node.id)?;
-    let name = name.as_str();
-    code.add_gap()?;
-    push_comment(alloc, code, node.comment.as_str())?;
-    code.add_with(READERS, "name", name)?;
-    if request.wanted.builders {
-        push_draft(alloc, code, name, body)?;
+/// Adds the types of a struct, which a group has not, and the enum of its union's members.
+pub fn push_types(code: &mut Code, request: &Request, node: &Node, body: &Struct) {
+    let name = code.text(type_name(request, node.id));
+    if !body.is_group {
+        code.add_gap();
+        push_comment(code, &node.comment);
+        code.add_with(READERS, "name", &name);
+        if request.wanted.builders {
+            push_draft(code, &name, body);
+        }
     }
-    Ok(())
+    if body.discriminant.is_some() {
+        push_members(code, &name, body);
+    }
 }
 
 /// Adds what reads and builds a struct or a group.
-pub fn push_struct(
-    alloc: Global,
-    code: &mut Code,
-    request: &Request,
-    node: &Node,
-    body: &Struct,
-) -> Result<(), AllocError> {
-    let site = Site { request, node };
-    let Some(owner) = owner_of(alloc, site)? else {
-        return Ok(());
+pub fn push_struct(code: &mut Code, site: Site<'_>) {
+    let Some(Some(owner)) = code.kept(owner_of(site)) else {
+        return;
     };
     let scope = Scope {
-        prefix: type_name(alloc, request, node.id)?,
-        owner: type_name(alloc, request, owner.node.id)?,
+        site,
+        prefix: code.text(type_name(site.request, site.node.id)),
+        owner: code.text(type_name(site.request, owner.id)),
     };
-    if !body.is_group {
-        code.add_with(READ, "name", scope.prefix.as_str())?;
+    push_reader(code, &scope);
+    if site.request.wanted.builders {
+        push_builder(code, &scope, &owner);
     }
-    if let Some(offset) = body.discriminant {
-        push_which(alloc, code, WHICH, &scope, offset)?;
-    }
-    push_getters(alloc, code, site, &scope, body)?;
-    if !request.wanted.builders {
-        return Ok(());
-    }
-    if !body.is_group {
-        push_adding(alloc, code, scope.prefix.as_str(), body)?;
-    }
-    if let Some(offset) = body.discriminant {
-        push_which(alloc, code, DRAFT_WHICH, &scope, offset)?;
-    }
-    push_setters(alloc, code, site, &scope, &owner, body)
 }
 
-// Adds what says which member of a union is set, by where its number is.
-fn push_which(
-    alloc: Global,
-    code: &mut Code,
-    template: &str,
-    scope: &Scope,
-    offset: u32,
-) -> Result<(), AllocError> {
-    let holes = Holes::new(alloc)
-        .with("prefix", scope.prefix.as_str())
-        .with("struct", scope.owner.as_str())
-        .holding("offset", format!(in alloc; "{offset}"));
-    code.add(template, &holes)
+// Adds what reads a struct or a group.
+fn push_reader(code: &mut Code, scope: &Scope<'_>) {
+    let site = scope.site;
+    if !site.body.is_group {
+        code.add_with(READ, "name", &scope.prefix);
+    }
+    push_which(code, WHICH, scope);
+    for (index, field) in site.body.fields.iter().enumerate() {
+        push_getter(code, scope, field, site.node.member_comment(index));
+    }
 }
 
-// Adds the getters of a struct's or a group's own fields.
-fn push_getters(
-    alloc: Global,
-    code: &mut Code,
-    site: Site<'_>,
-    scope: &Scope,
-    body: &Struct,
-) -> Result<(), AllocError> {
-    let mut index: usize = 0;
-    for field in body.fields.as_slice() {
-        let comment = match site.node.member_comments.get(index) {
-            Some(comment) => comment.as_str(),
-            None => "",
-        };
-        index = index.saturating_add(1);
-        push_getter(alloc, code, site.request, scope, field, comment)?;
+// Adds what builds a struct or a group.
+fn push_builder(code: &mut Code, scope: &Scope<'_>, owner: &Owner<'_>) {
+    if !scope.site.body.is_group {
+        push_adding(code, &scope.prefix, scope.site.body);
     }
-    Ok(())
+    push_which(code, DRAFT_WHICH, scope);
+    push_setters(code, scope, owner);
+}
+
+// Adds what says which member of a union is set, if there is one.
+fn push_which(code: &mut Code, template: &str, scope: &Scope<'_>) {
+    if let Some(offset) = scope.site.body.discriminant {
+        code.add(template, &scope.holes().number("offset", offset));
+    }
 }

@@ -19,10 +19,6 @@ pub const END: &str = "
 #endif
 ";
 
-/// A header that another one needs, after its own types: each may need the other.
-pub const INCLUDE: &str = "#include \"@name@.h\"
-";
-
 /// What is said of an interface.
 pub const LEFT_OUT_INTERFACE: &str = "
 /* The interface `@name@` is left out. */
@@ -52,10 +48,6 @@ pub const ENUM: &str = "enum @tag@ {
 static inline enum @tag@ @prefix@_of_number(uint16_t number) {
     return number < @count@ ? (enum @tag@)number : @unknown@;
 }
-";
-
-/// A value of an enum.
-pub const ENUMERATOR: &str = "@prefix@_@name@ = @number@,
 ";
 
 /// How a list of enums is read.

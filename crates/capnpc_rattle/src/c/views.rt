@@ -1,44 +1,34 @@
 //! What a pointer points to, as C reads it: a type, and the call that reads it.
 use crate::c::names::type_name;
 use crate::numbers::number_of;
-use crate::schema::{Base, Body, Request, Type};
+use crate::schema::{Base, Request, Type};
 use std::alloc::{AllocError, Global};
 
-/// How what a pointer points to is read.
-#[derive(Drop)]
-pub struct View {
-    /// The name with which its types begin: its reader's has `_reader` after it, and its orphan's
-    /// `_orphan`.
-    pub name: String,
-    /// The call that reads it of `pointer` into `value`.
-    pub call: String,
-}
-
-/// The view of a type; `None` for numbers by themselves, interfaces, and any pointer by itself.
-pub fn view_of(alloc: Global, request: &Request, of: Type) -> Result<Option<View>, AllocError> {
+/// The call that reads a type of `pointer` into `value`; `None` for numbers by themselves,
+/// interfaces, and any pointer by itself.
+pub fn read_call(alloc: Global, of: Type) -> Result<Option<String>, AllocError> {
     let call = match (of.lists, of.base) {
         (_, Base::Interface) => return Ok(None),
-        (0, Base::Text) => String::from_str(alloc, "linsjoar_read_text(&pointer, value)")?,
-        (0, Base::Data) => String::from_str(alloc, "linsjoar_read_data(&pointer, value)")?,
+        (0, Base::Text) => String::from_str(alloc, "linsjoar_read_text(&pointer, value)"),
+        (0, Base::Data) => String::from_str(alloc, "linsjoar_read_data(&pointer, value)"),
         (0, Base::Struct(_)) => {
-            String::from_str(alloc, "linsjoar_read_struct(&pointer, &value->fields)")?
+            String::from_str(alloc, "linsjoar_read_struct(&pointer, &value->fields)")
         }
         (0, _) => return Ok(None),
         _ => {
             let code = element_code(of);
-            format!(in alloc; "linsjoar_read_list(&pointer, {code}, &value->elements)")?
+            format!(in alloc; "linsjoar_read_list(&pointer, {code}, &value->elements)")
         }
     };
-    let name = view_name(alloc, request, of)?;
-    Ok(Some(View { name, call }))
+    Ok(Some(call?))
 }
 
 /// The name with which the types and the calls of a type begin.
-pub fn view_name(alloc: Global, request: &Request, of: Type) -> Result<String, AllocError> {
+pub fn view_name(request: &Request, of: Type) -> Result<String, AllocError> {
     let mut name = match of.base {
-        Base::Struct(id) => type_name(alloc, request, id)?,
-        Base::Enum(id) if has_enumerants(request, id) => type_name(alloc, request, id)?,
-        _ => String::from_str(alloc, library_name(of.base))?,
+        Base::Struct(id) => type_name(request, id)?,
+        Base::Enum(id) if has_enumerants(request, id) => type_name(request, id)?,
+        _ => String::from_str(request.alloc, library_name(of.base))?,
     };
     for _ in 0..of.lists {
         name.push_str("_list")?;
@@ -48,13 +38,7 @@ pub fn view_name(alloc: Global, request: &Request, of: Type) -> Result<String, A
 
 /// Whether an enum is one of C.
 pub fn has_enumerants(request: &Request, id: u64) -> bool {
-    match request.find(id) {
-        Some(node) => match &node.body {
-            Body::Enum(names) => !names.is_empty(),
-            _ => false,
-        },
-        None => false,
-    }
+    !request.enumerants_of(id).is_empty()
 }
 
 // The name with which the library's types and calls of a type begin.
