@@ -1,8 +1,6 @@
-//! The calls of builders and of allocators by hand-computed bytes: what no contract says, above all
-//! that they succeed. Where an allocation fails, these tests may fail.
-mod allocators;
+//! The calls of builders by hand-computed bytes: what no contract says, above all that they succeed.
+//! Where an allocation fails, these tests may fail.
 mod any_roots;
-mod arenas;
 mod asked;
 mod builders;
 mod given_back;

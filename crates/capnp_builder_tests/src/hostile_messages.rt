@@ -3,6 +3,7 @@ use crate::fixtures::expect;
 use capnp_build::allocator::Allocator;
 use capnp_frame::message::{ReaderSegments, SegmentArray};
 use capnp_frame::{ErrorKind, Result};
+use capnp_frame_tests::errors::kind_of;
 use capnp_frame_tests::limits::{DEFAULT_LIMIT, NO_LIMIT};
 use capnp_frame_tests::messages::has_segments;
 use capnp_frame_tests::retried;
@@ -11,15 +12,6 @@ use capnp_object_tests::messages::{Source, reader_of};
 use capnp_object_tests::trees::{doublings, shared_lists};
 use capnp_wire::any_pointer;
 use std::process::Abort;
-
-// The kind of an error. An `OutOfMemory` is handed back.
-fn error_of<T: Drop>(returned: Result<T>) -> Result<Option<ErrorKind>> {
-    match returned {
-        Ok(_) => Ok(None),
-        Err(error) if error.kind == ErrorKind::OutOfMemory => Err(error),
-        Err(error) => Ok(Some(error.kind)),
-    }
-}
 
 /// Sets the root of a message to the root of another one.
 pub fn set<A: Allocator>(message: &mut Builder<A>, reader: &Source<'_>) -> Result<()> {
@@ -35,9 +27,8 @@ pub fn set_canonical<A: Allocator>(message: &mut Builder<A>, reader: &Source<'_>
     )
 }
 
-/// Whether the one word of the message is a null root; where there was no root to set, there is
-/// none.
-pub fn is_null<A: Allocator>(message: &Builder<A>) -> bool {
+// Whether the one word of the message is a null root; where there was no root to set, there is none.
+fn is_null<A: Allocator>(message: &Builder<A>) -> bool {
     message.is_empty() || message.size_in_words() == 1 && has_segments(message, &[&[0; 8]])
 }
 
@@ -50,13 +41,13 @@ fn assert_failure(
 ) -> Result<()> {
     let alloc = rt.alloc();
     let reader = reader_of(segments, limit);
-    let found = error_of(reader.canonicalize(alloc))?;
+    let found = kind_of(reader.canonicalize(alloc))?;
     expect(rt, segments, found, Some(canonical));
     let mut message: Builder<HeapAllocator> = Builder::new_default(alloc);
-    let found = error_of(set(&mut message, &reader))?;
+    let found = kind_of(set(&mut message, &reader))?;
     expect(rt, segments, found, Some(untrimmed));
     assert!(rt; is_null(&message));
-    let found = error_of(set_canonical(&mut message, &reader))?;
+    let found = kind_of(set_canonical(&mut message, &reader))?;
     expect(rt, segments, found, Some(in_canonical_form));
     assert!(rt; is_null(&message));
     Ok(())

@@ -1,5 +1,5 @@
 //! Cases of objects that are built: messages, values, allocators and their regions; and the calls
-//! of builders and allocators. The crate holds tests alone, by the rules of `capnp_frame_tests`.
+//! of builders and allocators. The crate holds tests alone, by the rules of `capnp_stream_tests`.
 #![tactic(auto)]
 
 #[cfg(test)]
@@ -22,3 +22,5 @@ mod read_lists;
 mod regions;
 #[cfg(test)]
 mod values;
+#[cfg(test)]
+mod watched;

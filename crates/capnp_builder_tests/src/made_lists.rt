@@ -131,7 +131,6 @@ fn made_lists_of_structs_are_at_the_root(rt: HostRuntime) -> Result<()> {
     let entries = [entry("123", 1), entry("4567890", 0x203), entry("", 65535)];
     let list = LazyStructList::new(Entries { entries: &entries });
     compare_by_each::<struct_list::Owned, Phones<'_>>(&rt, &list, PHONES)?;
-    compare_canonical::<struct_list::Owned, Phones<'_>>(&rt, &list, PHONES)?;
     let zeros = [entry("Ann", 0), entry("Bo", 0)];
     let list = LazyStructList::new(Entries { entries: &zeros });
     compare_canonical::<struct_list::Owned, Phones<'_>>(&rt, &list, NO_NUMBERS)
@@ -141,8 +140,7 @@ fn made_lists_of_structs_are_at_the_root(rt: HostRuntime) -> Result<()> {
 fn made_lists_of_pointers_are_at_the_root(rt: HostRuntime) -> Result<()> {
     let names = ["Ann", "ab cd ef", ""];
     let list = LazyPointerList::new(Names { names: &names });
-    compare_by_each::<text_list::Owned, Texts<'_>>(&rt, &list, NAMES)?;
-    compare_canonical::<text_list::Owned, Texts<'_>>(&rt, &list, NAMES)
+    compare_by_each::<text_list::Owned, Texts<'_>>(&rt, &list, NAMES)
 }
 
 // Both as fields of a struct.
@@ -153,6 +151,5 @@ fn made_lists_are_in_structs(rt: HostRuntime) -> Result<()> {
     let phones = LazyStructList::new(Entries { entries: &entries });
     let texts = LazyPointerList::new(Names { names: &names });
     let person = StructValue::new([9], Field::new(texts, Field::new(phones, NoFields)));
-    compare_by_each::<any_struct::Owned, Person<'_>>(&rt, &person, PERSON)?;
-    compare_canonical::<any_struct::Owned, Person<'_>>(&rt, &person, PERSON)
+    compare_by_each::<any_struct::Owned, Person<'_>>(&rt, &person, PERSON)
 }

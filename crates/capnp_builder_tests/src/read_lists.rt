@@ -84,8 +84,6 @@ fn lists_of_pointers_are_set_again(rt: HostRuntime) -> Result<()> {
     let names = plain_arena(&[NAMES]);
     compare_read::<_, any_pointer_list::Owned, Pointers<'_>>(&rt, &names, NAMES)?;
     compare_read::<_, text_list::Owned, Texts<'_>>(&rt, &names, NAMES)?;
-    let list: Texts<'_> = root_as(&names)?;
-    compare_canonical::<text_list::Owned, Texts<'_>>(&rt, &list, NAMES)?;
     let lists = plain_arena(&[LISTS]);
     compare_read::<_, list_list::Owned<primitive_list::Owned<u16>>, Lists<'_>>(&rt, &lists, LISTS)
 }

@@ -1,14 +1,14 @@
-//! Regions that come back from builders, and heaps after a failed allocation.
+//! Regions that come back from builders.
 use crate::building::{expect_segments, expect_zeros, set_canonical_text, set_text, text_of};
 use crate::fixtures::expect;
-use crate::hostile_messages::{is_null, set, set_canonical};
+use crate::hostile_messages::{set, set_canonical};
 use capnp_build::allocator::Allocator;
 use capnp_frame::message::ReaderSegments;
 use capnp_frame::serialize::{is_writable, write_segments};
 use capnp_frame::{ErrorKind, Result};
 use capnp_frame_tests::limits::NO_LIMIT;
 use capnp_frame_tests::retried;
-use capnp_message::{Builder, HeapAllocator, ScratchSpaceHeapAllocator, SingleSegmentAllocator};
+use capnp_message::{Builder, ScratchSpaceHeapAllocator, SingleSegmentAllocator};
 use capnp_object_tests::arenas::kind_of;
 use capnp_object_tests::messages::reader_of;
 use capnp_object_tests::trees::shared_lists;
@@ -48,26 +48,31 @@ fn a_single_region_comes_home(rt: HostRuntime) {
     expect_zeros(&rt, "the region", &region);
 }
 
-// A scratch region that is too small for the text serves for the root alone.
+// A scratch region that has too little room left for the text serves for the root alone, also where
+// it is large enough for the segment that is asked for, since it is out.
 #[test]
 fn a_scratch_region_comes_home(rt: HostRuntime) -> Result<()> {
-    retried!(set_past_a_region(&rt))
+    retried!(set_past_a_region(&rt, 16))?;
+    retried!(set_past_a_region(&rt, 56))
 }
 
-fn set_past_a_region(rt: &(impl Abort + AllocGlobal)) -> Result<()> {
-    let mut region = [7; 16];
-    let mut scratch = ScratchSpaceHeapAllocator::new(rt.alloc(), &mut region);
+// Of the bytes of a region there are 56 at most.
+fn set_past_a_region(rt: &(impl Abort + AllocGlobal), bytes: usize) -> Result<()> {
+    let mut region = [7; 56];
+    let region = &mut region[..bytes.min(56)];
+    let mut scratch = ScratchSpaceHeapAllocator::new(rt.alloc(), region);
     let mut message = Builder::new(rt.alloc(), &mut scratch);
+    set_text(&mut message, "hello")?;
     // The list of segments and the heap's segment are made, or one of them fails.
     if let Some(kind) = kind_of(set_text(&mut message, LONG)) {
         assert!(rt; kind == ErrorKind::OutOfMemory);
-        assert!(rt; is_null(&message) && !message.is_empty());
+        expect_segments(rt, "the root's segment", &message, &[&[0; 16]]);
         set_text(&mut message, LONG)?;
     }
     expect(rt, "the text", text_of(&message)?, LONG.as_bytes());
     drop(message);
     drop(scratch);
-    expect_zeros(rt, "the region", &region);
+    expect_zeros(rt, "the region", region);
     Ok(())
 }
 
@@ -98,28 +103,6 @@ fn set_what_is_too_large(rt: &(impl Abort + AllocGlobal)) -> Result<()> {
     drop(message);
     drop(scratch);
     expect_zeros(rt, "the region", &region);
-    Ok(())
-}
-
-// Requests of a heap whose first segment has 16 words and whose largest has 31, in words, and the
-// segments that it hands out.
-const HANDED_OUT: [(u32, &[u8]); 3] = [(1, &[0; 128]), (1, &[0; 248]), (100, &[0; 800])];
-
-fn next_segment(heap: &mut HeapAllocator, words: u32) -> Result<Vec<u8>> {
-    heap.allocate_segment(words)
-}
-
-// A failed allocation changes nothing: the next request has the same size, and the one after it
-// the most.
-#[test]
-fn a_heap_that_fails(rt: HostRuntime) -> Result<()> {
-    let mut heap = HeapAllocator::new(rt.alloc())
-        .first_segment_words(16)
-        .max_segment_words(31);
-    for (words, wanted) in &HANDED_OUT {
-        let segment = retried!(next_segment(&mut heap, *words))?;
-        expect(&rt, *words, segment.as_slice(), *wanted);
-    }
     Ok(())
 }
 

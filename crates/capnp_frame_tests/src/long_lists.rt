@@ -24,58 +24,19 @@ const BYTES: u64 = 2;
 // A struct of a data word and a pointer, above what says where it is or how many there are.
 const DATA_AND_POINTER: u64 = 1 << 32 | 1 << 48;
 
-/// The number of an element: its index, and the index again four bytes on.
-pub fn number(index: u32) -> u64 {
+// The number of an element: its index, and the index again four bytes on.
+fn number(index: u32) -> u64 {
     let index = index as u64;
     index | index << 32
 }
 
-/// Whether a bit of a list is set: one in three is.
-pub fn is_set(index: u32) -> bool {
+// Whether a bit of a list is set: one in three is.
+fn is_set(index: u32) -> bool {
     index % 3 == 0
 }
 
-/// What the elements of a list are: the low bytes of `number`, or whether a bit is set.
-pub trait Numbered {
-    fn at(index: u32) -> Self;
-}
-
-impl Numbered for () {
-    fn at(_index: u32) -> Self {}
-}
-
-impl Numbered for bool {
-    fn at(index: u32) -> Self {
-        is_set(index)
-    }
-}
-
-impl Numbered for u8 {
-    fn at(index: u32) -> Self {
-        (number(index) % 256) as u8
-    }
-}
-
-impl Numbered for i16 {
-    fn at(index: u32) -> Self {
-        ((number(index) % 65_536) as u16).cast_signed()
-    }
-}
-
-impl Numbered for u32 {
-    fn at(index: u32) -> Self {
-        index
-    }
-}
-
-impl Numbered for u64 {
-    fn at(index: u32) -> Self {
-        number(index)
-    }
-}
-
-/// The text of an element: seven digits of its index, with zeros in front.
-pub fn digits(index: u32) -> [u8; 7] {
+// The text of an element: seven digits of its index, with zeros in front.
+fn digits(index: u32) -> [u8; 7] {
     [
         digit(index / 1_000_000),
         digit(index / 100_000),

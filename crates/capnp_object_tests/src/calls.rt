@@ -3,10 +3,6 @@
 mod canonical_messages;
 mod counts;
 mod empty_structs;
-mod enum_lists;
-mod list_values;
 mod long_lists;
 mod printing;
 mod traversals;
-mod unlimited_roots;
-mod values;

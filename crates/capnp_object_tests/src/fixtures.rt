@@ -1,18 +1,15 @@
 //! What these tests share: what views and walks say of roots, and what is expected at a case.
-pub use crate::arenas::{
-    Arena, Numbered, Walked, arena_of, kind_of, plain_arena, root_as, text_at,
-};
+pub use crate::arenas::{Arena, Walked, arena_of, plain_arena, root_as, text_at};
 use capnp_frame::Result;
 use capnp_frame::message::ReaderSegments;
 use capnp_wire::any_struct::StructReader;
 use capnp_wire::arena::ReaderArena;
 use capnp_wire::upgraded::EnumElement;
-use capnp_wire::{any_pointer, text};
 use std::fmt::Debug;
 use std::process::Abort;
 
 /// A value of an enum that names none of its numbers.
-#[derive(PartialEq, Eq, Hash, Debug, Drop)]
+#[derive(PartialEq, Eq, Hash, Drop)]
 pub struct Unnamed(pub u16);
 
 impl EnumElement for Unnamed {
@@ -33,18 +30,7 @@ pub fn expect<R: Debug + Drop, T: PartialEq + Debug + Drop>(
     assert!(rt; found == wanted, "at {case:?}: {found:?} is not {wanted:?}");
 }
 
-pub fn root_as_text<S: ReaderSegments>(arena: &ReaderArena<S>) -> Result<&[u8]> {
-    let text: text::Reader<'_> = root_as(arena)?;
-    Ok(text.as_bytes())
-}
-
 pub fn root_as_struct<S: ReaderSegments>(arena: &ReaderArena<S>) -> Result<StructReader<'_, S>> {
-    root_as(arena)
-}
-
-pub fn root_as_any<S: ReaderSegments>(
-    arena: &ReaderArena<S>,
-) -> Result<any_pointer::Reader<'_, S>> {
     root_as(arena)
 }
 

@@ -1,5 +1,5 @@
 //! Cases of objects that are read: hostile pointers, and the calls of views; and what the tests of
-//! builders share with them. The crate holds tests by the rules of `capnp_frame_tests`.
+//! builders share with them. The crate holds tests by the rules of `capnp_stream_tests`.
 #![tactic(auto)]
 
 pub mod arenas;

@@ -1,26 +1,16 @@
 //! Segments of many objects in few words, over which walks are long.
 use capnp_frame::Result;
+use capnp_frame_tests::long_lists::append;
 use std::alloc::Global;
-
-// A struct of one pointer.
-const ONE: u64 = 1 << 48;
 
 // A struct of two pointers.
 const TWO: u64 = 2 << 48;
 
-fn append(bytes: &mut Vec<u8>, word: u64) -> Result<()> {
-    bytes.extend_from_slice(&word.to_le_bytes())?;
-    Ok(())
-}
-
-/// A given number of structs, each after its one pointer.
-pub fn chain(alloc: Global, length: usize) -> Result<Vec<u8>> {
-    let mut bytes: Vec<u8> = Vec::new(alloc);
-    for _ in 0..length {
-        append(&mut bytes, ONE)?;
+fn append_zeros(bytes: &mut Vec<u8>, words: u16) -> Result<()> {
+    for _ in 0..words {
+        append(bytes, 0)?;
     }
-    append(&mut bytes, 0)?;
-    Ok(bytes)
+    Ok(())
 }
 
 /// Structs of a given number of data words and two pointers, both of them to the next struct: a
@@ -35,16 +25,8 @@ pub fn doublings(alloc: Global, data_words: u16) -> Result<Vec<u8>> {
         append(&mut bytes, next)?;
     }
     append_zeros(&mut bytes, data_words)?;
-    append(&mut bytes, 0)?;
-    append(&mut bytes, 0)?;
+    append_zeros(&mut bytes, 2)?;
     Ok(bytes)
-}
-
-fn append_zeros(bytes: &mut Vec<u8>, words: u16) -> Result<()> {
-    for _ in 0..words {
-        append(bytes, 0)?;
-    }
-    Ok(())
 }
 
 /// A list of 65,536 pointers, all of them to the same list of 8,192 zero words.
@@ -54,8 +36,6 @@ pub fn shared_lists(alloc: Global) -> Result<Vec<u8>> {
     for left in (0..65536).rev() {
         append(&mut bytes, 0x0001_0005_0000_0001 + 4 * left)?;
     }
-    for _ in 0..8192 {
-        append(&mut bytes, 0)?;
-    }
+    append_zeros(&mut bytes, 8192)?;
     Ok(bytes)
 }

@@ -2,6 +2,7 @@
 use capnp_frame::Result;
 use capnp_orphans::{DraftSource, GrowingSegment, Orphan, Orphanage, StructDraft};
 use capnp_values::{Field, NoFields, StructValue};
+use capnp_wire::primitive_element::PrimitiveElement;
 use capnp_wire::{any_pointer, any_struct, primitive_list, text};
 use std::marker::PhantomData;
 
@@ -35,13 +36,13 @@ pub fn build<S: GrowingSegment>(
         Built::Null => Ok(Orphan::null()),
         Built::Text => short_text(objects),
         Built::Data => three_bytes(objects),
-        Built::Voids => voids(objects),
-        Built::Bools => bools(objects),
-        Built::Shorts => shorts(objects),
-        Built::Doubles => doubles(objects),
-        Built::EmptyStruct => empty_struct(objects),
+        Built::Voids => numbers(objects, &[(), (), ()]),
+        Built::Bools => numbers(objects, &[true, false, true]),
+        Built::Shorts => numbers::<S, i16>(objects, &[1, -2, 3]),
+        Built::Doubles => numbers::<S, f64>(objects, &[1.0, -2.0]),
+        Built::EmptyStruct => add(objects, &empty()),
         Built::Struct => person(objects),
-        Built::Masked => masked_struct(objects),
+        Built::Masked => add(objects, &masked()),
         Built::Texts => texts(objects),
         Built::Lists => lists(objects),
         Built::Structs => structs(objects),
@@ -61,32 +62,18 @@ fn three_bytes<S: GrowingSegment>(
     Ok(objects.data(&[1, 2, 255])?.of_type())
 }
 
-fn voids<S: GrowingSegment>(objects: &mut Orphanage<S>) -> Result<Orphan<any_pointer::Owned>> {
-    Ok(objects.numbers(&[(), (), ()])?.of_type())
-}
-
-fn bools<S: GrowingSegment>(objects: &mut Orphanage<S>) -> Result<Orphan<any_pointer::Owned>> {
-    Ok(objects.numbers(&[true, false, true])?.of_type())
-}
-
-fn shorts<S: GrowingSegment>(objects: &mut Orphanage<S>) -> Result<Orphan<any_pointer::Owned>> {
-    Ok(objects.numbers::<i16>(&[1, -2, 3])?.of_type())
-}
-
-fn doubles<S: GrowingSegment>(objects: &mut Orphanage<S>) -> Result<Orphan<any_pointer::Owned>> {
-    Ok(objects.numbers::<f64>(&[1.0, -2.0])?.of_type())
-}
-
-fn empty_struct<S: GrowingSegment>(
+fn numbers<S: GrowingSegment, N: PrimitiveElement + Copy>(
     objects: &mut Orphanage<S>,
+    items: &[N],
 ) -> Result<Orphan<any_pointer::Owned>> {
-    Ok(objects.add(&empty())?.of_type())
+    Ok(objects.numbers(items)?.of_type())
 }
 
-fn masked_struct<S: GrowingSegment>(
+fn add<S: GrowingSegment, const D: usize, const P: usize>(
     objects: &mut Orphanage<S>,
+    draft: &StructDraft<any_struct::Owned, D, P>,
 ) -> Result<Orphan<any_pointer::Owned>> {
-    Ok(objects.add(&masked())?.of_type())
+    Ok(objects.add(draft)?.of_type())
 }
 
 fn made_structs<S: GrowingSegment>(
@@ -106,7 +93,7 @@ fn person<S: GrowingSegment>(objects: &mut Orphanage<S>) -> Result<Orphan<any_po
     draft.set_data_field::<u32>(1, 123);
     draft.set_data_field(0, true);
     draft.adopt(0, name);
-    Ok(objects.add(&draft)?.of_type())
+    add(objects, &draft)
 }
 
 // 5 where 4 is the default, and the default itself.

@@ -2,7 +2,6 @@
 //! allocation fails, these tests may fail.
 mod callers;
 mod cases;
-mod examples;
 mod long_lists;
 mod many_bytes;
 mod read_lists;

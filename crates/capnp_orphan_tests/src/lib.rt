@@ -11,11 +11,7 @@ mod errors;
 #[cfg(test)]
 mod fixtures;
 #[cfg(test)]
-mod kept_memory;
-#[cfg(test)]
 mod printed_capnp;
-#[cfg(test)]
-mod regions;
 mod uses;
 
 #[cfg(test)]

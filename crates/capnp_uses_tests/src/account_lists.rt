@@ -1,11 +1,8 @@
 //! Accounts that are built from the bottom up, by hand-computed bytes, and where they fail.
 use crate::fixtures::{expect, limited};
-use capnp::message::Reader;
-use capnp::serialize::OwnedSegments;
 use capnp::{ErrorKind, Result};
 use capnp_frame_tests::errors::kind_of;
 use capnp_frame_tests::messages::has_segments;
-use capnp_frame_tests::retried;
 use capnp_orphans::Orphanage;
 use capnp_uses::account_list::{NewAccount, accounts_are_read_back, list_of_accounts};
 use std::alloc::Global;
@@ -24,17 +21,12 @@ const ACCOUNTS: [NewAccount<'static>; 2] = [
     NewAccount { id: 8, name: "" },
 ];
 
-// The message of both accounts, which is read back within a limit of words.
-fn both(alloc: Global, limit: usize) -> Result<Reader<OwnedSegments>> {
-    accounts_are_read_back(alloc, &ACCOUNTS, limited(Some(limit)))
-}
-
 // It has eight words.
 #[test]
 fn accounts_are_built_and_read_back(rt: HostRuntime) -> Result<()> {
-    let message = retried!(both(rt.alloc(), 8))?;
+    let message = accounts_are_read_back(rt.alloc(), &ACCOUNTS, limited(Some(8)))?;
     assert!(rt; has_segments(message.get_segments(), &[BUILT]));
-    let failed = retried!(kind_of(both(rt.alloc(), 7)))?;
+    let failed = kind_of(accounts_are_read_back(rt.alloc(), &ACCOUNTS, limited(Some(7))))?;
     expect(
         &rt,
         "a limit of 7",
@@ -59,8 +51,7 @@ const REGIONS: [(usize, Option<ErrorKind>); 6] = [
 #[test]
 fn lists_that_have_no_room(rt: HostRuntime) -> Result<()> {
     for (room, wanted) in &REGIONS {
-        let failed = retried!(error_in(rt.alloc(), *room))?;
-        expect(&rt, *room, failed, *wanted);
+        expect(&rt, *room, error_in(rt.alloc(), *room)?, *wanted);
     }
     Ok(())
 }

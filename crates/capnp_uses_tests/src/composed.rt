@@ -2,9 +2,7 @@
 //! "Lists").
 use crate::fixtures::expect;
 use capnp::Result;
-use capnp::any_struct::StructReader;
-use capnp::message::{Builder, HeapAllocator, Reader, ReaderOptions};
-use capnp::serialize::OwnedSegments;
+use capnp::message::{Builder, HeapAllocator, ReaderOptions};
 use capnp::streams::Format;
 use capnp_frame_tests::messages::has_segments;
 use capnp_uses::values::{contact_is_read_back, person_is_read_back, phone};
@@ -24,45 +22,40 @@ const CONTACT: &[u8] = b"\0\0\0\0\x01\0\x03\0\x09\0\0\0\0\0\0\0\
     \x01\0\0\0\0\0\0\0\x09\0\0\0\x22\0\0\0\x02\0\0\0\0\0\0\0\x05\0\0\0\x42\0\0\0\
     123\0\0\0\0\04567890\0";
 
-// The first data word of the struct at the root.
-fn first_word(reader: &Reader<OwnedSegments>) -> Result<u64> {
-    let fields: StructReader<'_, OwnedSegments> = reader.get_root()?;
-    Ok(fields.get_word(0))
-}
-
 const FORMATS: [Format; 2] = [Format::Framed, Format::Packed];
 
-type Message = Builder<HeapAllocator>;
-
-fn person(alloc: Global, format: Format, message: &mut Message) -> Result<Reader<OwnedSegments>> {
-    let options = ReaderOptions::new();
-    person_is_read_back(alloc, format, message, 9, "Ann", "Bonn", options)
+// What is read back contracts say.
+#[test]
+fn people_and_contacts_are_built(rt: HostRuntime) -> Result<()> {
+    for format in &FORMATS {
+        let person = build_person(rt.alloc(), *format)?;
+        expect(&rt, *format, has_segments(&person, &[PERSON]), true);
+        let contact = build_contact(rt.alloc(), *format)?;
+        expect(&rt, *format, has_segments(&contact, &[CONTACT]), true);
+    }
+    Ok(())
 }
 
-fn contact(alloc: Global, format: Format, message: &mut Message) -> Result<Reader<OwnedSegments>> {
+fn build_person(alloc: Global, format: Format) -> Result<Builder<HeapAllocator>> {
+    let options = ReaderOptions::new();
+    let mut message = Builder::new_default(alloc);
+    person_is_read_back(alloc, format, &mut message, 9, "Ann", "Bonn", options)?;
+    Ok(message)
+}
+
+fn build_contact(alloc: Global, format: Format) -> Result<Builder<HeapAllocator>> {
     let phones = [phone("123", 1), phone("4567890", 2)];
     let options = ReaderOptions::new();
-    contact_is_read_back(alloc, format, message, 9, "Ann", "a@b", &phones, options)
-}
-
-#[test]
-fn people_are_read_back(rt: HostRuntime) -> Result<()> {
-    for format in &FORMATS {
-        let mut message = Builder::new_default(rt.alloc());
-        let reader = person(rt.alloc(), *format, &mut message)?;
-        expect(&rt, *format, first_word(&reader)?, 9);
-        assert!(rt; has_segments(&message, &[PERSON]));
-    }
-    Ok(())
-}
-
-#[test]
-fn contacts_are_read_back(rt: HostRuntime) -> Result<()> {
-    for format in &FORMATS {
-        let mut message = Builder::new_default(rt.alloc());
-        let reader = contact(rt.alloc(), *format, &mut message)?;
-        expect(&rt, *format, first_word(&reader)?, 9);
-        assert!(rt; has_segments(&message, &[CONTACT]));
-    }
-    Ok(())
+    let mut message = Builder::new_default(alloc);
+    contact_is_read_back(
+        alloc,
+        format,
+        &mut message,
+        9,
+        "Ann",
+        "a@b",
+        &phones,
+        options,
+    )?;
+    Ok(message)
 }

@@ -1,12 +1,13 @@
 //! Messages of more than 100,000 words, in which no two objects or numbers are equal: read, packed,
 //! copied and made canonical.
-use crate::fixtures::{Message, Source, expect, message_of, set_root, set_root_canonical};
-use crate::large_messages::{framed_encoding, has_segment, pack, read_framed, read_packed, unpack};
-use capnp::Result;
-use capnp::message::{Builder, DEFAULT_READER_OPTIONS, HeapAllocator};
-use capnp_frame_tests::long_lists::{
-    Texts, append_packed, list_of_numbers, list_of_structs, list_of_texts,
+use crate::fixtures::{
+    Message, Source, expect, message_of, set_root, set_root_canonical, transcoded,
 };
+use crate::large_messages::{read_framed, read_packed};
+use capnp::message::{Builder, DEFAULT_READER_OPTIONS, HeapAllocator};
+use capnp::{Result, Way};
+use capnp_frame_tests::long_lists::{Texts, list_of_numbers, list_of_structs, list_of_texts};
+use capnp_frame_tests::messages::has_segments;
 use std::alloc::Global;
 use std::process::Abort;
 
@@ -18,80 +19,69 @@ const TEXTS_COUNT: u32 = 50_005;
 
 const STRUCTS_COUNT: u32 = 33_335;
 
+// What is read and written contracts say.
 #[test]
 fn many_words_by_each_format(rt: HostRuntime) -> Result<()> {
     let segment = list_of_numbers(rt.alloc(), 8, NUMBERS_COUNT)?;
-    expect(&rt, "words", segment.len() / 8, 100_005);
-    let framed = framed_encoding(rt.alloc(), &segment)?;
-    let mut packed: Vec<u8> = Vec::new(rt.alloc());
-    for word in framed.chunks(8) {
-        let mut bytes = [0; 8];
-        bytes[..word.len().min(8)].copy_from_slice(&word[..word.len().min(8)]);
-        append_packed(&mut packed, u64::from_le_bytes(bytes))?;
-    }
-    assert!(rt; pack(&rt, &framed)? == packed);
-    read_framed(&rt, &framed, &segment)?;
-    read_packed(&rt, &packed, &segment)?;
-    unpack(&rt, &packed, &framed)?;
+    let mut framed = ((segment.len() as u64 / 8) << 32)
+        .to_le_bytes()
+        .to_vec(rt.alloc())?;
+    framed.extend_from_slice(&segment)?;
+    read_framed(rt.alloc(), &framed)?;
+    read_packed_and_unpack(rt.alloc(), &framed)?;
     compare(&rt, &segment, &segment)
+}
+
+fn read_packed_and_unpack(alloc: Global, framed: &[u8]) -> Result<()> {
+    let (packed, _) = transcoded(alloc, Way::Pack, framed)?;
+    read_packed(alloc, &packed)?;
+    transcoded(alloc, Way::Unpack, &packed)?;
+    Ok(())
 }
 
 #[test]
 fn many_objects(rt: HostRuntime) -> Result<()> {
-    let alloc = rt.alloc();
-    let form = list_of_texts(alloc, Texts::After, TEXTS_COUNT)?;
-    compare(
-        &rt,
-        &list_of_texts(alloc, Texts::Before, TEXTS_COUNT)?,
-        &form,
-    )?;
-    let form = list_of_structs(alloc, Texts::After, STRUCTS_COUNT)?;
-    compare(
-        &rt,
-        &list_of_structs(alloc, Texts::Before, STRUCTS_COUNT)?,
-        &form,
-    )
+    let form = list_of_texts(rt.alloc(), Texts::After, TEXTS_COUNT)?;
+    let texts = list_of_texts(rt.alloc(), Texts::Before, TEXTS_COUNT)?;
+    compare(&rt, &texts, &form)?;
+    let form = list_of_structs(rt.alloc(), Texts::After, STRUCTS_COUNT)?;
+    let structs = list_of_structs(rt.alloc(), Texts::Before, STRUCTS_COUNT)?;
+    compare(&rt, &structs, &form)
+}
+
+// A segment, and its canonical form, which is as long and as what a copy has.
+fn compare(rt: &(impl Abort + AllocGlobal), segment: &[u8], form: &[u8]) -> Result<()> {
+    let segments = [segment];
+    let reader = message_of(&segments, DEFAULT_READER_OPTIONS);
+    let root: Source<'_> = reader.get_root()?;
+    expect(
+        rt,
+        "words",
+        root.target_size()?.word_count,
+        (segment.len() as u64 / 8).saturating_sub(1),
+    );
+    expect(rt, "canonical", reader.is_canonical()?, segment == form);
+    reader.canonical_segment(rt.alloc())?;
+    expect(rt, "a copy", has_copy(rt.alloc(), &reader, form)?, true);
+    expect(rt, "the form", has_form(rt.alloc(), &reader, form)?, true);
+    Ok(())
+}
+
+// Whether a root that is set to the message's, untrimmed or in canonical form, has this segment.
+fn has_copy(alloc: Global, reader: &Message<'_>, segment: &[u8]) -> Result<bool> {
+    let mut message = roomy(alloc);
+    set_root(&mut message, reader.get_root()?)?;
+    Ok(has_segments(&message, &[segment]))
+}
+
+fn has_form(alloc: Global, reader: &Message<'_>, segment: &[u8]) -> Result<bool> {
+    let mut message = roomy(alloc);
+    set_root_canonical(&mut message, reader.get_root()?)?;
+    Ok(has_segments(&message, &[segment]))
 }
 
 // A message whose first segment has room for each of these.
 fn roomy(alloc: Global) -> Builder<HeapAllocator> {
     let heap = HeapAllocator::new(alloc).first_segment_words(1 << 17);
     Builder::new(alloc, heap)
-}
-
-// A segment and its canonical form, which is as long.
-fn compare(rt: &(impl Abort + AllocGlobal), segment: &[u8], form: &[u8]) -> Result<()> {
-    assert!(rt; segment.len() > 800_000);
-    let segments = [segment];
-    let reader = message_of(&segments, DEFAULT_READER_OPTIONS);
-    expect(
-        rt,
-        "words",
-        words_of(&reader)?,
-        segment.len() as u64 / 8 - 1,
-    );
-    expect(rt, "canonical", reader.is_canonical()?, segment == form);
-    assert!(rt; reader.canonical_segment(rt.alloc())?.as_slice() == form);
-    assert!(rt; has_segment(&copy_of(rt.alloc(), &reader)?, form));
-    assert!(rt; has_segment(&form_of(rt.alloc(), &reader)?, form));
-    Ok(())
-}
-
-// How many words the root's tree has.
-fn words_of(reader: &Message<'_>) -> Result<u64> {
-    let root: Source<'_> = reader.get_root()?;
-    Ok(root.target_size()?.word_count)
-}
-
-// A message whose root is set to this one's, and one in canonical form.
-fn copy_of(alloc: Global, reader: &Message<'_>) -> Result<Builder<HeapAllocator>> {
-    let mut message = roomy(alloc);
-    set_root(&mut message, reader.get_root()?)?;
-    Ok(message)
-}
-
-fn form_of(alloc: Global, reader: &Message<'_>) -> Result<Builder<HeapAllocator>> {
-    let mut message = roomy(alloc);
-    set_root_canonical(&mut message, reader.get_root()?)?;
-    Ok(message)
 }

@@ -1,5 +1,5 @@
-//! Tests of the callers in `capnp_uses`, by hand-computed bytes, and of messages and limits of many
-//! words.
+//! Tests of the callers in `capnp_uses`: what they build, by hand-computed bytes, and that they
+//! succeed where memory suffices; and of messages and limits of many words.
 //!
 //! The crate holds tests alone.
 #![tactic(auto)]

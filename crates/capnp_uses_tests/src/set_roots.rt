@@ -1,12 +1,12 @@
 //! The callers that set a root to what another message holds, by the words that the segment then
 //! has.
-use crate::fixtures::{Message, Source, expect, message_of};
+use crate::fixtures::{Message, expect, message_of, roomy_message};
 use capnp::Result;
 use capnp::message::{Builder, HeapAllocator, ReaderOptions};
 use capnp_frame_tests::messages::has_segments;
+use capnp_uses::roots::{copy_root, set_text_is_read_back};
 use capnp_uses::setting::{set_canonical, set_tree, set_tree_and_word};
 use std::alloc::Global;
-use std::process::Abort;
 
 // A struct of two data words, the last one zero, and a text, after a far pointer: with the landing
 // pad five words are counted against the traversal limit.
@@ -45,17 +45,26 @@ enum Way {
     Untrimmed,
     WithAWord,
     Canonical,
+    // Untrimmed, from the message.
+    Copied,
 }
 
-const WAYS: [Way; 3] = [Way::Untrimmed, Way::WithAWord, Way::Canonical];
+// The ways, with which of the forms each makes.
+const WAYS: [(Way, usize); 4] = [
+    (Way::Untrimmed, 0),
+    (Way::WithAWord, 1),
+    (Way::Canonical, 2),
+    (Way::Copied, 0),
+];
 
 // A new message whose root is set.
-fn set(alloc: Global, root: Source<'_>, way: Way) -> Result<Builder<HeapAllocator>> {
+fn set(alloc: Global, reader: &Message<'_>, way: Way) -> Result<Builder<HeapAllocator>> {
     let mut message = Builder::new_default(alloc);
     match way {
-        Way::Untrimmed => set_tree(&mut message, root)?,
-        Way::WithAWord => set_tree_and_word(&mut message, root, 9)?,
-        Way::Canonical => set_canonical(&mut message, root)?,
+        Way::Untrimmed => set_tree(&mut message, reader.get_root()?)?,
+        Way::WithAWord => set_tree_and_word(&mut message, reader.get_root()?, 9)?,
+        Way::Canonical => set_canonical(&mut message, reader.get_root()?)?,
+        Way::Copied => copy_root(&mut message, reader)?,
     }
     Ok(message)
 }
@@ -64,20 +73,19 @@ fn set(alloc: Global, root: Source<'_>, way: Way) -> Result<Builder<HeapAllocato
 fn roots_of_other_messages(rt: HostRuntime) -> Result<()> {
     for (segments, forms) in &FORMS {
         let reader = message_of(segments, ReaderOptions::new());
-        expect_forms(&rt, &reader, forms)?;
+        for (way, form) in &WAYS {
+            let message = set(rt.alloc(), &reader, *way)?;
+            let wanted = forms[*form % 3];
+            expect(&rt, (*way, wanted), has_segments(&message, &[wanted]), true);
+        }
     }
     Ok(())
 }
 
-fn expect_forms(
-    rt: &(impl Abort + AllocGlobal),
-    reader: &Message<'_>,
-    forms: &[&[u8]; 3],
-) -> Result<()> {
-    for index in 0..3usize {
-        let message = set(rt.alloc(), reader.get_root()?, WAYS[index])?;
-        let is_there = has_segments(&message, &[forms[index]]);
-        expect(rt, (WAYS[index], forms[index]), is_there, true);
-    }
+// The first segment has room for the root's word alone.
+#[test]
+fn a_text_is_read_back(rt: HostRuntime) -> Result<()> {
+    let mut message = roomy_message(rt.alloc(), 1);
+    assert!(rt; set_text_is_read_back(&mut message, "hello")?);
     Ok(())
 }

@@ -1,38 +1,40 @@
 //! The calls that stand for the root of a message that is built, whatever it points to.
 use crate::building::expect_segments;
-use crate::calls::arenas::{Words, arena_of};
 use crate::fixtures::expect;
 use capnp_build::{any_pointer, any_struct, primitive_list, text};
 use capnp_frame::Result;
 use capnp_frame_tests::errors::allocation_error;
+use capnp_message::{Builder, HeapAllocator};
 use std::process::Abort;
 
+type Message = Builder<HeapAllocator>;
+
 // Whether the root is null, and the words of what it points to.
-fn outline(arena: &mut Words) -> Result<(bool, u64)> {
-    let root = arena.get_root::<any_pointer::Owned>()?;
+fn outline(message: &mut Message) -> Result<(bool, u64)> {
+    let root = message.get_root::<any_pointer::Owned>()?;
     Ok((root.is_null(), root.target_size()?.word_count))
 }
 
 // Whether a text that is set is the root.
-fn set_hello(arena: &mut Words) -> Result<bool> {
-    let mut root = arena.get_root::<any_pointer::Owned>()?;
+fn set_hello(message: &mut Message) -> Result<bool> {
+    let mut root = message.get_root::<any_pointer::Owned>()?;
     root.set_as::<text::Owned, &str>("hello")?;
     Ok(root.get_as::<text::Owned>()?.as_bytes() == b"hello".as_slice())
 }
 
-fn list_error(arena: &mut Words) -> Result<(u8, u32)> {
-    let root = arena.get_root::<any_pointer::Owned>()?;
+fn list_error(message: &mut Message) -> Result<(u8, u32)> {
+    let root = message.get_root::<any_pointer::Owned>()?;
     Ok(allocation_error(root.get_as::<primitive_list::Owned<u64>>()))
 }
 
 // The data words of an empty struct.
-fn init_struct(arena: &mut Words) -> Result<u16> {
-    let root = arena.get_root::<any_pointer::Owned>()?;
+fn init_struct(message: &mut Message) -> Result<u16> {
+    let root = message.get_root::<any_pointer::Owned>()?;
     Ok(root.init_as::<any_struct::Owned>()?.data_words())
 }
 
-fn struct_error(arena: &mut Words) -> Result<(u8, u32)> {
-    let root = arena.get_root::<any_pointer::Owned>()?;
+fn struct_error(message: &mut Message) -> Result<(u8, u32)> {
+    let root = message.get_root::<any_pointer::Owned>()?;
     Ok(allocation_error(root.initn_as::<any_struct::Owned>(65536)))
 }
 
@@ -40,16 +42,16 @@ fn struct_error(arena: &mut Words) -> Result<(u8, u32)> {
 // and a new object that fails leaves null.
 #[test]
 fn root_as_any_pointer(rt: HostRuntime) -> Result<()> {
-    expect_roots(&rt, &mut arena_of(rt.alloc(), 1024))
+    expect_roots(&rt, &mut Builder::new_default(rt.alloc()))
 }
 
-fn expect_roots(rt: &impl Abort, arena: &mut Words) -> Result<()> {
-    assert!(rt; set_hello(arena)?);
-    expect(rt, "no list", list_error(arena)?, (22, 0));
-    expect(rt, "the text", outline(arena)?, (false, 1));
-    expect(rt, "an empty struct", init_struct(arena)?, 0);
-    expect(rt, "a struct", struct_error(arena)?, (15, 65536));
-    expect(rt, "null", outline(arena)?, (true, 0));
+fn expect_roots(rt: &impl Abort, message: &mut Message) -> Result<()> {
+    assert!(rt; set_hello(message)?);
+    expect(rt, "no list", list_error(message)?, (22, 0));
+    expect(rt, "the text", outline(message)?, (false, 1));
+    expect(rt, "an empty struct", init_struct(message)?, 0);
+    expect(rt, "a struct", struct_error(message)?, (15, 65536));
+    expect(rt, "null", outline(message)?, (true, 0));
     Ok(())
 }
 
@@ -58,8 +60,8 @@ const THIRD_OF_THREE: &[u8] =
     b"\x01\0\0\0\x1d\0\0\0\0\0\0\0\0\0\0\0\0\0\0\0\0\0\0\0\x09\0\0\0\0\0\0\0";
 
 // A new list of three words at the root, which is then seen as one.
-fn set_new_numbers(arena: &mut Words) -> Result<()> {
-    let mut root = arena.get_root::<any_pointer::Owned>()?;
+fn set_new_numbers(message: &mut Message) -> Result<()> {
+    let mut root = message.get_root::<any_pointer::Owned>()?;
     root.set_new::<primitive_list::Owned<u64>>(3)?;
     let mut list = root.into_view::<primitive_list::Owned<u64>>();
     if list.len() > 2 {
@@ -70,8 +72,8 @@ fn set_new_numbers(arena: &mut Words) -> Result<()> {
 
 #[test]
 fn a_new_list_is_the_root(rt: HostRuntime) -> Result<()> {
-    let mut arena = arena_of(rt.alloc(), 1024);
-    set_new_numbers(&mut arena)?;
-    expect_segments(&rt, "a list", &arena, &[THIRD_OF_THREE]);
+    let mut message = Builder::new_default(rt.alloc());
+    set_new_numbers(&mut message)?;
+    expect_segments(&rt, "a list", &message, &[THIRD_OF_THREE]);
     Ok(())
 }

@@ -2,66 +2,17 @@
 //! it.
 use crate::building::{init_words, is_null_root, set_text};
 use crate::fixtures::expect;
+use crate::watched::Watched;
 use capnp_build::allocator::Allocator;
-use capnp_build::segment_space::SegmentSpace;
 use capnp_frame::Result;
 use capnp_message::builder::Builder;
-use capnp_message::heap_allocator::{AllocationStrategy, HeapAllocator};
 use capnp_wire::text;
 use std::alloc::Global;
 use std::process::Abort;
 
-/// A heap that notes, for each segment that comes back, its words and how many of them were used.
-#[derive(Drop)]
-struct Noting {
-    heap: HeapAllocator,
-    handed_out: u32,
-    back: Vec<(usize, u32)>,
-}
-
-impl Allocator for Noting {
-    type Segment = Vec<u8>;
-
-    ghost use Rattle.std.specs.Prelude.{⊤, []};
-
-    ghost out = { λ allocator list. ⊤ };
-
-    ghost same = { λ old new. ⊤ };
-
-    ghost grants = { λ allocator asked words. ⊥ };
-
-    ghost fails = { λ allocator asked kind. ⊤ };
-
-    ghost returns = { λ old segment words new. ⊤ };
-
-    fn allocate_segment(&mut self, minimum_size: u32) -> Result<Vec<u8>> {
-        self.handed_out = self.handed_out.saturating_add(1);
-        self.heap.allocate_segment(minimum_size)
-    }
-
-    fn deallocate_segment(&mut self, segment: Vec<u8>, words_used: u32) {
-        let words = segment.bytes().len() / 8;
-        if self.back.push((words, words_used)).is_err() {
-            self.handed_out = 0;
-        }
-        self.heap.deallocate_segment(segment, words_used);
-    }
-
-    ghost keeps = { record { reflexive = λ s. tt; transitive = λ s t u p q. tt } };
-
-    ghost accounts = { λ s. ([], tt) };
-}
-
 // Segments of eight words, or as many as are asked.
-fn noting_heap(alloc: Global) -> Noting {
-    let heap = HeapAllocator::new(alloc)
-        .first_segment_words(8)
-        .allocation_strategy(AllocationStrategy::FixedSize);
-    Noting {
-        heap,
-        handed_out: 0,
-        back: Vec::new(alloc),
-    }
+fn noting_heap(alloc: Global) -> Watched {
+    Watched::new(alloc, 8, 0)
 }
 
 // Five roots, one after the other. In the first segment the root's word and texts of two words and
@@ -77,8 +28,8 @@ fn build<A: Allocator>(message: &mut Builder<A>) -> Result<()> {
 
 const BACK: [(usize, u32); 3] = [(8, 5), (8, 6), (10, 10)];
 
-fn assert_given_back(rt: &impl Abort, allocator: &Noting, wanted: &[(usize, u32)]) {
-    let counts = (allocator.handed_out as usize, allocator.back.len());
+fn assert_given_back(rt: &impl Abort, allocator: &Watched, wanted: &[(usize, u32)]) {
+    let counts = (allocator.requests as usize, allocator.back.len());
     expect(rt, "how many", counts, (wanted.len(), wanted.len()));
     for segment in wanted {
         expect(rt, *segment, allocator.back.contains(segment), true);

@@ -133,31 +133,55 @@ const PLACEMENTS: [(Placed, usize); 3] = [
 
 type Segments = (Vec<u8>, Vec<u8>, Vec<u8>);
 
-fn append(segment: &mut Vec<u8>, first: &[u8], second: &[u8]) -> Result<()> {
+// Two parts of a segment, one after the other.
+type Parts<'a> = (&'a [u8], &'a [u8]);
+
+const NONE: &[u8] = b"";
+
+fn joined(alloc: Global, (first, second): Parts<'_>) -> Result<Vec<u8>> {
+    let mut segment = Vec::new(alloc);
     segment.extend_from_slice(first)?;
     segment.extend_from_slice(second)?;
-    Ok(())
+    Ok(segment)
 }
+
+fn segments_of_parts(
+    alloc: Global,
+    first: Parts<'_>,
+    second: Parts<'_>,
+    third: Parts<'_>,
+) -> Result<Segments> {
+    Ok((
+        joined(alloc, first)?,
+        joined(alloc, second)?,
+        joined(alloc, third)?,
+    ))
+}
+
+// Far pointers: to a landing pad of one word or of two in the second segment, and to the object in the
+// third.
+const FAR: &[u8] = b"\x02\0\0\0\x01\0\0\0";
+
+const DOUBLE_FAR: &[u8] = b"\x06\0\0\0\x01\0\0\0";
+
+const FAR_TO_THIRD: &[u8] = b"\x02\0\0\0\x02\0\0\0";
 
 // The words before an object, and the object at a place.
 fn segments_of(alloc: Global, before: &[u8], object: &[u8], place: Placed) -> Result<Segments> {
-    let mut first = Vec::new(alloc);
-    let mut second = Vec::new(alloc);
-    let mut third = Vec::new(alloc);
     match place {
-        Placed::Here => append(&mut first, before, object)?,
-        Placed::OnePad => {
-            append(&mut first, before, b"\x02\0\0\0\x01\0\0\0")?;
-            append(&mut second, object, b"")?;
-        }
+        Placed::Here => segments_of_parts(alloc, (before, object), (NONE, NONE), (NONE, NONE)),
+        Placed::OnePad => { segments_of_parts(alloc, (before, FAR), (object, NONE), (NONE, NONE)) }
         Placed::TwoPads => {
-            let pointer = object.get(..8).unwrap_or(b"");
-            append(&mut first, before, b"\x06\0\0\0\x01\0\0\0")?;
-            append(&mut second, b"\x02\0\0\0\x02\0\0\0", pointer)?;
-            append(&mut third, object.get(8..).unwrap_or(b""), b"")?;
+            let pointer = object.get(..8).unwrap_or(NONE);
+            let words = object.get(8..).unwrap_or(NONE);
+            segments_of_parts(
+                alloc,
+                (before, DOUBLE_FAR),
+                (FAR_TO_THIRD, pointer),
+                (words, NONE),
+            )
         }
     }
-    Ok((first, second, third))
 }
 
 // How often an object may be viewed, and which of three views fail for the limit.

@@ -1,146 +1,123 @@
 //! The calls that read packed messages, few in each function.
-use crate::readers::{
-    Reader, is_wanted, needed, needed_segments_of, room_of, segments_in, segments_of, with_limit,
-};
-use crate::streams::Wanted;
+use crate::readers::{FormatReader, is_in_buffer, is_message, is_needed_message, segments_of};
 use capnp::serialize_packed;
 use capnp_frame::Result;
 use capnp_frame::io::BufRead;
-use capnp_frame::message::ReaderOptions;
+use capnp_frame::message::DEFAULT_READER_OPTIONS;
 use capnp_frame::serialize::{OwnedSegments, Padding, TableRules};
 use capnp_pack::stream::{
     try_read_packed_framed_into, try_read_packed_segments, try_read_packed_segments_into,
 };
 use std::alloc::Global;
 
-/// Whether the packed calls read this source as expected.
+/// Whether a packed call reads a message of these segments.
 pub fn is_unpacked<R: BufRead>(
     alloc: Global,
-    (rule, reader): (Padding, Reader),
+    (rule, reader): (Padding, FormatReader),
     source: &mut R,
-    limit: Option<usize>,
-    wanted: Wanted<'_>,
+    segments: &[&[u8]],
 ) -> Result<bool> {
-    let options = with_limit(limit);
-    let mut space = [0xaa; 8192];
-    let buffer = &mut space[..room_of(reader).min(8192)];
+    let mut buffer = [0xaa; 4096];
     match reader {
-        Reader::Copying | Reader::Reusing => {
-            is_reused_packed(alloc, (rule, options), source, wanted)
-        }
-        Reader::Lending(_) => is_provided_packed((rule, options), source, buffer, wanted),
-        Reader::Message => is_packed_message(alloc, (rule, options), source, wanted),
-        Reader::ProvidedMessage(_) => {
-            is_packed_message_provided((rule, options), source, buffer, wanted)
-        }
-        Reader::Needed => is_needed_packed(alloc, (rule, options), source, needed(wanted)),
-        Reader::ProvidedNeeded(_) => {
-            is_needed_packed_provided((rule, options), source, buffer, needed(wanted))
-        }
-        Reader::WithTable(_) => is_packed_with_table((rule, options), source, buffer, wanted),
+        FormatReader::Copying | FormatReader::Reusing => is_reused(alloc, rule, source, segments),
+        FormatReader::Lending => is_provided(rule, source, &mut buffer, segments),
+        FormatReader::Message => is_message_read(alloc, rule, source, segments),
+        FormatReader::ProvidedMessage => is_message_provided(rule, source, &mut buffer, segments),
+        FormatReader::Needed => is_needed(alloc, rule, source, segments),
+        FormatReader::ProvidedNeeded => is_needed_provided(rule, source, &mut buffer, segments),
+        FormatReader::WithTable => is_with_table(rule, source, &mut buffer, segments),
     }
 }
 
-fn is_reused_packed<R: BufRead>(
+fn is_reused<R: BufRead>(
     alloc: Global,
-    (rule, options): (Padding, ReaderOptions),
+    rule: Padding,
     source: &mut R,
-    wanted: Wanted<'_>,
+    segments: &[&[u8]],
 ) -> Result<bool> {
-    let rules = TableRules::new(rule, options);
+    let rules = TableRules::new(rule, DEFAULT_READER_OPTIONS);
     let spare = OwnedSegments::empty(alloc);
-    is_wanted(try_read_packed_segments(source, rules, spare), wanted)
+    is_message(try_read_packed_segments(source, rules, spare), segments)
 }
 
-fn is_provided_packed<R: BufRead>(
-    (rule, options): (Padding, ReaderOptions),
+fn is_provided<R: BufRead>(
+    rule: Padding,
     source: &mut R,
     buffer: &mut [u8],
-    wanted: Wanted<'_>,
+    segments: &[&[u8]],
 ) -> Result<bool> {
-    let rules = TableRules::new(rule, options);
-    is_wanted(try_read_packed_segments_into(source, rules, buffer), wanted)
+    let rules = TableRules::new(rule, DEFAULT_READER_OPTIONS);
+    is_message(
+        try_read_packed_segments_into(source, rules, buffer),
+        segments,
+    )
 }
 
-fn is_packed_message<R: BufRead>(
+fn is_message_read<R: BufRead>(
     alloc: Global,
-    (rule, options): (Padding, ReaderOptions),
+    rule: Padding,
     source: &mut R,
-    wanted: Wanted<'_>,
+    segments: &[&[u8]],
 ) -> Result<bool> {
-    match rule {
-        Padding::Zero => {
-            let read = serialize_packed::try_read_message(alloc, source, options);
-            is_wanted(segments_of(read), wanted)
-        }
-        Padding::Any => {
-            let read = serialize_packed::try_read_message_lenient(alloc, source, options);
-            is_wanted(segments_of(read), wanted)
-        }
-    }
+    let options = DEFAULT_READER_OPTIONS;
+    let read = match rule {
+        Padding::Zero => serialize_packed::try_read_message(alloc, source, options),
+        Padding::Any => serialize_packed::try_read_message_lenient(alloc, source, options),
+    };
+    is_message(segments_of(read), segments)
 }
 
-fn is_packed_message_provided<R: BufRead>(
-    (rule, options): (Padding, ReaderOptions),
+fn is_message_provided<R: BufRead>(
+    rule: Padding,
     source: &mut R,
     buffer: &mut [u8],
-    wanted: Wanted<'_>,
+    segments: &[&[u8]],
 ) -> Result<bool> {
-    match rule {
-        Padding::Zero => {
-            let read = serialize_packed::try_read_message_no_alloc(source, buffer, options);
-            is_wanted(segments_of(read), wanted)
-        }
+    let options = DEFAULT_READER_OPTIONS;
+    let read = match rule {
+        Padding::Zero => serialize_packed::try_read_message_no_alloc(source, buffer, options),
         Padding::Any => {
-            let read = serialize_packed::try_read_message_no_alloc_lenient(source, buffer, options);
-            is_wanted(segments_of(read), wanted)
+            serialize_packed::try_read_message_no_alloc_lenient(source, buffer, options)
         }
-    }
+    };
+    is_message(segments_of(read), segments)
 }
 
-fn is_needed_packed<R: BufRead>(
+fn is_needed<R: BufRead>(
     alloc: Global,
-    (rule, options): (Padding, ReaderOptions),
+    rule: Padding,
     source: &mut R,
-    wanted: Wanted<'_>,
+    segments: &[&[u8]],
 ) -> Result<bool> {
-    match rule {
-        Padding::Zero => {
-            let read = serialize_packed::read_message(alloc, source, options);
-            is_wanted(needed_segments_of(read), wanted)
-        }
-        Padding::Any => {
-            let read = serialize_packed::read_message_lenient(alloc, source, options);
-            is_wanted(needed_segments_of(read), wanted)
-        }
-    }
+    let options = DEFAULT_READER_OPTIONS;
+    let read = match rule {
+        Padding::Zero => serialize_packed::read_message(alloc, source, options),
+        Padding::Any => serialize_packed::read_message_lenient(alloc, source, options),
+    };
+    is_needed_message(read, segments)
 }
 
-fn is_needed_packed_provided<R: BufRead>(
-    (rule, options): (Padding, ReaderOptions),
+fn is_needed_provided<R: BufRead>(
+    rule: Padding,
     source: &mut R,
     buffer: &mut [u8],
-    wanted: Wanted<'_>,
+    segments: &[&[u8]],
 ) -> Result<bool> {
-    match rule {
-        Padding::Zero => {
-            let read = serialize_packed::read_message_no_alloc(source, buffer, options);
-            is_wanted(needed_segments_of(read), wanted)
-        }
-        Padding::Any => {
-            let read = serialize_packed::read_message_no_alloc_lenient(source, buffer, options);
-            is_wanted(needed_segments_of(read), wanted)
-        }
-    }
+    let options = DEFAULT_READER_OPTIONS;
+    let read = match rule {
+        Padding::Zero => serialize_packed::read_message_no_alloc(source, buffer, options),
+        Padding::Any => serialize_packed::read_message_no_alloc_lenient(source, buffer, options),
+    };
+    is_needed_message(read, segments)
 }
 
-fn is_packed_with_table<R: BufRead>(
-    (rule, options): (Padding, ReaderOptions),
+fn is_with_table<R: BufRead>(
+    rule: Padding,
     source: &mut R,
     buffer: &mut [u8],
-    wanted: Wanted<'_>,
+    segments: &[&[u8]],
 ) -> Result<bool> {
-    let rules = TableRules::new(rule, options);
+    let rules = TableRules::new(rule, DEFAULT_READER_OPTIONS);
     let read = try_read_packed_framed_into(source, rules, buffer);
-    is_wanted(segments_in(read, buffer), wanted)
+    is_in_buffer(read, buffer, segments)
 }

@@ -3,7 +3,7 @@
 //! finds one that isn't called here.
 ghost use Rattle.capnp_wire.specs.Readers.{struct_of};
 
-use crate::calls::counts::views::{Pointer, Segments, Struct, is_limited, missing};
+use crate::calls::counts::views::{Pointer, Segments, Struct, is_limited};
 use crate::fixtures::{arena_of, expect, root_as};
 use capnp_frame::Result;
 use capnp_frame::message::{ReaderOptions, ReaderSegments, SegmentArray};
@@ -13,6 +13,8 @@ use capnp_wire::{
     upgraded,
 };
 use std::alloc::Global;
+
+type Message<'a> = message::Reader<Segments<'a>>;
 
 type Typed<'a> = message::TypedReader<Segments<'a>, any_struct::Owned>;
 
@@ -150,14 +152,20 @@ fn is_limited_in_message(alloc: Global, limit: usize) -> Result<bool> {
     let segments = [MESSAGE];
     let message = message::Reader::new(SegmentArray::new(&segments), options_of(limit));
     let _ = message::Reader::size_in_words(&message);
-    let _ = message::Reader::get_segments(&message);
-    let _ = message::Reader::is_canonical(&message);
-    let _ = message::Reader::canonical_segment(&message, alloc);
-    let _ = message::Reader::canonicalize(&message, alloc);
+    call_message(alloc, &message);
     let typed = message::Reader::into_typed::<any_struct::Owned>(message);
+    is_limited_in_typed(message::TypedReader::new(message::TypedReader::into_inner(typed)))
+}
+
+fn call_message(alloc: Global, message: &Message<'_>) {
+    let _ = message::Reader::get_segments(message);
+    let _ = message::Reader::is_canonical(message);
+    let _ = message::Reader::canonical_segment(message, alloc);
+    let _ = message::Reader::canonicalize(message, alloc);
+}
+
+fn is_limited_in_typed(typed: Typed<'_>) -> Result<bool> {
     let _ = message::TypedReader::get_segments(&typed);
-    let message = message::TypedReader::into_inner(typed);
-    let typed: Typed<'_> = message::TypedReader::new(message);
     let _ = message::TypedReader::get(&typed)?;
     let message = message::TypedReader::into_inner(typed);
     let limited = text_is_limited(&message::Reader::get_root(&message)?);
@@ -169,13 +177,13 @@ fn call(fields: &Struct<'_>, called: Called) -> Result<()> {
     match called {
         Called::Pointer => call_pointer(&fields.get_pointer(0)),
         Called::Struct => call_struct(fields)?,
-        Called::Pointers => call_pointers(fields.get_pointer_as(1)?)?,
-        Called::Texts => call_texts(&fields.get_pointer_as(1)?)?,
-        Called::UpgradedPointers => call_upgraded_pointers(&fields.get_pointer_as(1)?)?,
-        Called::UpgradedTexts => call_upgraded_texts(&fields.get_pointer_as(1)?)?,
-        Called::Structs => call_structs(fields.get_pointer_as(2)?)?,
-        Called::UpgradedStructs => call_upgraded_structs(&fields.get_pointer_as(2)?)?,
-        _ => call_schema_structs(&fields.get_pointer_as(2)?)?,
+        Called::Pointers => call_pointers(fields.get_pointer_as(1)?),
+        Called::Texts => call_texts(&fields.get_pointer_as(1)?),
+        Called::UpgradedPointers => call_upgraded_pointers(&fields.get_pointer_as(1)?),
+        Called::UpgradedTexts => call_upgraded_texts(&fields.get_pointer_as(1)?),
+        Called::Structs => call_structs(fields.get_pointer_as(2)?),
+        Called::UpgradedStructs => call_upgraded_structs(&fields.get_pointer_as(2)?),
+        _ => call_schema_structs(&fields.get_pointer_as(2)?),
     }
     Ok(())
 }
@@ -207,16 +215,14 @@ fn view_pointers(fields: &Struct<'_>) -> Result<()> {
     Ok(())
 }
 
-fn call_pointers(list: Pointers<'_>) -> Result<()> {
-    if any_pointer_list::Reader::len(&list) != 1 {
-        return Err(missing());
+fn call_pointers(list: Pointers<'_>) {
+    if any_pointer_list::Reader::len(&list) > 0 {
+        let _ = any_pointer_list::Reader::get(&list, 0);
     }
-    let _ = any_pointer_list::Reader::get(&list, 0);
     let _ = any_pointer_list::Reader::try_get(&list, 0);
     let _ = any_pointer_list::Reader::iter(&list).next();
     let _ = traits::ListIter::new(&list).next();
     view_by_iterators(list);
-    Ok(())
 }
 
 fn view_by_iterators(list: Pointers<'_>) {
@@ -230,63 +236,51 @@ fn view_by_iterators(list: Pointers<'_>) {
     let _ = texts.next();
 }
 
-fn call_texts(list: &Texts<'_>) -> Result<()> {
-    if list_list::Reader::len(list) != 1 {
-        return Err(missing());
+fn call_texts(list: &Texts<'_>) {
+    if list_list::Reader::len(list) > 0 {
+        let _ = list_list::Reader::get(list, 0);
     }
-    let _ = list_list::Reader::get(list, 0);
     let _ = list_list::Reader::try_get(list, 0);
     let _ = list_list::Reader::iter(list).next();
-    Ok(())
 }
 
-fn call_structs(list: Structs<'_>) -> Result<()> {
-    if struct_list::Reader::len(&list) != 1 {
-        return Err(missing());
+fn call_structs(list: Structs<'_>) {
+    if struct_list::Reader::len(&list) > 0 {
+        let _ = struct_list::Reader::get(&list, 0);
     }
-    let _ = struct_list::Reader::get(&list, 0);
     let _ = struct_list::Reader::try_get(&list, 0);
     let _ = struct_list::Reader::iter(&list).next();
     let _ = traits::ListIntoIter::new(list).next();
-    Ok(())
 }
 
-fn call_upgraded_pointers(list: &UpgradedPointers<'_>) -> Result<()> {
-    if upgraded::PointerList::len(list) != 1 {
-        return Err(missing());
+fn call_upgraded_pointers(list: &UpgradedPointers<'_>) {
+    if upgraded::PointerList::len(list) > 0 {
+        let _ = upgraded::PointerList::get(list, 0);
     }
-    let _ = upgraded::PointerList::get(list, 0);
     let _ = upgraded::PointerList::try_get(list, 0);
     let _ = upgraded::PointerList::iter(list).next();
-    Ok(())
 }
 
-fn call_upgraded_texts(list: &UpgradedTexts<'_>) -> Result<()> {
-    if upgraded::ListList::len(list) != 1 {
-        return Err(missing());
+fn call_upgraded_texts(list: &UpgradedTexts<'_>) {
+    if upgraded::ListList::len(list) > 0 {
+        let _ = upgraded::ListList::get(list, 0);
     }
-    let _ = upgraded::ListList::get(list, 0);
     let _ = upgraded::ListList::try_get(list, 0);
     let _ = upgraded::ListList::iter(list).next();
-    Ok(())
 }
 
-fn call_upgraded_structs(list: &UpgradedStructs<'_>) -> Result<()> {
-    if upgraded::StructList::len(list) != 1 {
-        return Err(missing());
+fn call_upgraded_structs(list: &UpgradedStructs<'_>) {
+    if upgraded::StructList::len(list) > 0 {
+        let _ = upgraded::StructList::get(list, 0);
     }
-    let _ = upgraded::StructList::get(list, 0);
     let _ = upgraded::StructList::try_get(list, 0);
     let _ = upgraded::StructList::iter(list).next();
-    Ok(())
 }
 
-fn call_schema_structs(list: &SchemaStructs<'_>) -> Result<()> {
-    if upgraded::Structs::len(list) != 1 {
-        return Err(missing());
+fn call_schema_structs(list: &SchemaStructs<'_>) {
+    if upgraded::Structs::len(list) > 0 {
+        let _ = upgraded::Structs::get(list, 0);
     }
-    let _ = upgraded::Structs::get(list, 0);
     let _ = upgraded::Structs::try_get(list, 0);
     let _ = upgraded::Structs::iter(list).next();
-    Ok(())
 }

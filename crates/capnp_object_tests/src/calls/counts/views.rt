@@ -5,6 +5,7 @@ use capnp_frame::message::SegmentArray;
 use capnp_frame::{Error, ErrorKind, Result};
 use capnp_frame_tests::errors::error_of;
 use capnp_wire::any_struct::StructReader;
+use capnp_wire::primitive_element::PrimitiveElement;
 use capnp_wire::traits::{FromPointerInSegment, FromPointerReader};
 use capnp_wire::upgraded::{EnumList, ListList, NumberList, PointerList, StructList};
 use capnp_wire::{
@@ -22,6 +23,17 @@ type Object<'a> = any_object::Reader<'a, Segments<'a>>;
 /// Which of three views fail for the limit.
 pub type Limited = [bool; 3];
 
+/// The elements of lists of numbers.
+#[derive(Clone, Copy, Debug)]
+pub enum Elements {
+    Nothings,
+    Bools,
+    Bytes,
+    Pairs,
+    Quads,
+    Words,
+}
+
 /// The kinds of views.
 #[derive(Clone, Copy, Debug)]
 pub enum View {
@@ -31,51 +43,37 @@ pub enum View {
     Structs,
     Pointers,
     Texts,
-    AllData,
-    Lists,
-    Nothings,
-    Bools,
-    Bytes,
-    Pairs,
-    Quads,
-    Words,
+    Numbers(Elements),
     UpgradedStructs,
     UpgradedPointers,
     UpgradedTexts,
-    UpgradedNothings,
-    UpgradedBools,
-    UpgradedBytes,
-    UpgradedPairs,
-    UpgradedQuads,
-    UpgradedWords,
+    UpgradedNumbers(Elements),
     Enums,
     Object,
 }
 
-pub const VIEWS: [View; 25] = [
+pub const VIEWS: [View; 23] = [
     View::Text,
     View::Data,
     View::Struct,
     View::Structs,
     View::Pointers,
     View::Texts,
-    View::AllData,
-    View::Lists,
-    View::Nothings,
-    View::Bools,
-    View::Bytes,
-    View::Pairs,
-    View::Quads,
-    View::Words,
+    View::Numbers(Elements::Nothings),
+    View::Numbers(Elements::Bools),
+    View::Numbers(Elements::Bytes),
+    View::Numbers(Elements::Pairs),
+    View::Numbers(Elements::Quads),
+    View::Numbers(Elements::Words),
     View::UpgradedStructs,
     View::UpgradedPointers,
     View::UpgradedTexts,
-    View::UpgradedNothings,
-    View::UpgradedBools,
-    View::UpgradedBytes,
-    View::UpgradedPairs,
-    View::UpgradedQuads,
-    View::UpgradedWords,
+    View::UpgradedNumbers(Elements::Nothings),
+    View::UpgradedNumbers(Elements::Bools),
+    View::UpgradedNumbers(Elements::Bytes),
+    View::UpgradedNumbers(Elements::Pairs),
+    View::UpgradedNumbers(Elements::Quads),
+    View::UpgradedNumbers(Elements::Words),
     View::Enums,
     View::Object,
 ];
@@ -93,32 +91,42 @@ pub fn views<'a>(arena: &'a Arena<'a>, way: Way, view: View) -> Result<Limited> 
         View::Structs => views_as::<struct_list::Reader<'a, Segments<'a>>>(arena, way),
         View::Pointers => views_as::<any_pointer_list::Reader<'a, Segments<'a>>>(arena, way),
         View::Texts => views_as::<Lists<'a, text::Reader<'a>>>(arena, way),
-        View::AllData => views_as::<Lists<'a, &'a [u8]>>(arena, way),
-        View::Lists => views_as::<Lists<'a, primitive_list::Reader<'a, u64>>>(arena, way),
         View::UpgradedStructs => views_as::<StructList<'a, Segments<'a>>>(arena, way),
         View::UpgradedPointers => views_as::<PointerList<'a, Segments<'a>>>(arena, way),
         View::UpgradedTexts => views_as::<UpgradedLists<'a, text::Reader<'a>>>(arena, way),
         View::Enums => views_as::<EnumList<'a, Unnamed>>(arena, way),
         View::Object => pointer_views::<Object<'a>>(arena, way.0),
-        _ => number_views(arena, way, view),
+        View::Numbers(elements) | View::UpgradedNumbers(elements) => {
+            number_views(arena, way, view, elements)
+        }
     }
 }
 
 // The same as a list of numbers.
-fn number_views<'a>(arena: &'a Arena<'a>, way: Way, view: View) -> Result<Limited> {
+fn number_views<'a>(
+    arena: &'a Arena<'a>,
+    way: Way,
+    view: View,
+    elements: Elements,
+) -> Result<Limited> {
+    match elements {
+        Elements::Nothings => views_of::<()>(arena, way, view),
+        Elements::Bools => views_of::<bool>(arena, way, view),
+        Elements::Bytes => views_of::<u8>(arena, way, view),
+        Elements::Pairs => views_of::<i16>(arena, way, view),
+        Elements::Quads => views_of::<f32>(arena, way, view),
+        Elements::Words => views_of::<u64>(arena, way, view),
+    }
+}
+
+fn views_of<'a, T: PrimitiveElement>(
+    arena: &'a Arena<'a>,
+    way: Way,
+    view: View,
+) -> Result<Limited> {
     match view {
-        View::Nothings => views_as::<primitive_list::Reader<'a, ()>>(arena, way),
-        View::Bools => views_as::<primitive_list::Reader<'a, bool>>(arena, way),
-        View::Bytes => views_as::<primitive_list::Reader<'a, u8>>(arena, way),
-        View::Pairs => views_as::<primitive_list::Reader<'a, i16>>(arena, way),
-        View::Quads => views_as::<primitive_list::Reader<'a, f32>>(arena, way),
-        View::Words => views_as::<primitive_list::Reader<'a, u64>>(arena, way),
-        View::UpgradedNothings => views_as::<NumberList<'a, ()>>(arena, way),
-        View::UpgradedBools => views_as::<NumberList<'a, bool>>(arena, way),
-        View::UpgradedBytes => views_as::<NumberList<'a, u8>>(arena, way),
-        View::UpgradedPairs => views_as::<NumberList<'a, i16>>(arena, way),
-        View::UpgradedQuads => views_as::<NumberList<'a, f32>>(arena, way),
-        _ => views_as::<NumberList<'a, u64>>(arena, way),
+        View::Numbers(_) => views_as::<primitive_list::Reader<'a, T>>(arena, way),
+        _ => views_as::<NumberList<'a, T>>(arena, way),
     }
 }
 
@@ -156,39 +164,36 @@ fn pointer_views<'a, T: FromPointerReader<'a, Segments<'a>> + Drop>(
     root: Root,
 ) -> Result<Limited> {
     match root {
-        Root::Lists => in_list(&root_as::<Segments<'a>, Lists<'a, T>>(arena)?),
-        Root::UpgradedLists => {
-            in_upgraded_list(&root_as::<Segments<'a>, UpgradedLists<'a, T>>(arena)?)
-        }
+        Root::Lists => Ok(in_list::<T>(&root_as(arena)?)),
+        Root::UpgradedLists => Ok(in_upgraded_list::<T>(&root_as(arena)?)),
         _ => Ok(at_pointer::<T>(&pointer_by(arena, root)?)),
     }
 }
 
 // By index, by an index that may be too large, and by an iterator.
-fn in_list<'a, T: FromPointerReader<'a, Segments<'a>> + Drop>(
-    list: &Lists<'a, T>,
-) -> Result<Limited> {
-    if list.len() != 1 {
-        return Err(missing());
-    }
-    let first = is_limited(list.get(0));
-    let second = is_limited(there(list.try_get(0))?);
-    Ok([first, second, is_limited(there(list.iter().next())?)])
+fn in_list<'a, T: FromPointerReader<'a, Segments<'a>> + Drop>(list: &Lists<'a, T>) -> Limited {
+    let first = list.len() == 0 || is_limited(list.get(0));
+    let second = is_limited_or_missing(list.try_get(0));
+    [first, second, is_limited_or_missing(list.iter().next())]
 }
 
 fn in_upgraded_list<'a, T: FromPointerReader<'a, Segments<'a>> + Drop>(
     list: &UpgradedLists<'a, T>,
-) -> Result<Limited> {
-    if list.len() != 1 {
-        return Err(missing());
-    }
-    let first = is_limited(list.get(0));
-    let second = is_limited(there(list.try_get(0))?);
-    Ok([first, second, is_limited(there(list.iter().next())?)])
+) -> Limited {
+    let first = list.len() == 0 || is_limited(list.get(0));
+    let second = is_limited_or_missing(list.try_get(0));
+    [first, second, is_limited_or_missing(list.iter().next())]
 }
 
-/// What a test fails with where an element is missing.
-pub fn missing() -> Error {
+fn is_limited_or_missing<T: Drop>(view: Option<Result<T>>) -> bool {
+    match view {
+        Some(view) => is_limited(view),
+        None => true,
+    }
+}
+
+// What a test fails with where an element is missing.
+fn missing() -> Error {
     Error::from_kind(ErrorKind::PrematureEndOfFile)
 }
 

@@ -6,8 +6,7 @@ use capnp::orphans::{GrowingSegment, Orphan, Orphanage};
 use capnp::{Result, serialize};
 use std::alloc::Global;
 
-/// Makes the address book of the site the root of a message.
-pub fn write_address_book(objects: &mut Orphanage) -> Result<()> {
+fn alice(objects: &mut Orphanage) -> Result<person::Builder> {
     let mut mobile = phone_number::Builder::new();
     mobile.set_number(objects.text("555-1212")?);
     mobile.set_type(phone_number::Type::Mobile);
@@ -17,7 +16,10 @@ pub fn write_address_book(objects: &mut Orphanage) -> Result<()> {
     alice.set_email(objects.text("alice@example.com")?);
     alice.set_phones(phone_number::Builder::add_list(&[mobile], objects)?);
     alice.set_employment_school(objects.text("MIT")?);
+    Ok(alice)
+}
 
+fn bob(objects: &mut Orphanage) -> Result<person::Builder> {
     let mut home = phone_number::Builder::new();
     home.set_number(objects.text("555-4567")?);
     home.set_type(phone_number::Type::Home);
@@ -30,7 +32,13 @@ pub fn write_address_book(objects: &mut Orphanage) -> Result<()> {
     bob.set_email(objects.text("bob@example.com")?);
     bob.set_phones(phone_number::Builder::add_list(&[home, work], objects)?);
     bob.set_employment_unemployed();
+    Ok(bob)
+}
 
+/// Makes the address book of the site the root of a message.
+pub fn write_address_book(objects: &mut Orphanage) -> Result<()> {
+    let alice = alice(objects)?;
+    let bob = bob(objects)?;
     let mut book = address_book::Builder::new();
     book.set_people(person::Builder::add_list(&[alice, bob], objects)?);
     book.add_root(objects)

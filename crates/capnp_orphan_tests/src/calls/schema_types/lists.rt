@@ -39,15 +39,6 @@ fn sums<S: ReaderSegments>(points: &point::ListReader<'_, S>) -> (i32, i32) {
     sums
 }
 
-#[test]
-fn points_come_one_by_one(rt: HostRuntime) -> Result<()> {
-    let segments = [FILLED];
-    let message = message_of(&segments);
-    let points = sample_of(&message)?.get_points()?;
-    expect(&rt, "sums", sums(&points), (4, -2));
-    Ok(())
-}
-
 // The index of the last element of a list of structs, whatever their type.
 fn last_index<'a, S: ReaderSegments, T: FromStruct<StructReader<'a, S>> + Drop>(
     list: Structs<'a, S, T>,
@@ -59,24 +50,12 @@ fn last_index<'a, S: ReaderSegments, T: FromStruct<StructReader<'a, S>> + Drop>(
     last
 }
 
-// How many points have an x above 2, and the sum of their indices.
-fn right_points<S: ReaderSegments>(points: &point::ListReader<'_, S>) -> (usize, usize) {
-    let mut sum: usize = 0;
-    for (index, point) in points.iter().enumerate() {
-        if point.get_x() > 2 {
-            sum = sum.saturating_add(index);
-        }
-    }
-    let count = points.iter().filter(|point| point.get_x() > 2).count();
-    (count, sum)
-}
-
 #[test]
-fn points_have_indices(rt: HostRuntime) -> Result<()> {
+fn points_come_one_by_one(rt: HostRuntime) -> Result<()> {
     let segments = [FILLED];
     let message = message_of(&segments);
     let points = sample_of(&message)?.get_points()?;
-    expect(&rt, "right points", right_points(&points), (1, 1));
+    expect(&rt, "sums", sums(&points), (4, -2));
     expect(&rt, "the last index", last_index(points), Some(1));
     Ok(())
 }

@@ -4,7 +4,6 @@ use crate::calls::schema_types::address_book::{Job, append_people, people, write
 use crate::calls::schema_types::shown::message_in;
 use crate::fixtures::expect;
 use capnp::message::{DEFAULT_READER_OPTIONS, Reader, ReaderSegments};
-use capnp::serialize;
 use capnp_frame::Result;
 use capnp_orphans::{GrowingSegment, Orphanage};
 use std::alloc::Global;
@@ -12,11 +11,6 @@ use std::alloc::Global;
 /// The person at the root of a message.
 pub fn person_of<'a, S: ReaderSegments>(message: &'a Reader<S>) -> Result<person::Reader<'a, S>> {
     message.get_root()
-}
-
-/// Its `name`.
-pub fn name<'a, S: ReaderSegments>(read: &person::Reader<'a, S>) -> Result<&'a [u8]> {
-    Ok(read.get_name()?.as_bytes())
 }
 
 // The C++ tool wrote these bytes of the same book: `capnp convert text:canonical`.
@@ -101,23 +95,11 @@ fn people_of<'a, S: ReaderSegments>(message: &'a Reader<S>) -> Result<person::Li
     book.get_people()
 }
 
-// The id of the person in the next message of a stream, and whether this is its name.
-fn next_person(alloc: Global, source: &mut &[u8], wanted: &[u8]) -> Result<(u32, bool)> {
-    let message = serialize::read_message(alloc, source, DEFAULT_READER_OPTIONS)?;
-    let person = person_of(&message)?;
-    Ok((person.get_id(), name(&person)? == wanted))
-}
-
 // Each message has a word of framing, the root's word, one of the text and five of the struct.
 #[test]
 fn records_are_appended(rt: HostRuntime) -> Result<()> {
     let mut log = Vec::new(rt.alloc());
     append_people(rt.alloc(), &mut log, &["Alice", "Bob"])?;
     expect(&rt, "bytes", log.len(), 2 * 8 * 8);
-    let mut source = log.as_slice();
-    let alice = next_person(rt.alloc(), &mut source, b"Alice")?;
-    expect(&rt, "Alice", alice, (1, true));
-    let bob = next_person(rt.alloc(), &mut source, b"Bob")?;
-    expect(&rt, "Bob", bob, (2, true));
     Ok(())
 }

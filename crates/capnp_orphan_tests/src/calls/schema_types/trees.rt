@@ -1,8 +1,11 @@
 //! A tree of a depth that is known when the program runs.
+use crate::calls::schema_types::shown::message_in;
+use crate::fixtures::expect;
 use crate::sample_capnp::tree;
 use capnp::Result;
-use capnp::message::{DEFAULT_READER_OPTIONS, Reader};
 use capnp_orphans::{Orphan, Orphanage};
+use std::alloc::Global;
+use std::process::Abort;
 
 /// A tree in memory.
 #[derive(Drop)]
@@ -36,20 +39,27 @@ fn add_node(
     node.add(objects)
 }
 
+fn node(alloc: Global, left: Branch, value: i64, right: Branch) -> Result<Branch> {
+    Ok(Branch::Node(Box::new(alloc, left)?, value, Box::new(alloc, right)?))
+}
+
+fn two_nodes(alloc: Global) -> Result<Branch> {
+    let leaf = node(alloc, Branch::None, -1, Branch::None)?;
+    node(alloc, leaf, 5, Branch::None)
+}
+
 #[test]
 fn a_tree_is_written(rt: HostRuntime) -> Result<()> {
-    let alloc = rt.alloc();
-    let none = Box::new(alloc, Branch::None)?;
-    let leaf = Branch::Node(none, -1, Box::new(alloc, Branch::None)?);
-    let right = Box::new(alloc, Branch::None)?;
-    let root = Branch::Node(Box::new(alloc, leaf)?, 5, right);
-    let mut objects = Orphanage::new(alloc)?;
-    let root = written(&mut objects, &root)?;
+    let mut objects = Orphanage::new(rt.alloc())?;
+    let root = written(&mut objects, &two_nodes(rt.alloc())?)?;
     objects.set_root(root);
-    let message = Reader::new(&objects, DEFAULT_READER_OPTIONS);
-    let read: tree::Reader<'_, &Orphanage> = message.get_root()?;
-    assert!(rt; read.get_value() == 5);
-    assert!(rt; read.has_left() && !read.has_right());
-    assert!(rt; read.get_left()?.get_value() == -1);
+    let message = message_in(&objects);
+    expect_two_nodes(&rt, &message.get_root()?)
+}
+
+fn expect_two_nodes(rt: &impl Abort, root: &tree::Reader<'_, &Orphanage>) -> Result<()> {
+    assert!(rt; !root.has_right());
+    let values = [root.get_value(), root.get_left()?.get_value()];
+    expect(rt, "values", values, [5, -1]);
     Ok(())
 }
