@@ -42,7 +42,8 @@ class Layout:
 
     def __init__(self, random):
         self.random, self.is_spread = random, one_in(random, 2)
-        self.segments = [[] for _ in range(1 + random.randrange(4) if self.is_spread else 1)]
+        most = 60 if one_in(random, 4) else 4
+        self.segments = [[] for _ in range(1 + random.randrange(most) if self.is_spread else 1)]
         self.budget, self.places = random.randrange(120), []
         self.segments[0].append(0)
         self.object(0, 0, 70 if one_in(random, 9) else 1 + random.randrange(6))
