@@ -82,8 +82,7 @@ pub mod parking_lot {
         /// pointers point to is copied, as orphans; null stays null. What another version of
         /// the type left out is zero or null, and what it had in addition is left out.
         ///
-        /// A copy that a setter then replaces stays in the bytes of the message, without a
-        /// pointer to it. Canonical words of the message are without it.
+        /// A copy that a setter replaces stays in the bytes, but not in canonical words.
         ///
         /// Fails as `Orphanage::set` does, for the first pointer that can't be copied.
         pub fn from_reader<R: ReaderSegments, S: GrowingSegment>(
@@ -138,8 +137,9 @@ pub mod parking_lot {
             elements: &[Builder],
             objects: &mut Orphanage<S>,
         ) -> Result<Orphan<OwnedList>>
-            ensures adds { let drafts = map (λ element. element.draft) elements.now in AddsOrphan
-                (HoldsStructs (body_of objects.old) drafts) objects.old objects.new word_of result }
+            ensures adds { let drafts = map (λ element. element.draft) elements.now in
+                AddsOrphan (HoldsStructs (body_of objects.old) drafts)
+                objects.old objects.new word_of result }
             ensures writes { let count = length elements.now in
                 Writes (TakesStructsWords 0 1 count) (ManyStructs 0 1 count)
                 objects.old objects.new result }
@@ -248,8 +248,7 @@ pub mod total_value {
         /// pointers point to is copied, as orphans; null stays null. What another version of
         /// the type left out is zero or null, and what it had in addition is left out.
         ///
-        /// A copy that a setter then replaces stays in the bytes of the message, without a
-        /// pointer to it. Canonical words of the message are without it.
+        /// A copy that a setter replaces stays in the bytes, but not in canonical words.
         ///
         /// Fails as `Orphanage::set` does, for the first pointer that can't be copied.
         pub fn from_reader<R: ReaderSegments, S: GrowingSegment>(
@@ -304,8 +303,9 @@ pub mod total_value {
             elements: &[Builder],
             objects: &mut Orphanage<S>,
         ) -> Result<Orphan<OwnedList>>
-            ensures adds { let drafts = map (λ element. element.draft) elements.now in AddsOrphan
-                (HoldsStructs (body_of objects.old) drafts) objects.old objects.new word_of result }
+            ensures adds { let drafts = map (λ element. element.draft) elements.now in
+                AddsOrphan (HoldsStructs (body_of objects.old) drafts)
+                objects.old objects.new word_of result }
             ensures writes { let count = length elements.now in
                 Writes (TakesStructsWords 1 0 count) (ManyStructs 1 0 count)
                 objects.old objects.new result }
@@ -592,8 +592,7 @@ pub mod car {
         /// pointers point to is copied, as orphans; null stays null. What another version of
         /// the type left out is zero or null, and what it had in addition is left out.
         ///
-        /// A copy that a setter then replaces stays in the bytes of the message, without a
-        /// pointer to it. Canonical words of the message are without it.
+        /// A copy that a setter replaces stays in the bytes, but not in canonical words.
         ///
         /// Fails as `Orphanage::set` does, for the first pointer that can't be copied.
         pub fn from_reader<R: ReaderSegments, S: GrowingSegment>(
@@ -648,8 +647,9 @@ pub mod car {
             elements: &[Builder],
             objects: &mut Orphanage<S>,
         ) -> Result<Orphan<OwnedList>>
-            ensures adds { let drafts = map (λ element. element.draft) elements.now in AddsOrphan
-                (HoldsStructs (body_of objects.old) drafts) objects.old objects.new word_of result }
+            ensures adds { let drafts = map (λ element. element.draft) elements.now in
+                AddsOrphan (HoldsStructs (body_of objects.old) drafts)
+                objects.old objects.new word_of result }
             ensures writes { let count = length elements.now in
                 Writes (TakesStructsWords 3 4 count) (ManyStructs 3 4 count)
                 objects.old objects.new result }
@@ -1193,8 +1193,7 @@ pub mod wheel {
         /// pointers point to is copied, as orphans; null stays null. What another version of
         /// the type left out is zero or null, and what it had in addition is left out.
         ///
-        /// A copy that a setter then replaces stays in the bytes of the message, without a
-        /// pointer to it. Canonical words of the message are without it.
+        /// A copy that a setter replaces stays in the bytes, but not in canonical words.
         ///
         /// Fails as `Orphanage::set` does, for the first pointer that can't be copied.
         pub fn from_reader<R: ReaderSegments, S: GrowingSegment>(
@@ -1249,8 +1248,9 @@ pub mod wheel {
             elements: &[Builder],
             objects: &mut Orphanage<S>,
         ) -> Result<Orphan<OwnedList>>
-            ensures adds { let drafts = map (λ element. element.draft) elements.now in AddsOrphan
-                (HoldsStructs (body_of objects.old) drafts) objects.old objects.new word_of result }
+            ensures adds { let drafts = map (λ element. element.draft) elements.now in
+                AddsOrphan (HoldsStructs (body_of objects.old) drafts)
+                objects.old objects.new word_of result }
             ensures writes { let count = length elements.now in
                 Writes (TakesStructsWords 1 0 count) (ManyStructs 1 0 count)
                 objects.old objects.new result }
@@ -1423,8 +1423,7 @@ pub mod engine {
         /// pointers point to is copied, as orphans; null stays null. What another version of
         /// the type left out is zero or null, and what it had in addition is left out.
         ///
-        /// A copy that a setter then replaces stays in the bytes of the message, without a
-        /// pointer to it. Canonical words of the message are without it.
+        /// A copy that a setter replaces stays in the bytes, but not in canonical words.
         ///
         /// Fails as `Orphanage::set` does, for the first pointer that can't be copied.
         pub fn from_reader<R: ReaderSegments, S: GrowingSegment>(
@@ -1479,8 +1478,9 @@ pub mod engine {
             elements: &[Builder],
             objects: &mut Orphanage<S>,
         ) -> Result<Orphan<OwnedList>>
-            ensures adds { let drafts = map (λ element. element.draft) elements.now in AddsOrphan
-                (HoldsStructs (body_of objects.old) drafts) objects.old objects.new word_of result }
+            ensures adds { let drafts = map (λ element. element.draft) elements.now in
+                AddsOrphan (HoldsStructs (body_of objects.old) drafts)
+                objects.old objects.new word_of result }
             ensures writes { let count = length elements.now in
                 Writes (TakesStructsWords 1 0 count) (ManyStructs 1 0 count)
                 objects.old objects.new result }

@@ -82,8 +82,7 @@ pub mod search_result_list {
         /// pointers point to is copied, as orphans; null stays null. What another version of
         /// the type left out is zero or null, and what it had in addition is left out.
         ///
-        /// A copy that a setter then replaces stays in the bytes of the message, without a
-        /// pointer to it. Canonical words of the message are without it.
+        /// A copy that a setter replaces stays in the bytes, but not in canonical words.
         ///
         /// Fails as `Orphanage::set` does, for the first pointer that can't be copied.
         pub fn from_reader<R: ReaderSegments, S: GrowingSegment>(
@@ -138,8 +137,9 @@ pub mod search_result_list {
             elements: &[Builder],
             objects: &mut Orphanage<S>,
         ) -> Result<Orphan<OwnedList>>
-            ensures adds { let drafts = map (λ element. element.draft) elements.now in AddsOrphan
-                (HoldsStructs (body_of objects.old) drafts) objects.old objects.new word_of result }
+            ensures adds { let drafts = map (λ element. element.draft) elements.now in
+                AddsOrphan (HoldsStructs (body_of objects.old) drafts)
+                objects.old objects.new word_of result }
             ensures writes { let count = length elements.now in
                 Writes (TakesStructsWords 0 1 count) (ManyStructs 0 1 count)
                 objects.old objects.new result }
@@ -280,8 +280,7 @@ pub mod search_result {
         /// pointers point to is copied, as orphans; null stays null. What another version of
         /// the type left out is zero or null, and what it had in addition is left out.
         ///
-        /// A copy that a setter then replaces stays in the bytes of the message, without a
-        /// pointer to it. Canonical words of the message are without it.
+        /// A copy that a setter replaces stays in the bytes, but not in canonical words.
         ///
         /// Fails as `Orphanage::set` does, for the first pointer that can't be copied.
         pub fn from_reader<R: ReaderSegments, S: GrowingSegment>(
@@ -336,8 +335,9 @@ pub mod search_result {
             elements: &[Builder],
             objects: &mut Orphanage<S>,
         ) -> Result<Orphan<OwnedList>>
-            ensures adds { let drafts = map (λ element. element.draft) elements.now in AddsOrphan
-                (HoldsStructs (body_of objects.old) drafts) objects.old objects.new word_of result }
+            ensures adds { let drafts = map (λ element. element.draft) elements.now in
+                AddsOrphan (HoldsStructs (body_of objects.old) drafts)
+                objects.old objects.new word_of result }
             ensures writes { let count = length elements.now in
                 Writes (TakesStructsWords 1 2 count) (ManyStructs 1 2 count)
                 objects.old objects.new result }

@@ -27,8 +27,7 @@ impl Builder {
     /// pointers point to is copied, as orphans; null stays null. What another version of
     /// the type left out is zero or null, and what it had in addition is left out.
     ///
-    /// A copy that a setter then replaces stays in the bytes of the message, without a
-    /// pointer to it. Canonical words of the message are without it.
+    /// A copy that a setter replaces stays in the bytes, but not in canonical words.
     ///
     /// Fails as `Orphanage::set` does, for the first pointer that can't be copied.
     pub fn from_reader<R: $ReaderSegments, S: $GrowingSegment>(
@@ -83,8 +82,9 @@ impl Builder {
         elements: &[Builder],
         objects: &mut $Orphanage<S>,
     ) -> $Result<$Orphan<OwnedList>>
-        ensures adds { let drafts = $map (λ element. element.draft) elements.now in $AddsOrphan
-            ($HoldsStructs ($body_of objects.old) drafts) objects.old objects.new $word_of result }
+        ensures adds { let drafts = $map (λ element. element.draft) elements.now in
+            $AddsOrphan ($HoldsStructs ($body_of objects.old) drafts)
+            objects.old objects.new $word_of result }
         ensures writes { let count = $length elements.now in
             $Writes ($TakesStructsWords @words@ @pointers@ count) ($ManyStructs @words@ @pointers@ count)
             objects.old objects.new result }
@@ -127,8 +127,8 @@ pub const VOID_SETTER: &str = "pub fn set_@name@(&mut self)
 
 /// The setter of a group that is a member of a union.
 pub const GROUP_INIT: &str =
-    "/// Selects the group `@group@`, and clears it: each field has its default, and each pointer
-/// is null.
+    "/// Selects the group `@group@`, and clears it: each field has its default,
+/// and each pointer is null.
 pub fn init_@name@(&mut self)
     ensures words { @words@ }
     ensures pointers { self.new.draft.pointers

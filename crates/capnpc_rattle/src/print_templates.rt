@@ -30,9 +30,8 @@ StructType { discriminant: @discriminant@, fields: &[
 ] },";
 
 /// A field in the table.
-pub const FIELD: &str =
-    "Field { name: \"@name@\", member: @member@, offset: @offset@, default: DefaultValue::@default@,
-    of: Type { lists: @lists@, base: Base::@base@ } },";
+pub const FIELD: &str = "Field { name: \"@name@\", member: @member@, offset: @offset@,
+    default: DefaultValue::@default@, of: Type { lists: @lists@, base: Base::@base@ } },";
 
 /// An enum in the table.
 pub const ENUM: &str = "&[@names@],";

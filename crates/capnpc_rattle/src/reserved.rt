@@ -14,10 +14,9 @@ const MODULES: &[&str] = &[
 /// Words that are no names of enums: names in the module of a struct, names that the code uses
 /// without a path, and words of clauses.
 const ENUMS: &[&str] = &[
-    "Builder Clone Copy Debug Draft Drop Eq Err FromPointerReader GrowingSegment Hash IndexMove",
-    "IntoIterator ListIter ListReader None Ok Option OrDefault Orphan Orphanage Owned OwnedList PartialEq",
-    "PrimitiveElement R Reader ReaderSegments Result S Self Some StructDraft StructReader T Unit Which",
-    "Words",
+    "Builder Clone Copy Debug Draft Drop Eq Err FromPointerReader GrowingSegment Hash ListReader",
+    "None Ok Option OrDefault Orphan Orphanage Owned OwnedList PartialEq PrimitiveElement R Reader",
+    "ReaderSegments Result S Self Some StructDraft StructReader T Unit Which Words",
 ];
 
 /// Words that are no names of variants.

@@ -132,8 +132,7 @@ pub mod person {
         /// pointers point to is copied, as orphans; null stays null. What another version of
         /// the type left out is zero or null, and what it had in addition is left out.
         ///
-        /// A copy that a setter then replaces stays in the bytes of the message, without a
-        /// pointer to it. Canonical words of the message are without it.
+        /// A copy that a setter replaces stays in the bytes, but not in canonical words.
         ///
         /// Fails as `Orphanage::set` does, for the first pointer that can't be copied.
         pub fn from_reader<R: ReaderSegments, S: GrowingSegment>(
@@ -188,8 +187,9 @@ pub mod person {
             elements: &[Builder],
             objects: &mut Orphanage<S>,
         ) -> Result<Orphan<OwnedList>>
-            ensures adds { let drafts = map (λ element. element.draft) elements.now in AddsOrphan
-                (HoldsStructs (body_of objects.old) drafts) objects.old objects.new word_of result }
+            ensures adds { let drafts = map (λ element. element.draft) elements.now in
+                AddsOrphan (HoldsStructs (body_of objects.old) drafts)
+                objects.old objects.new word_of result }
             ensures writes { let count = length elements.now in
                 Writes (TakesStructsWords 1 4 count) (ManyStructs 1 4 count)
                 objects.old objects.new result }
@@ -533,8 +533,7 @@ pub mod person {
             /// pointers point to is copied, as orphans; null stays null. What another version of
             /// the type left out is zero or null, and what it had in addition is left out.
             ///
-            /// A copy that a setter then replaces stays in the bytes of the message, without a
-            /// pointer to it. Canonical words of the message are without it.
+            /// A copy that a setter replaces stays in the bytes, but not in canonical words.
             ///
             /// Fails as `Orphanage::set` does, for the first pointer that can't be copied.
             pub fn from_reader<R: ReaderSegments, S: GrowingSegment>(
@@ -589,8 +588,9 @@ pub mod person {
                 elements: &[Builder],
                 objects: &mut Orphanage<S>,
             ) -> Result<Orphan<OwnedList>>
-                ensures adds { let drafts = map (λ element. element.draft) elements.now in AddsOrphan
-                    (HoldsStructs (body_of objects.old) drafts) objects.old objects.new word_of result }
+                ensures adds { let drafts = map (λ element. element.draft) elements.now in
+                    AddsOrphan (HoldsStructs (body_of objects.old) drafts)
+                    objects.old objects.new word_of result }
                 ensures writes { let count = length elements.now in
                     Writes (TakesStructsWords 1 1 count) (ManyStructs 1 1 count)
                     objects.old objects.new result }
@@ -791,8 +791,7 @@ pub mod address_book {
         /// pointers point to is copied, as orphans; null stays null. What another version of
         /// the type left out is zero or null, and what it had in addition is left out.
         ///
-        /// A copy that a setter then replaces stays in the bytes of the message, without a
-        /// pointer to it. Canonical words of the message are without it.
+        /// A copy that a setter replaces stays in the bytes, but not in canonical words.
         ///
         /// Fails as `Orphanage::set` does, for the first pointer that can't be copied.
         pub fn from_reader<R: ReaderSegments, S: GrowingSegment>(
@@ -847,8 +846,9 @@ pub mod address_book {
             elements: &[Builder],
             objects: &mut Orphanage<S>,
         ) -> Result<Orphan<OwnedList>>
-            ensures adds { let drafts = map (λ element. element.draft) elements.now in AddsOrphan
-                (HoldsStructs (body_of objects.old) drafts) objects.old objects.new word_of result }
+            ensures adds { let drafts = map (λ element. element.draft) elements.now in
+                AddsOrphan (HoldsStructs (body_of objects.old) drafts)
+                objects.old objects.new word_of result }
             ensures writes { let count = length elements.now in
                 Writes (TakesStructsWords 0 1 count) (ManyStructs 0 1 count)
                 objects.old objects.new result }

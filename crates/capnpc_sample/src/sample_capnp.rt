@@ -116,8 +116,7 @@ pub mod point {
         /// pointers point to is copied, as orphans; null stays null. What another version of
         /// the type left out is zero or null, and what it had in addition is left out.
         ///
-        /// A copy that a setter then replaces stays in the bytes of the message, without a
-        /// pointer to it. Canonical words of the message are without it.
+        /// A copy that a setter replaces stays in the bytes, but not in canonical words.
         ///
         /// Fails as `Orphanage::set` does, for the first pointer that can't be copied.
         pub fn from_reader<R: ReaderSegments, S: GrowingSegment>(
@@ -172,8 +171,9 @@ pub mod point {
             elements: &[Builder],
             objects: &mut Orphanage<S>,
         ) -> Result<Orphan<OwnedList>>
-            ensures adds { let drafts = map (λ element. element.draft) elements.now in AddsOrphan
-                (HoldsStructs (body_of objects.old) drafts) objects.old objects.new word_of result }
+            ensures adds { let drafts = map (λ element. element.draft) elements.now in
+                AddsOrphan (HoldsStructs (body_of objects.old) drafts)
+                objects.old objects.new word_of result }
             ensures writes { let count = length elements.now in
                 Writes (TakesStructsWords 1 0 count) (ManyStructs 1 0 count)
                 objects.old objects.new result }
@@ -332,8 +332,7 @@ pub mod tree {
         /// pointers point to is copied, as orphans; null stays null. What another version of
         /// the type left out is zero or null, and what it had in addition is left out.
         ///
-        /// A copy that a setter then replaces stays in the bytes of the message, without a
-        /// pointer to it. Canonical words of the message are without it.
+        /// A copy that a setter replaces stays in the bytes, but not in canonical words.
         ///
         /// Fails as `Orphanage::set` does, for the first pointer that can't be copied.
         pub fn from_reader<R: ReaderSegments, S: GrowingSegment>(
@@ -388,8 +387,9 @@ pub mod tree {
             elements: &[Builder],
             objects: &mut Orphanage<S>,
         ) -> Result<Orphan<OwnedList>>
-            ensures adds { let drafts = map (λ element. element.draft) elements.now in AddsOrphan
-                (HoldsStructs (body_of objects.old) drafts) objects.old objects.new word_of result }
+            ensures adds { let drafts = map (λ element. element.draft) elements.now in
+                AddsOrphan (HoldsStructs (body_of objects.old) drafts)
+                objects.old objects.new word_of result }
             ensures writes { let count = length elements.now in
                 Writes (TakesStructsWords 1 2 count) (ManyStructs 1 2 count)
                 objects.old objects.new result }
@@ -866,8 +866,7 @@ pub mod sample {
         /// pointers point to is copied, as orphans; null stays null. What another version of
         /// the type left out is zero or null, and what it had in addition is left out.
         ///
-        /// A copy that a setter then replaces stays in the bytes of the message, without a
-        /// pointer to it. Canonical words of the message are without it.
+        /// A copy that a setter replaces stays in the bytes, but not in canonical words.
         ///
         /// Fails as `Orphanage::set` does, for the first pointer that can't be copied.
         pub fn from_reader<R: ReaderSegments, S: GrowingSegment>(
@@ -922,8 +921,9 @@ pub mod sample {
             elements: &[Builder],
             objects: &mut Orphanage<S>,
         ) -> Result<Orphan<OwnedList>>
-            ensures adds { let drafts = map (λ element. element.draft) elements.now in AddsOrphan
-                (HoldsStructs (body_of objects.old) drafts) objects.old objects.new word_of result }
+            ensures adds { let drafts = map (λ element. element.draft) elements.now in
+                AddsOrphan (HoldsStructs (body_of objects.old) drafts)
+                objects.old objects.new word_of result }
             ensures writes { let count = length elements.now in
                 Writes (TakesStructsWords 4 9 count) (ManyStructs 4 9 count)
                 objects.old objects.new result }
@@ -1483,8 +1483,7 @@ pub mod shape {
         /// pointers point to is copied, as orphans; null stays null. What another version of
         /// the type left out is zero or null, and what it had in addition is left out.
         ///
-        /// A copy that a setter then replaces stays in the bytes of the message, without a
-        /// pointer to it. Canonical words of the message are without it.
+        /// A copy that a setter replaces stays in the bytes, but not in canonical words.
         ///
         /// Fails as `Orphanage::set` does, for the first pointer that can't be copied.
         pub fn from_reader<R: ReaderSegments, S: GrowingSegment>(
@@ -1539,8 +1538,9 @@ pub mod shape {
             elements: &[Builder],
             objects: &mut Orphanage<S>,
         ) -> Result<Orphan<OwnedList>>
-            ensures adds { let drafts = map (λ element. element.draft) elements.now in AddsOrphan
-                (HoldsStructs (body_of objects.old) drafts) objects.old objects.new word_of result }
+            ensures adds { let drafts = map (λ element. element.draft) elements.now in
+                AddsOrphan (HoldsStructs (body_of objects.old) drafts)
+                objects.old objects.new word_of result }
             ensures writes { let count = length elements.now in
                 Writes (TakesStructsWords 2 1 count) (ManyStructs 2 1 count)
                 objects.old objects.new result }
@@ -1635,8 +1635,8 @@ pub mod shape {
         }
 
         impl super::Builder {
-            /// Selects the group `rectangle`, and clears it: each field has its default, and each pointer
-            /// is null.
+            /// Selects the group `rectangle`, and clears it: each field has its default,
+            /// and each pointer is null.
             pub fn init_rectangle(&mut self)
                 ensures words { self.new.draft.words
                     ≡ (with_field (with_field (with_field (with_field self.old.draft.words 16 4 1)
@@ -1852,8 +1852,7 @@ pub mod palette {
         /// pointers point to is copied, as orphans; null stays null. What another version of
         /// the type left out is zero or null, and what it had in addition is left out.
         ///
-        /// A copy that a setter then replaces stays in the bytes of the message, without a
-        /// pointer to it. Canonical words of the message are without it.
+        /// A copy that a setter replaces stays in the bytes, but not in canonical words.
         ///
         /// Fails as `Orphanage::set` does, for the first pointer that can't be copied.
         pub fn from_reader<R: ReaderSegments, S: GrowingSegment>(
@@ -1908,8 +1907,9 @@ pub mod palette {
             elements: &[Builder],
             objects: &mut Orphanage<S>,
         ) -> Result<Orphan<OwnedList>>
-            ensures adds { let drafts = map (λ element. element.draft) elements.now in AddsOrphan
-                (HoldsStructs (body_of objects.old) drafts) objects.old objects.new word_of result }
+            ensures adds { let drafts = map (λ element. element.draft) elements.now in
+                AddsOrphan (HoldsStructs (body_of objects.old) drafts)
+                objects.old objects.new word_of result }
             ensures writes { let count = length elements.now in
                 Writes (TakesStructsWords 0 2 count) (ManyStructs 0 2 count)
                 objects.old objects.new result }
