@@ -15,8 +15,8 @@ try_builders() {
     for name in main book branches changed loops orders patients; do
         cp "$users/$name" "$crate/src/$name.rt"
     done
-    sed -E 's/<S: ReaderSegments>//; s/_, S>/_, OwnedSegments>/; s/ in (.*)\.iter\(\) \{/ in \&\1 {/
-        s/^use capnp::message::ReaderSegments;/use capnp::serialize::OwnedSegments;/' "$users/orders" > "$crate/src/owned_orders.rt"
+    sed -E 's/<S: ReaderSegments>//; s/_, S>/_, OwnedSegments>/; /^pub fn outwards/,$s/ in (.*)\.iter\(\) \{/ in \1 {/
+        s/ in (.*)\.iter\(\) \{/ in \&\1 {/; s/^use capnp::message::ReaderSegments;/use capnp::serialize::OwnedSegments;/' "$users/orders" > "$crate/src/owned_orders.rt"
     cd "$crate"
     rt try > "$work/printed" 2> "$work/said" || fail 'the program of made builders fails'
     expect_printed "$work/printed" "$users/printed" 'the program of made builders'
