@@ -6,7 +6,7 @@ use capnp::message::{
 use capnp::serialize::{self, OwnedSegments, Padding};
 use capnp::serialize_packed::{self, PackedRead, PackedWrite};
 use capnp::streams::{self, Format, MessageStream};
-use capnp::{Way, primitive_list, record_log, text, transcode};
+use capnp::{Error, Way, primitive_list, record_log, text, transcode};
 use std::test::Fail;
 
 // A message of three words whose root is the text "Hello, World!", framed.
@@ -118,13 +118,17 @@ fn finds_where_a_log_is_cut(rt: HostRuntime) -> Result<(), Fail> {
     let options = DEFAULT_READER_OPTIONS;
     let mut messages = MessageStream::new(alloc, log, Format::Packed, Padding::Zero, options);
     for message in messages.by_ref() {
-        match message {
-            Ok(message) => assert!(rt; is_greeting(&message)?),
-            Err(error) => assert!(rt; streams::is_cut(&error)),
-        }
+        assert!(rt; is_greeting_or_cut(message)?);
     }
     assert_eq!(rt; messages.end(), 21);
     Ok(())
+}
+
+fn is_greeting_or_cut(message: Result<Reader<OwnedSegments>, Error>) -> Result<bool, Fail> {
+    match message {
+        Ok(message) => is_greeting(&message),
+        Err(error) => Ok(streams::is_cut(&error)),
+    }
 }
 
 fn is_greeting(message: &Reader<OwnedSegments>) -> Result<bool, Fail> {

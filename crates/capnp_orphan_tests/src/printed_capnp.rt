@@ -268,7 +268,6 @@ pub mod printed {
     /// Which pointer of the struct points to `inner`, for `fields.get_pointer`.
     pub const INNER_POINTER: u16 = 5;
 
-    #[rattlefmt::skip]
     pub static LABEL_DEFAULT: Words<16> = Words { bytes: [
         1, 0, 0, 0, 42, 0, 0, 0,
         110, 111, 110, 101, 0, 0, 0, 0,
@@ -402,7 +401,6 @@ pub mod the_schema {
     use capnp::message::ReaderSegments;
     use std::alloc::{AllocError, Global};
 
-    #[rattlefmt::skip]
     static SCHEMA: Schema = Schema {
         structs: &[
             // `Printed`

@@ -12,7 +12,6 @@ pub const TABLE: &str =
 use $capnp_frame::message::ReaderSegments;
 use std::alloc::{AllocError, Global};
 
-#[rattlefmt::skip]
 static SCHEMA: Schema = Schema {
     structs: &[
         @structs@

@@ -159,8 +159,7 @@ if pointer.is_null() {
 }";
 
 /// A constant or a default, as the words of a message.
-pub const WORDS: &str = "#[rattlefmt::skip]
-pub static @name@: $Words<@size@> = $Words { bytes: [
+pub const WORDS: &str = "pub static @name@: $Words<@size@> = $Words { bytes: [
     @lines@
 ] };
 ";

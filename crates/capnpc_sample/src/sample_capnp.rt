@@ -16,7 +16,6 @@ use capnp::Result;
 pub const LIMIT: u32 = 1000;
 
 #[rattlefmt::skip]
-#[rattlefmt::skip]
 pub static CORNER: Words<16> = Words { bytes: [
     0, 0, 0, 0, 1, 0, 0, 0,
     128, 2, 0, 0, 224, 1, 0, 0,
@@ -1265,7 +1264,6 @@ pub mod sample {
     /// Which pointer of the struct points to `anything`, for `fields.get_pointer`.
     pub const ANYTHING_POINTER: u16 = 8;
 
-    #[rattlefmt::skip]
     pub static NOTE_DEFAULT: Words<16> = Words { bytes: [
         1, 0, 0, 0, 42, 0, 0, 0,
         110, 111, 110, 101, 0, 0, 0, 0,
@@ -1285,7 +1283,6 @@ pub mod sample {
         capnp::constant::view_of(&NOTE_DEFAULT)
     }
 
-    #[rattlefmt::skip]
     pub static TARGET_DEFAULT: Words<16> = Words { bytes: [
         0, 0, 0, 0, 1, 0, 0, 0,
         3, 0, 0, 0, 4, 0, 0, 0,
@@ -1970,7 +1967,6 @@ pub mod palette {
     /// Which pointer of the struct points to `names`, for `fields.get_pointer`.
     pub const NAMES_POINTER: u16 = 1;
 
-    #[rattlefmt::skip]
     pub static NAMES_DEFAULT: Words<24> = Words { bytes: [
         1, 0, 0, 0, 14, 0, 0, 0,
         1, 0, 0, 0, 42, 0, 0, 0,

@@ -74,10 +74,7 @@ impl<R: BufRead> MessageStream<R> {
     ///
     /// ```
     /// for message in messages.by_ref() {
-    ///     match message {
-    ///         Ok(message) => assert!(rt; is_greeting(&message)?),
-    ///         Err(error) => assert!(rt; streams::is_cut(&error)),
-    ///     }
+    ///     assert!(rt; is_greeting_or_cut(message)?);
     /// }
     /// assert_eq!(rt; messages.end(), 21);
     /// ```
