@@ -6,7 +6,7 @@ pub use Rattle.capnp_orphans.specs.Segments.{body_of}
 pub use Rattle.capnp_values.specs.DataSections.{with_field}
 pub use Rattle.capnp_wire.specs.Constants.{segments_of, root_of, IsDefaultData}
 pub use Rattle.capnp_wire.specs.Fields.{field}
-pub use Rattle.capnp_wire.specs.Getters.{IsViewBy, IsTextView, IsDataView, IsStructView, IsStructsView}
+pub use Rattle.capnp_wire.specs.Getters.{IsViewBy, IsTextView, IsDataView, IsStructView, IsStructsView, IsDefaultView, IsNumbersView, IsEnumsView, IsPointersView}
 pub use Rattle.capnp_wire.specs.Layout.{layout}
 pub use Rattle.capnp_wire.specs.ListViews.{element_of}
 pub use Rattle.capnp_wire.specs.Object.{nothing}

@@ -5,7 +5,7 @@
 ghost use Rattle.std.specs.Prelude.{◌≡◌, ◌≤◌, ◌↔◌, ◌∷◌, [], IsTrue, bit_xor, from_bits};
 ghost use Rattle.std.specs.Float.{binary64};
 ghost use Rattle.std.specs.Int.{w16, w32, cast_signed};
-ghost use Rattle.capnp.specs.Made.{root_of, field, IsViewBy, IsTextView, IsDataView, IsStructView, IsStructsView, layout, nothing, words_of, struct_of, pointer_of, NoTrees, TreeOf, NumbersForm, upgraded_numbers_of, ReadsAsNumbers, TakesFields, FieldsFormError, Denotes, Reads, pointer_in};
+ghost use Rattle.capnp.specs.Made.{root_of, field, IsTextView, IsDataView, IsStructView, IsStructsView, IsEnumsView, layout, nothing, words_of, struct_of, pointer_of, NoTrees, TreeOf, NumbersForm, Denotes, pointer_in};
 
 #[rattlefmt::skip]
 pub mod printed {
@@ -111,10 +111,7 @@ pub mod printed {
         /// The field `colors`.
         pub fn get_colors(&self) -> Result<upgraded::EnumList<'a, Color>>
             ensures { let fields = struct_of S.segments self.now.fields in
-                let pointer = (pointer_in fields 3) in
-                IsViewBy pointer (TakesFields 3) (FieldsFormError 3)
-                (λ view. Reads pointer (λ form.
-                ReadsAsNumbers 3 form (upgraded_numbers_of 3 view.numbers))) result }
+                IsEnumsView (pointer_in fields 3) result }
         {
             self.fields.get_pointer_as(3)
         }

@@ -40,14 +40,12 @@ pub const DEFINITIONS: &[(&str, &str)] = &[
     ),
     ("capnp_orphans.specs.Segments", "body_of"),
     ("capnp_values.specs.DataSections", "with_field"),
-    (
-        "capnp_wire.specs.Constants",
-        "segments_of, root_of, IsDefaultData",
-    ),
+    ("capnp_wire.specs.Constants", "segments_of, root_of"),
     ("capnp_wire.specs.Fields", "field"),
     (
         "capnp_wire.specs.Getters",
-        "IsViewBy, IsTextView, IsDataView, IsStructView, IsStructsView",
+        "IsTextView, IsDataView, IsStructView, IsStructsView, IsDefaultView, IsNumbersView, \
+        IsEnumsView, IsPointersView",
     ),
     ("capnp_wire.specs.Layout", "layout"),
     ("capnp_wire.specs.Object", "nothing"),
@@ -58,17 +56,5 @@ pub const DEFINITIONS: &[(&str, &str)] = &[
         "none as NoTrees, tree as TreeOf, null as NullForm, struct as StructForm, \
         numbers as NumbersForm, pointers as PointersForm, structs as StructsForm",
     ),
-    (
-        "capnp_wire.specs.UpgradedReaders",
-        "upgraded_numbers_of, upgraded_pointers_of",
-    ),
-    (
-        "capnp_wire.specs.UpgradedViews",
-        "IsUpgradedPointers, ReadsAsNumbers, TakesFields, TakesFirstPointers, FieldsFormError, \
-        FirstPointersFormError",
-    ),
-    (
-        "capnp_wire.specs.Views",
-        "Denotes, Reads, TakesStruct, StructFormError, pointer_in",
-    ),
+    ("capnp_wire.specs.Views", "Denotes, pointer_in"),
 ];

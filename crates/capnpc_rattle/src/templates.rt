@@ -93,16 +93,13 @@ pub const STRUCT_FACT: &str = "$IsStructView @pointer@
 pub const STRUCTS_FACT: &str = "$IsStructsView @segments_of@ @pointer@ @result@";
 
 /// What a clause says of a view of a list of pointers.
-pub const POINTERS_FACT: &str = "let pointer = @pointer@ in
-$IsViewBy pointer $TakesFirstPointers $FirstPointersFormError
-(λ view. $IsUpgradedPointers pointer
-($upgraded_pointers_of @segments_of@ view.pointers)) @result@";
+pub const POINTERS_FACT: &str = "$IsPointersView @segments_of@ @pointer@ @result@";
 
 /// What a clause says of a view of a list of numbers.
-pub const NUMBERS_FACT: &str = "let pointer = @pointer@ in
-$IsViewBy pointer ($TakesFields @code@) ($FieldsFormError @code@)
-(λ view. $Reads pointer (λ form.
-$ReadsAsNumbers @code@ form ($upgraded_numbers_of @code@ @value@))) @result@";
+pub const NUMBERS_FACT: &str = "$IsNumbersView @code@ @pointer@ @result@";
+
+/// What a clause says of a view of a list of enums.
+pub const ENUMS_FACT: &str = "$IsEnumsView @pointer@ @result@";
 
 /// What a clause says of a pointer that has a default.
 pub const DEFAULT_FACT: &str = "let pointer = $pointer_in fields @offset@ in
@@ -113,10 +110,8 @@ pub const DEFAULT_FACT: &str = "let pointer = $pointer_in fields @offset@ in
 /// What a clause says of a struct whose default sets no pointers.
 pub const DEFAULT_DATA_FACT: &str = "let pointer = $pointer_in fields @offset@ in
 (($Denotes pointer $nothing → ⊥) → @stored@)
-× ($Denotes pointer $nothing → (let constant = $root_of @default@ in
-$IsViewBy constant $TakesStruct $StructFormError
-(λ view. $IsDefaultData constant pointer
-($struct_of S.segments view.fields)) @value@))";
+× ($Denotes pointer $nothing → $IsDefaultView ($root_of @default@) pointer
+(λ view. $struct_of S.segments view.fields) @value@)";
 
 /// What it says of a view that is bound to the segments that it reads.
 pub const OR_DEFAULT_FACT: &str = "let pointer = $pointer_in fields @offset@ in

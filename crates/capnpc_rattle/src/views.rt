@@ -4,7 +4,7 @@ use crate::numbers::number_of;
 use crate::paths::path_to;
 use crate::schema::{Base, Request, Type};
 use crate::templates::{
-    DATA_FACT, NUMBERS_FACT, POINTERS_FACT, STRUCT_FACT, STRUCTS_FACT, TEXT_FACT,
+    DATA_FACT, ENUMS_FACT, NUMBERS_FACT, POINTERS_FACT, STRUCT_FACT, STRUCTS_FACT, TEXT_FACT,
 };
 use std::alloc::{AllocError, Global};
 
@@ -111,7 +111,7 @@ fn templates_of(of: Type) -> Option<(&'static str, &'static str)> {
             "$any_pointer::Reader<@lifetime@, @segments@>",
             POINTERS_FACT,
         ),
-        Base::Enum(_) => ("$upgraded::EnumList<@lifetime@, @path@>", NUMBERS_FACT),
+        Base::Enum(_) => ("$upgraded::EnumList<@lifetime@, @path@>", ENUMS_FACT),
         _ => ("$upgraded::NumberList<@lifetime@, @number@>", NUMBERS_FACT),
     };
     let has_lists = of.pointer_lists() > 0;
@@ -136,8 +136,7 @@ pub fn in_lists(
     type_name.whole()
 }
 
-// What the templates have of the innermost elements: a message holds an enum's values as numbers of
-// 16 bits.
+// What the templates have of the innermost elements.
 fn element_holes(request: &Request, site: u64, base: Base) -> Holes {
     let (number, code) = match number_of(base) {
         Some(number) => (number.type_name, number.code),
@@ -147,10 +146,7 @@ fn element_holes(request: &Request, site: u64, base: Base) -> Holes {
         .with("number", number)
         .number("code", code);
     match base {
-        Base::Enum(id) => holes
-            .holding("path", path_to(request, site, id))
-            .with("value", "view.numbers"),
-        Base::Struct(id) => holes.holding("path", path_to(request, site, id)),
-        _ => holes.with("value", "view"),
+        Base::Enum(id) | Base::Struct(id) => holes.holding("path", path_to(request, site, id)),
+        _ => holes,
     }
 }

@@ -5,7 +5,7 @@
 ghost use Rattle.std.specs.Prelude.{◌≡◌, ◌≤◌, ◌==◌, ◌↔◌, ◌≢◌, ◌∷◌, [], if◌then◌else◌, IfOk, IsTrue, bit_xor, from_bits, to_bits, length, map, replicate, slice_index_or, slice_set};
 ghost use Rattle.std.specs.Float.{binary64};
 ghost use Rattle.std.specs.Int.{w32, w64, cast_signed, cast_unsigned};
-ghost use Rattle.capnp.specs.Made.{AddsOrphan, AddsRoot, FailsToAdd, Writes, data_up_to, CopiesPointers, word_of, HoldsStruct, HoldsStructs, StructWords, TakesStructsWords, StructSizeError, ManyStructs, body_of, with_field, segments_of, root_of, IsDefaultData, field, IsViewBy, IsTextView, IsDataView, IsStructView, IsStructsView, layout, nothing, words_of, struct_of, pointer_of, NoTrees, TreeOf, StructForm, NumbersForm, PointersForm, upgraded_numbers_of, upgraded_pointers_of, IsUpgradedPointers, ReadsAsNumbers, TakesFields, TakesFirstPointers, FieldsFormError, FirstPointersFormError, Denotes, Reads, TakesStruct, StructFormError, pointer_in};
+ghost use Rattle.capnp.specs.Made.{AddsOrphan, AddsRoot, FailsToAdd, Writes, data_up_to, CopiesPointers, word_of, HoldsStruct, HoldsStructs, StructWords, TakesStructsWords, StructSizeError, ManyStructs, body_of, with_field, segments_of, root_of, field, IsTextView, IsDataView, IsStructView, IsStructsView, IsDefaultView, IsNumbersView, IsEnumsView, IsPointersView, layout, nothing, words_of, struct_of, pointer_of, NoTrees, TreeOf, StructForm, NumbersForm, PointersForm, Denotes, pointer_in};
 
 #[rattlefmt::skip]
 use capnp::constant::Words;
@@ -631,10 +631,7 @@ pub mod sample {
         /// The field `numbers`.
         pub fn get_numbers(&self) -> Result<upgraded::NumberList<'a, u32>>
             ensures { let fields = struct_of S.segments self.now.fields in
-                let pointer = (pointer_in fields 3) in
-                IsViewBy pointer (TakesFields 4) (FieldsFormError 4)
-                (λ view. Reads pointer (λ form.
-                ReadsAsNumbers 4 form (upgraded_numbers_of 4 view))) result }
+                IsNumbersView 4 (pointer_in fields 3) result }
         {
             self.fields.get_pointer_as(3)
         }
@@ -756,10 +753,8 @@ pub mod sample {
                 let pointer = pointer_in fields 7 in
                 ((Denotes pointer nothing → ⊥) → IsStructView pointer
                 (λ view. struct_of S.segments view.fields) result)
-                × (Denotes pointer nothing → (let constant = root_of TARGET_DEFAULT in
-                IsViewBy constant TakesStruct StructFormError
-                (λ view. IsDefaultData constant pointer
-                (struct_of S.segments view.fields)) result)) }
+                × (Denotes pointer nothing → IsDefaultView (root_of TARGET_DEFAULT) pointer
+                (λ view. struct_of S.segments view.fields) result) }
         {
             let pointer = self.fields.get_pointer(7);
             if pointer.is_null() {
@@ -1761,10 +1756,7 @@ pub mod palette {
         /// The field `colors`.
         pub fn get_colors(&self) -> Result<upgraded::EnumList<'a, super::Color>>
             ensures { let fields = struct_of S.segments self.now.fields in
-                let pointer = (pointer_in fields 0) in
-                IsViewBy pointer (TakesFields 3) (FieldsFormError 3)
-                (λ view. Reads pointer (λ form.
-                ReadsAsNumbers 3 form (upgraded_numbers_of 3 view.numbers))) result }
+                IsEnumsView (pointer_in fields 0) result }
         {
             self.fields.get_pointer_as(0)
         }
@@ -1783,16 +1775,10 @@ pub mod palette {
                 let pointer = pointer_in fields 1 in
                 elim result [
                   | OrDefault.Stored view ↦ (Denotes pointer nothing → ⊥) ×
-                      (let pointer = pointer in
-                      IsViewBy pointer TakesFirstPointers FirstPointersFormError
-                      (λ view. IsUpgradedPointers pointer
-                      (upgraded_pointers_of S.segments view.pointers)) view)
+                      (IsPointersView S.segments pointer view)
                   | OrDefault.Default view ↦ Denotes pointer nothing ×
                       (let pointer = root_of NAMES_DEFAULT in
-                      let pointer = pointer in
-                      IsViewBy pointer TakesFirstPointers FirstPointersFormError
-                      (λ view. IsUpgradedPointers pointer
-                      (upgraded_pointers_of segments_of view.pointers)) view)
+                      IsPointersView segments_of pointer view)
                 ] }
         {
             let pointer = self.fields.get_pointer(1);
@@ -1983,10 +1969,7 @@ pub mod palette {
     /// The default of the field `names`.
     pub fn get_names_default() -> Result<upgraded::ListList<'static, Words<24>, text::Reader<'static>>>
         ensures { let pointer = root_of NAMES_DEFAULT in
-            let pointer = pointer in
-            IsViewBy pointer TakesFirstPointers FirstPointersFormError
-            (λ view. IsUpgradedPointers pointer
-            (upgraded_pointers_of segments_of view.pointers)) result }
+            IsPointersView segments_of pointer result }
     {
         capnp::constant::view_of(&NAMES_DEFAULT)
     }
