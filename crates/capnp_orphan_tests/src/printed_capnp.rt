@@ -445,6 +445,11 @@ pub mod the_schema {
         ],
     };
 
+    // The table, by a call: what names it takes the longer to prove, the larger it is.
+    fn schema() -> &'static Schema {
+        &SCHEMA
+    }
+
     impl<'a, S: ReaderSegments> super::printed::Reader<'a, S> {
         /// The struct as text, as `capnp decode --short` prints it. `depth` says how many structs
         /// and lists may be within one another; deeper ones are shown as `(..)` and `[..]`. What
@@ -452,7 +457,7 @@ pub mod the_schema {
         ///
         /// Fails only when out of memory.
         pub fn to_text(&self, alloc: Global, depth: u32) -> Result<String, AllocError> {
-            stringify::to_text(alloc, &self.fields, &SCHEMA, 0, depth)
+            stringify::to_text(alloc, &self.fields, schema(), 0, depth)
         }
     }
 
@@ -463,7 +468,7 @@ pub mod the_schema {
         ///
         /// Fails only when out of memory.
         pub fn to_text(&self, alloc: Global, depth: u32) -> Result<String, AllocError> {
-            stringify::to_text(alloc, &self.fields, &SCHEMA, 1, depth)
+            stringify::to_text(alloc, &self.fields, schema(), 1, depth)
         }
     }
 }

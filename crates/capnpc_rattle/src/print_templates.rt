@@ -20,6 +20,11 @@ static SCHEMA: Schema = Schema {
         @enums@
     ],
 };
+
+// The table, by a call: what names it takes the longer to prove, the larger it is.
+fn schema() -> &'static Schema {
+    &SCHEMA
+}
 ";
 
 /// A struct or a group in the table.
@@ -44,7 +49,7 @@ impl<'a, S: ReaderSegments> super::@path@::Reader<'a, S> {
     ///
     /// Fails only when out of memory.
     pub fn to_text(&self, alloc: Global, depth: u32) -> Result<String, AllocError> {
-        stringify::to_text(alloc, &self.fields, &SCHEMA, @number@, depth)
+        stringify::to_text(alloc, &self.fields, schema(), @number@, depth)
     }
 }
 ";
